@@ -81,9 +81,9 @@ pub fn merge_scopes_counted<'s>(
 {
     *tries = 0;
     let mut merger = Merger::new(alloc, info);
-    for i in 0..frames.len() {
+    for frame in frames {
         let mut made = 0;
-        let added = merger.add_counted(&frames[i], &mut made);
+        let added = merger.add_counted(frame, &mut made);
         *tries += made as u128;
         added?;
     }

@@ -9,7 +9,7 @@ use Rattle.std.specs.FinMap as fin
 use Rattle.std.specs.FinMap.Entries.{below_all, is_sorted, same_entries}
 use Rattle.std.proofs.lemmas.List.{map-append}
 use Rattle.puffin_frames.specs.Packet.Stored.{PacketFields}
-use Rattle.puffin_view.specs.View.Ranking.{place_first, in_order, last_of, last_in, has}
+use Rattle.puffin_view.specs.View.Ranking.{place_first, in_order, last_of, last_in, has_number}
 use Rattle.puffin_view.specs.View.ViewedFrames.{Frame, fields_of, index_of, frame_index, is_slower, slowest, rising_end, is_rising, rises_above, frames_by_index}
 use Rattle.puffin_view.specs.View.{View, Took, without_frames, with_packed, with_newest_packed, is_past, after_taking, after_all}
 use Rattle.puffin_view.specs.View.File.{fields_in}
@@ -132,9 +132,9 @@ own_back : (cs : List PacketFields) → map (λ (e : ℕ × PacketFields). e.1) 
 own_back [] = refl
 own_back (c ∷ cs) = ap (λ (ds : List PacketFields). c ∷ ds) (own_back cs)
 
-none_found : (q : ℕ) (cs : List PacketFields) → has q (map frame_index cs) ≡ false → found q cs ≡ None
+none_found : (q : ℕ) (cs : List PacketFields) → has_number q (map frame_index cs) ≡ false → found q cs ≡ None
 none_found q [] h = refl
-none_found q (c ∷ cs) h = let both = neither (nat_eq q (frame_index c)) (has q (map frame_index cs)) h in rw (is_at q (frame_index c), both.0) (none_found q cs both.1)
+none_found q (c ∷ cs) h = let both = neither (nat_eq q (frame_index c)) (has_number q (map frame_index cs)) h in rw (is_at q (frame_index c), both.0) (none_found q cs both.1)
 
 -- a frame of a list is the one that is found under its index
 abbrev IsFound : List PacketFields → PacketFields → Type 0
@@ -160,13 +160,13 @@ all_found (c ∷ cs) h = (here, both cs (all_above (frame_index c) cs h) (all_fo
   both (d ∷ ds) lt is = (later d lt.0 is.0, both ds lt.1 is.1)
 
 -- some of a list's frames give what the list gives, under their own indices
-found_among : (q : ℕ) (cs xs : List PacketFields) → AllByRecursion (IsFound cs) xs → has q (map frame_index xs) ≡ true → found q xs ≡ found q cs
+found_among : (q : ℕ) (cs xs : List PacketFields) → AllByRecursion (IsFound cs) xs → has_number q (map frame_index xs) ≡ true → found q xs ≡ found q cs
 found_among q cs [] all h = cc
 found_among q cs (x ∷ xs) all h = rw (is_at q (frame_index x)) (at (nat_eq q (frame_index x)) refl h (λ k. found_among q cs xs all.1 k)) where
   equal : nat_eq q (frame_index x) ≡ true → frame_index x ≡ q
   equal e = grind arith
 
-  at : (b : Bool) → nat_eq q (frame_index x) ≡ b → (b || has q (map frame_index xs)) ≡ true → (has q (map frame_index xs) ≡ true → found q xs ≡ found q cs) → cond b (Some x) (found q xs) ≡ found q cs
+  at : (b : Bool) → nat_eq q (frame_index x) ≡ b → (b || has_number q (map frame_index xs)) ≡ true → (has_number q (map frame_index xs) ≡ true → found q xs ≡ found q cs) → cond b (Some x) (found q xs) ≡ found q cs
   at true e k later = sym all.0 ∙ ap (λ (i : ℕ). found i cs) (equal e)
   at false e k later = later k
 
@@ -174,29 +174,29 @@ found_among q cs (x ∷ xs) all h = rw (is_at q (frame_index x)) (at (nat_eq q (
 
 module _ (is : List ℕ) where
   abbrev chosen : List PacketFields → List PacketFields
-  chosen cs = filter (λ c. has (frame_index c) is) cs
+  chosen cs = filter (λ c. has_number (frame_index c) is) cs
 
   -- an index that is in the list, and one that isn't
-  differ : (q i : ℕ) → (has q is ≡ has i is → ⊥) → nat_eq q i ≡ false
+  differ : (q i : ℕ) → (has_number q is ≡ has_number i is → ⊥) → nat_eq q i ≡ false
   differ q i unlike = at (nat_eq q i) refl where
     equal : nat_eq q i ≡ true → q ≡ i
     equal e = grind arith
 
     at : (b : Bool) → nat_eq q i ≡ b → b ≡ false
-    at true e = absurd (unlike (ap (λ (j : ℕ). has j is) (equal e)))
+    at true e = absurd (unlike (ap (λ (j : ℕ). has_number j is) (equal e)))
     at false e = refl
 
-  found_chosen : (q : ℕ) (cs : List PacketFields) → has q is ≡ true → found q (chosen cs) ≡ found q cs
+  found_chosen : (q : ℕ) (cs : List PacketFields) → has_number q is ≡ true → found q (chosen cs) ≡ found q cs
   found_chosen q [] h = refl
-  found_chosen q (c ∷ cs) h = at (has (frame_index c) is) refl (found_chosen q cs h) where
-    at : (b : Bool) → has (frame_index c) is ≡ b → found q (chosen cs) ≡ found q cs → found q (cond b (c ∷ chosen cs) (chosen cs)) ≡ found q (c ∷ cs)
+  found_chosen q (c ∷ cs) h = at (has_number (frame_index c) is) refl (found_chosen q cs h) where
+    at : (b : Bool) → has_number (frame_index c) is ≡ b → found q (chosen cs) ≡ found q cs → found q (cond b (c ∷ chosen cs) (chosen cs)) ≡ found q (c ∷ cs)
     at true e later = ap (λ (o : Option PacketFields). cond (eq_by_cmp nat_cmp q (frame_index c)) (Some c) o) later
     at false e later = rw (is_at q (frame_index c), differ q (frame_index c) (λ same. cc)) later
 
-  none_chosen : (q : ℕ) (cs : List PacketFields) → has q is ≡ false → found q (chosen cs) ≡ None
+  none_chosen : (q : ℕ) (cs : List PacketFields) → has_number q is ≡ false → found q (chosen cs) ≡ None
   none_chosen q [] h = refl
-  none_chosen q (c ∷ cs) h = at (has (frame_index c) is) refl (none_chosen q cs h) where
-    at : (b : Bool) → has (frame_index c) is ≡ b → found q (chosen cs) ≡ None → found q (cond b (c ∷ chosen cs) (chosen cs)) ≡ None
+  none_chosen q (c ∷ cs) h = at (has_number (frame_index c) is) refl (none_chosen q cs h) where
+    at : (b : Bool) → has_number (frame_index c) is ≡ b → found q (chosen cs) ≡ None → found q (cond b (c ∷ chosen cs) (chosen cs)) ≡ None
     at true e later = rw (is_at q (frame_index c), differ q (frame_index c) (λ same. cc)) later
     at false e later = later
 
@@ -247,14 +247,14 @@ chosen_frames cs fs rising all = sym (said_values es) ∙ (ap (map (λ (e : ℕ 
     is : List ℕ
     is = map frame_index (map fields_of fs)
 
-    at : (q : ℕ) (b : Bool) → has q is ≡ b → fin.find nat_cmp q (said es) ≡ found q (chosen is cs)
+    at : (q : ℕ) (b : Bool) → has_number q is ≡ b → fin.find nat_cmp q (said es) ≡ found q (chosen is cs)
     at q true h = find_held q fs ∙ (found_among q cs (map fields_of fs) all h ∙ sym (found_chosen is q cs h))
     at q false h = find_held q fs ∙ (none_found q (map fields_of fs) h ∙ sym (none_chosen is q cs h))
 
     alike : said es ≡ map own (chosen is cs)
     alike =
-        same_entries nat_cmp nat_cmp_total fin.nat_cmp-IsAntisymmetric (said es) (map own (chosen is cs)) (subst T (sym (sorted_said es)) (fin.entries_sorted (frames_by_index fs))) (sorted_if_rising (chosen is cs) (rising-filter (λ c. has (frame_index c) is) cs rising))
-        (λ q. at q (has q is) refl)
+        same_entries nat_cmp nat_cmp_total fin.nat_cmp-IsAntisymmetric (said es) (map own (chosen is cs)) (subst T (sym (sorted_said es)) (fin.entries_sorted (frames_by_index fs))) (sorted_if_rising (chosen is cs) (rising-filter (λ c. has_number (frame_index c) is) cs rising))
+        (λ q. at q (has_number q is) refl)
 
 -- ---- a view that took frames
 

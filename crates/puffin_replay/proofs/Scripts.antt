@@ -16,7 +16,7 @@ use Rattle.std.proofs.lemmas.Bool.{false_from_ne_true}
 use Rattle.std.proofs.lemmas.Bool.Decides.{nat_tests}
 use Rattle.puffin_replay.specs.Script.Statements.{Meaning, line_meaning, words_in}
 use Rattle.puffin_replay.specs.inner.ScriptReading.{meaning_of}
-use Rattle.puffin_replay.specs.Script.{is_line_feed, lines_in, is_skipped, meaning_or_number, told_by, onto, is_late, statements_from, with_name, with_if_named, with_thread_of, with_form, with_form_of, thread_named_by, threads_after, forms_after, is_command, commands_in, command_said, with_forms}
+use Rattle.puffin_replay.specs.Script.{is_line_feed, lines_in, is_skipped, meaning_or_number, told_by, with_statement, is_late, statements_from, with_name, with_if_named, with_thread_of, with_form, with_form_of, thread_named_by, threads_after, forms_after, is_command, commands_in, command_said, with_forms}
 use Rattle.std.proofs.lemmas.List.Folds.{list_any-append}
 use Rattle.std.proofs.lemmas.Slice.Eq.{bytes_eq-Decides}
 use Rattle.std.specs.Str.{bytes_eq}
@@ -222,7 +222,7 @@ abbrev pub after : List (ℕ × Meaning) → Result (List (ℕ × Meaning)) ℕ 
 after before (Ok later) = Ok (before ++ later)
 after before (Err wrong) = Err wrong
 
-after_onto : (before : List (ℕ × Meaning)) (s : ℕ × Meaning) (later : Result (List (ℕ × Meaning)) ℕ) → after before (onto s later) ≡ after (before ++ s ∷ []) later
+after_onto : (before : List (ℕ × Meaning)) (s : ℕ × Meaning) (later : Result (List (ℕ × Meaning)) ℕ) → after before (with_statement s later) ≡ after (before ++ s ∷ []) later
 after_onto before s (Ok later) = ap (λ (xs : List (ℕ × Meaning)). Ok xs) (sym (append_assoc before (s ∷ []) later))
 after_onto before s (Err wrong) = refl
 

@@ -17,7 +17,7 @@ use Rattle.puffin_view.specs.declared.profile_view.frame_view.FrameView.{FrameVi
 use Rattle.puffin_view.specs.View.{last_index, after_all}
 use Rattle.puffin_view.specs.View.Known.{view_of, collection_of, lacks_ids}
 use Rattle.puffin_view.specs.View.File.{fields_held, fields_in, frame_stored, read_view}
-use Rattle.puffin_view.specs.View.Ranking.{last_of, has}
+use Rattle.puffin_view.specs.View.Ranking.{last_of, has_number}
 use Rattle.puffin_view.specs.View.ViewedFrames.{fields_of, frame_index, slowest, is_rising}
 use Rattle.puffin_session.specs.declared.command.Command.{Command}
 use Rattle.puffin_session.specs.declared.command.Reply.{Reply}
@@ -61,7 +61,7 @@ emitted_fields replies = map fields_of (frames_emitted replies)
 -- the last n frames of a list with rising indices, and its k slowest: each once, in the list's order
 abbrev pub kept_frames : ℕ → ℕ → List PacketFields → List PacketFields
 kept_frames n k cs =
-    filter (λ c. has (frame_index c) (map frame_index (last_of n cs ++ slowest k cs))) cs
+    filter (λ c. has_number (frame_index c) (map frame_index (last_of n cs ++ slowest k cs))) cs
 
 -- ---- a run
 

@@ -97,16 +97,17 @@ unless_late number names (Err wrong) = Err wrong
 unless_late number names (Ok None) = Ok None
 unless_late number names (Ok (Some s)) = if is_late names s then Err number else Ok (Some s)
 
-abbrev pub onto : ℕ × Meaning → Result (List (ℕ × Meaning)) ℕ → Result (List (ℕ × Meaning)) ℕ
-onto first (Ok later) = Ok (first ∷ later)
-onto first (Err wrong) = Err wrong
+abbrev pub with_statement : ℕ × Meaning → Result (List (ℕ × Meaning)) ℕ →
+    Result (List (ℕ × Meaning)) ℕ
+with_statement first (Ok later) = Ok (first ∷ later)
+with_statement first (Err wrong) = Err wrong
 
 -- the meaning of a line, followed by those of the later lines, for which its thread is already named
 abbrev pub with_first : ℕ → List (List ℕ) → Result (Option Meaning) ℕ →
     (List (List ℕ) → Result (List (ℕ × Meaning)) ℕ) → Result (List (ℕ × Meaning)) ℕ
 with_first number names (Err wrong) later = Err wrong
 with_first number names (Ok None) later = later names
-with_first number names (Ok (Some s)) later = onto (number, s) (later (with_thread_of names s))
+with_first number names (Ok (Some s)) later = with_statement (number, s) (later (with_thread_of names s))
 
 -- the meanings of the lines from this number on, after these threads, in order, each with its number; or the number of the first line that isn't valid or comes too late
 abbrev pub statements_from : ℕ → List (List ℕ) → List (List ℕ) → Result (List (ℕ × Meaning)) ℕ

@@ -5,6 +5,7 @@ use Rattle.std.specs.Option.{option_map_or}
 use Rattle.std.specs.List.{flat_map}
 use Rattle.std.proofs.lemmas.List.{map-append, append-nil, flat_map_more, length-map}
 use Rattle.std.proofs.lemmas.List.Sums.{fold-append}
+use Rattle.puffin_data.specs.Cause.{file_error_of}
 use Rattle.puffin_data.specs.declared.error.Error.{Error}
 use Rattle.puffin_data.specs.declared.error.Error.TheVariants.{Memory}
 use Rattle.puffin_data.specs.declared.file_error.FileError.{FileError}
@@ -54,6 +55,10 @@ if_err_so (Err e) step h = step e h
 pub not_memory : {P : Type 0} (e : FileError) → e ≢ file.Memory → (e ≡ file.Memory) ⊎ P → P
 not_memory e differs (inl memory) = absurd (differs memory)
 not_memory e differs (inr p) = p
+
+pub refused_of : (cause : Error) → cause ≢ Memory → file_error_of cause ≡ file.Refused cause
+refused_of Memory differs = absurd (differs refl)
+refused_of cause differs = refl
 
 -- ---- one frame more
 

@@ -1,14 +1,13 @@
 //! Counts a stream, and prints the counts.
-ghost use Rattle.std.specs.Prelude.{◌≡◌, ◌+◌, ◌-◌, ◌^◌, ◌<◌, ◌-ℤ◌, List, ℕ, IfOk, IfErr, OnOk, OnErr, MatchResult, ◌⊎◌};
+ghost use Rattle.std.specs.Prelude.{◌≡◌, ◌+◌, ◌-ℤ◌, List, ℕ, IfOk, IfErr, OnOk, OnErr, MatchResult, ◌⊎◌, IsOkUnless};
 ghost use Rattle.std.specs.String.{string_bytes};
 ghost use Rattle.puffin_data.specs.Forest.{Forest};
 ghost use Rattle.puffin_data.specs.Honesty.{IsHonest};
-ghost use Rattle.puffin_data.specs.Device.{IsOutside, TookNothing};
+ghost use Rattle.puffin_data.specs.Device.{CanFail, IsOutside, TookNothing};
 ghost use Rattle.puffin_report.specs.Lines.{count_line, measures_line, sums_text, range_text, meta_line, none_line, outcome_line, frame_of_forest, refusal_of};
 ghost use Rattle.puffin_report.specs.Count.{ReadsAll, IsCounted, IsCutShort};
 
 use puffin_data::data::{Drain, Source, Stream, StreamInfo, read_to_end, write_all};
-use puffin_data::laws::range_of_a_forest;
 use puffin_data::{Error, FileError, NanoSecond};
 use puffin_frames::frame_data::{FrameIndex, UnpackedFrameData};
 use puffin_frames::thread_profiler::ThreadInfo;
@@ -84,13 +83,12 @@ fn none_line(alloc: Global, cause: Error) -> Result<String, AllocError>
 }
 
 /// Makes frame 0 with an honest info as its one stream.
+#[tactic(auto, using(puffin_data::proofs::lemmas::ForestRanges::least_in_range, puffin_data::proofs::lemmas::ForestRanges::greatest_in_range, puffin_data::proofs::lemmas::ForestRanges::ordered))]
 fn frame_of(alloc: Global, info: StreamInfo) -> Result<UnpackedFrameData, Error>
     ensures { (f : Forest) → IsHonest info f →
         MatchResult result (λ frame. frame_of_forest info.stream.form f ≡ Ok frame.meta) (λ e.
         (e ≡ Error.Memory) ⊎ (frame_of_forest info.stream.form f ≡ Err e)) }
 {
-    // Only for the proof: a law about forests.
-    range_of_a_forest();
     let thread = ThreadInfo {
         start_time_ns: None,
         name: String::from_str(alloc, "stdin")?,
@@ -106,7 +104,7 @@ fn frame_line(alloc: Global, info: StreamInfo) -> Result<(String, Option<Error>)
         (f : Forest) → IsHonest info f →
         (string_bytes it.0 ≡ outcome_line (frame_of_forest info.stream.form f))
         × (it.1 ≡ refusal_of (frame_of_forest info.stream.form f))) }
-    ensures err { IfErr result (λ e. e ≡ FileError.Memory) }
+    ensures err { IsOkUnless result FileError.Memory }
 {
     match frame_of(alloc, info) {
         Ok(frame) => Ok((meta_line(alloc, &frame)?, None)),
@@ -138,8 +136,8 @@ pub fn count_stream<S: Source, D: Drain>(
     source: &mut S,
     drain: &mut D,
 ) -> Result<Option<Error>, FileError>
-    requires source { S.failures source.old < 2 ^ 64 - 1 }
-    requires drain { D.failures drain.old < 2 ^ 64 - 1 }
+    requires source { CanFail S.failures source.old }
+    requires drain { CanFail D.failures drain.old }
     ensures counted { IfOk result (λ answer.
         (bytes : List ℕ)
         × ReadsAll (S.remaining source.old) (S.remaining source.new) bytes

@@ -1,5 +1,7 @@
-ghost use Rattle.std.specs.Prelude.{◌<◌, ◌-◌, ◌^◌, List, IfOk, IfErr, ◌≡◌};
-ghost use Rattle.puffin_data.specs.Device.{failures_after};
+//! The summary of a file of frames.
+
+ghost use Rattle.std.specs.Prelude.{List, IfOk, IfErr, ◌≡◌};
+ghost use Rattle.puffin_data.specs.Device.{CanFail, failures_after};
 ghost use Rattle.puffin_threads.specs.Thread.ThreadKey.{key_of};
 ghost use Rattle.puffin_frames.specs.Packet.Stored.{Stored};
 ghost use Rattle.puffin_view.specs.View.File.{file_at, TookFrames};
@@ -11,7 +13,6 @@ use puffin_data::data::Source;
 use puffin_frames::scope_details::ScopeCollection;
 use puffin_frames::thread_profiler::ThreadInfo;
 use puffin_merge::merge::MergeScope;
-use puffin_view::profile_view::laws::files_have_an_end;
 use puffin_view::profile_view::{next_frame, read_magic};
 use std::alloc::Global;
 
@@ -38,7 +39,7 @@ pub fn summarize<S: Source>(
     source: &mut S,
     thread: &ThreadInfo,
 ) -> Result<Summary, FileError>
-    requires { S.failures source.old < 2 ^ 64 - 1 }
+    requires { CanFail S.failures source.old }
     ensures summary { IfOk result (λ summary.
         (stored : List Stored)
         × TookFrames file_at (S.remaining source.old) (S.remaining source.new) stored
@@ -55,7 +56,6 @@ pub fn summarize<S: Source>(
         };
         sum = sum.take(frame)?;
     }
-    // By this law, the loop has already returned, because a file has fewer frames.
-    files_have_an_end();
+    // The loop has already returned unless there are `2^64 - 1` frames.
     Err(FileError::Truncated)
 }

@@ -1,6 +1,6 @@
 //! Sums up a file while it is read one frame at a time.
 
-ghost use Rattle.std.specs.Prelude.{◌≡◌, ◌≢◌, ◌⊎◌, ◌<◌, ◌-◌, ◌^◌, [], ◌∷◌, ◌++◌, List, Ok, Err, IfOk, IfErr, OnOk, length, nat_lt, true};
+ghost use Rattle.std.specs.Prelude.{◌≡◌, ◌≢◌, ◌⊎◌, ◌<◌, ◌-◌, ◌^◌, [], ◌∷◌, ◌++◌, List, Ok, Err, IfOk, IfErr, OnOk, length, nat_lt, true, IsOkUnless};
 ghost use Rattle.std.specs.Option.{option_map_or};
 ghost use Rattle.std.specs.Arc.{arc_value};
 ghost use Rattle.puffin_threads.specs.Thread.ThreadKey.{ThreadKey, key_of};
@@ -22,7 +22,6 @@ use puffin_frames::frame_data::{FrameData, UnpackedFrameData};
 use puffin_frames::scope_details::ScopeCollection;
 use puffin_frames::thread_profiler::ThreadInfo;
 use puffin_merge::merge::Merger;
-use puffin_view::profile_view::laws::reading_keeps_what_rises;
 use std::alloc::Global;
 use std::sync::Arc;
 
@@ -66,7 +65,7 @@ fn unpacked(frame: &mut FrameData) -> Result<Arc<UnpackedFrameData>, FileError>
 fn not_unpacked<'i>(fault: FileError) -> Result<Progress<'i>, FileError>
     ensures ok { IfOk result (λ progress.
         (progress ≡ Progress.NotUnpacked fault) × (fault ≢ FileError.Memory)) }
-    ensures memory { IfErr result (λ e. e ≡ FileError.Memory) }
+    ensures memory { IsOkUnless result FileError.Memory }
 {
     match fault {
         FileError::Memory => Err(FileError::Memory),
@@ -78,22 +77,11 @@ fn not_unpacked<'i>(fault: FileError) -> Result<Progress<'i>, FileError>
 fn refused<'i>(cause: Error) -> Result<Progress<'i>, FileError>
     ensures ok { IfOk result (λ progress.
         (progress ≡ Progress.Refused cause) × (cause ≢ Error.Memory)) }
-    ensures memory { IfErr result (λ e. e ≡ FileError.Memory) }
+    ensures memory { IsOkUnless result FileError.Memory }
 {
     match cause {
         Error::Memory => Err(FileError::Memory),
         cause => Ok(Progress::Refused(cause)),
-    }
-}
-
-/// Converts an `Error` to a `FileError`.
-fn as_file_error(cause: Error) -> FileError
-    ensures memory { cause ≡ Error.Memory → result ≡ FileError.Memory }
-    ensures other { cause ≢ Error.Memory → result ≡ FileError.Refused cause }
-{
-    match cause {
-        Error::Memory => FileError::Memory,
-        cause => FileError::Refused(cause),
     }
 }
 
@@ -108,7 +96,7 @@ impl<'i> Progress<'i> {
         ensures ok { IfOk result (λ progress.
             (info : ThreadKey) (kept : List PacketFields) → IsProgress info kept self.entry →
             IsProgress info (kept ++ packet_fields frame.old ∷ []) progress) }
-        ensures memory { IfErr result (λ e. e ≡ FileError.Memory) }
+        ensures memory { IsOkUnless result FileError.Memory }
     {
         if let Progress::NotUnpacked(fault) = self {
             return Ok(Progress::NotUnpacked(fault));
@@ -127,7 +115,7 @@ impl<'i> Progress<'i> {
             IsProgress info kept self.entry →
             bytes_in info c ≡ Ok (frame_bytes info frame.now) →
             IsProgress info (kept ++ c ∷ []) progress) }
-        ensures memory { IfErr result (λ e. e ≡ FileError.Memory) }
+        ensures memory { IsOkUnless result FileError.Memory }
     {
         let mut merger = match self {
             Progress::Merged(merger) => merger,
@@ -144,7 +132,7 @@ impl<'i> Progress<'i> {
 fn insert_details(scopes: &mut ScopeCollection, frame: &FrameData) -> Result<(), FileError>
     ensures ok { OnOk result (
         scopes.new ≡ with_all_details scopes.old (frame_details frame.now)) }
-    ensures memory { IfErr result (λ e. e ≡ FileError.Memory) }
+    ensures memory { IsOkUnless result FileError.Memory }
 {
     match scopes.insert_all(&frame.scope_delta) {
         Ok(()) => Ok(()),
@@ -175,8 +163,6 @@ fn kept_before<'i>(
         IsProgress info (rising_end cs) progress.entry → IsProgress info [] none.entry →
         IsKeptWith info cs c result }
 {
-    // The proof uses this law: a view keeps the same frames.
-    reading_keeps_what_rises();
     if rises(last, index) { progress } else { none }
 }
 
@@ -203,7 +189,7 @@ impl<'i> Summing<'i> {
         ensures ok { IfOk result (λ sum. (info : ThreadKey) (stored : List Stored) (s : Stored) →
             frame_of frame ≡ frame_stored s → HasSummed info stored self.entry →
             HasSummed info (stored ++ s ∷ []) sum) }
-        ensures memory { IfErr result (λ e. e ≡ FileError.Memory) }
+        ensures memory { IsOkUnless result FileError.Memory }
     {
         let mut frame = frame;
         let Summing {
@@ -240,8 +226,6 @@ impl<'i> Summing<'i> {
             (e ≡ FileError.Memory) ⊎ IsHindered info (fields_read stored) e) }
         ensures cause { IfErr result (λ e. e ≢ FileError.Io) }
     {
-        // The proof uses this law: the kept frames are those of a view.
-        reading_keeps_what_rises();
         let Summing {
             scopes,
             progress,
@@ -253,13 +237,11 @@ impl<'i> Summing<'i> {
             Progress::NotUnpacked(fault) => return Err(fault),
         };
         let frames = merger.frames();
-        match merger.finish() {
-            Ok(merged) => Ok(Summary {
-                frames,
-                scopes,
-                merged,
-            }),
-            Err(cause) => Err(as_file_error(cause)),
-        }
+        let merged = merger.finish()?;
+        Ok(Summary {
+            frames,
+            scopes,
+            merged,
+        })
     }
 }

@@ -1,3 +1,5 @@
+//! The commands of a session, and the replies to them.
+
 use puffin_collector::Emitted;
 use puffin_data::data::{ScopeId, Stream};
 use puffin_data::{Error, NanoSecond};

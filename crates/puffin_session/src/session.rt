@@ -1,4 +1,6 @@
-ghost use Rattle.std.specs.Prelude.{◌≡◌, ◌≢◌, ◌+◌, ◌-◌, ◌^◌, ◌<◌, ◌≤◌, ◌⊎◌, length, map, [], All, option_map, IfOk, IfErr, OnOk, OnErr};
+//! Sessions of threads that share one profiler.
+
+ghost use Rattle.std.specs.Prelude.{◌≡◌, ◌≢◌, ◌+◌, ◌-◌, ◌^◌, ◌<◌, ◌≤◌, ◌⊎◌, length, map, [], All, option_map, IfOk, IfErr, OnOk, OnErr, IsOkUnless};
 ghost use Rattle.std.specs.String.{string_bytes};
 ghost use Rattle.puffin_data.specs.declared.data.form.Form.TheVariants.{Short};
 ghost use Rattle.puffin_data.specs.Forest.{Forest};
@@ -68,7 +70,7 @@ impl Session {
     pub fn new(alloc: Global, names: Vec<String>) -> Result<Session>
         ensures new { IfOk result (λ session.
             session ≡ new_session (map (λ name. (string_bytes name, Short)) names.items)) }
-        ensures memory { IfErr result (λ e. e ≡ Error.Memory) }
+        ensures memory { IsOkUnless result Error.Memory }
     {
         let mut profiled = Vec::new(alloc);
         for name in names {
@@ -82,7 +84,7 @@ impl Session {
     pub fn with_forms(alloc: Global, threads: Vec<(String, Form)>) -> Result<Session>
         ensures new { IfOk result (λ session.
             session ≡ new_session (map (λ t. (string_bytes t.0, t.1)) threads.items)) }
-        ensures memory { IfErr result (λ e. e ≡ Error.Memory) }
+        ensures memory { IsOkUnless result Error.Memory }
     {
         let mut profiled = Vec::new(alloc);
         for (name, form) in threads {
@@ -114,7 +116,7 @@ impl Session {
         // All details that a frame lists have ids.
         ensures ids { IfOk result (λ replies. All HasIds replies.items) }
         ensures err { OnErr result (self.new ≡ self.old) }
-        ensures memory { IfErr result (λ e. e ≡ Error.Memory) }
+        ensures memory { IsOkUnless result Error.Memory }
     {
         // By the contract of `totals`, what the collector holds is honest before the first command.
         let _ = self.collector.totals();
@@ -302,7 +304,7 @@ impl Session {
 /// Makes the details of scopes with these names. Fails only with `Memory`.
 fn user_scopes(alloc: Global, names: &[String]) -> Result<Vec<ScopeDetails>>
     ensures ok { IfOk result (λ details. details_seen details.items ≡ user_details names.now) }
-    ensures err { IfErr result (λ e. e ≡ Error.Memory) }
+    ensures err { IsOkUnless result Error.Memory }
 {
     let mut details = Vec::with_capacity(alloc, names.len())?;
     for name in names {

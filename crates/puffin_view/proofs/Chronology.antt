@@ -10,7 +10,7 @@ use Rattle.std.specs.FinMap.Entries.{by_order, where_key, is_sorted-where_key, f
 use Rattle.puffin_view.specs.declared.profile_view.slow_rank.SlowRank.{SlowRank}
 use Rattle.puffin_view.specs.View.ViewedFrames.{Frame, index_of, frames_by_index, chronological}
 use Rattle.puffin_view.specs.inner.Held.{HeldFrames}
-use Rattle.puffin_view.specs.View.Ranking.{rank_index, has}
+use Rattle.puffin_view.specs.View.Ranking.{rank_index, has_number}
 use Rattle.puffin_view.specs.inner.Store.{AreStored}
 use Rattle.puffin_view.proofs.Members.{has-index_of}
 use Rattle.puffin_view.proofs.Storing.{held_whole, find_held, index-rank_of}
@@ -53,12 +53,12 @@ values-where p (e ∷ es) h = ap (λ b. map (λ e. e.1) (cond b (e ∷ where_key
   at false later = later
 
 -- those of the frames that are slow, as they stand by their indices
-pub slow_listed : (held : HeldFrames) (recent : List ℕ) (slow : List SlowRank) (last : Option ℕ) (R S : List Frame) → AreStored held recent slow last R S → filter (λ f. has (index_of f) (map rank_index slow)) (fin.values held) ≡ chronological S
+pub slow_listed : (held : HeldFrames) (recent : List ℕ) (slow : List SlowRank) (last : Option ℕ) (R S : List Frame) → AreStored held recent slow last R S → filter (λ f. has_number (index_of f) (map rank_index slow)) (fin.values held) ≡ chronological S
 slow_listed held recent slow last R S h =
-    let p : ℕ → Bool = λ q. has q (map rank_index slow) in
+    let p : ℕ → Bool = λ q. has_number q (map rank_index slow) in
     let indices : map rank_index slow ≡ map index_of S = ap (map rank_index) h.slow_at ∙ index-rank_of S in
     let all : AreKeyed (fin.entries held) = subst (λ (m : HeldFrames). AreKeyed (fin.entries m)) (sym (held_whole held recent slow last R S h)) (keyed (R ++ S)) in
     sym (values-where p (fin.entries held) all)
     ∙ ap (map (λ e. e.1)) (same_entries nat_cmp nat_cmp_total fin.nat_cmp-IsAntisymmetric (where_key nat_cmp p (fin.entries held)) (fin.entries (frames_by_index S)) (is_sorted-where_key nat_cmp p (fin.entries held) (fin.entries_sorted held)) (fin.entries_sorted (frames_by_index S))
-    (λ q. find-where_key nat_cmp p q (λ x t. ap p (sym (tied q x t))) (fin.entries held) ∙ ap (λ o. cond (p q) o None) (sym (fin.get-entries held q)) ∙ ap (λ b. cond b (fin.get held q) None) (ap (has q) indices ∙ has-index_of q S)
+    (λ q. find-where_key nat_cmp p q (λ x t. ap p (sym (tied q x t))) (fin.entries held) ∙ ap (λ o. cond (p q) o None) (sym (fin.get-entries held q)) ∙ ap (λ b. cond b (fin.get held q) None) (ap (has_number q) indices ∙ has-index_of q S)
     ∙ sym (find_held (fin.get held) q S h.slow_held) ∙ sym (fin.get-from_entries nat_cmp_total (map (λ f. (index_of f, f)) S) q) ∙ fin.get-entries (frames_by_index S) q))

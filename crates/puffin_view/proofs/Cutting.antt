@@ -7,7 +7,7 @@ use Rattle.std.specs.Cmp.{nat_cmp_total}
 use Rattle.std.specs.FinMap as fin
 use Rattle.std.proofs.lemmas.List.{drop-drop, length-drop}
 use Rattle.puffin_view.specs.declared.profile_view.slow_rank.SlowRank.{SlowRank}
-use Rattle.puffin_view.specs.View.Ranking.{rank_index, has}
+use Rattle.puffin_view.specs.View.Ranking.{rank_index, has_number}
 use Rattle.puffin_view.specs.View.ViewedFrames.{Frame, index_of}
 use Rattle.puffin_view.specs.inner.Held.{HeldFrames}
 use Rattle.puffin_view.specs.inner.Ranks.{LetsGo}
@@ -23,11 +23,11 @@ either_last true b = refl
 either_last false true = refl
 either_last false false = refl
 
-pub LetsGo-more : (old mid new : HeldFrames) (stays gone : List ℕ) (i : ℕ) → LetsGo old stays gone mid → new ≡ fin.remove mid i → has i stays ≡ false → LetsGo old stays (gone ++ i ∷ []) new
+pub LetsGo-more : (old mid new : HeldFrames) (stays gone : List ℕ) (i : ℕ) → LetsGo old stays gone mid → new ≡ fin.remove mid i → has_number i stays ≡ false → LetsGo old stays (gone ++ i ∷ []) new
 LetsGo-more old mid new stays gone i h is out q =
     ap (λ m. fin.get m q) is ∙ fin.get-remove nat_cmp_total mid i q ∙ ap (λ b. cond b None (fin.get mid q)) (is_at q i)
-    ∙ at (nat_eq q i) (has q stays) (has q gone) (h q) (λ e. ap (λ k. has k stays) (equal_to q i e) ∙ out)
-    ∙ ap (λ b. cond (has q stays) (fin.get old q) (cond b None (fin.get old q))) (sym (has-append q gone (i ∷ []) ∙ either_last (has q gone) (nat_eq q i))) where
+    ∙ at (nat_eq q i) (has_number q stays) (has_number q gone) (h q) (λ e. ap (λ k. has_number k stays) (equal_to q i e) ∙ out)
+    ∙ ap (λ b. cond (has_number q stays) (fin.get old q) (cond b None (fin.get old q))) (sym (has-append q gone (i ∷ []) ∙ either_last (has_number q gone) (nat_eq q i))) where
       at : (b s g : Bool) → fin.get mid q ≡ cond s (fin.get old q) (cond g None (fin.get old q)) → (b ≡ true → s ≡ false) → cond b None (fin.get mid q) ≡ cond s (fin.get old q) (cond (g || b) None (fin.get old q))
       at true true g e out = absurd (true≢false (out refl))
       at true false true e out = refl
@@ -36,10 +36,10 @@ LetsGo-more old mid new stays gone i h is out q =
       at false false true e out = e
       at false false false e out = e
 
-pub LetsGo-kept : (old mid : HeldFrames) (stays gone : List ℕ) (i : ℕ) → LetsGo old stays gone mid → has i stays ≡ true → LetsGo old stays (gone ++ i ∷ []) mid
+pub LetsGo-kept : (old mid : HeldFrames) (stays gone : List ℕ) (i : ℕ) → LetsGo old stays gone mid → has_number i stays ≡ true → LetsGo old stays (gone ++ i ∷ []) mid
 LetsGo-kept old mid stays gone i h among q =
-    at (nat_eq q i) (has q stays) (has q gone) (h q) (λ e. ap (λ k. has k stays) (equal_to q i e) ∙ among)
-    ∙ ap (λ b. cond (has q stays) (fin.get old q) (cond b None (fin.get old q))) (sym (has-append q gone (i ∷ []) ∙ either_last (has q gone) (nat_eq q i))) where
+    at (nat_eq q i) (has_number q stays) (has_number q gone) (h q) (λ e. ap (λ k. has_number k stays) (equal_to q i e) ∙ among)
+    ∙ ap (λ b. cond (has_number q stays) (fin.get old q) (cond b None (fin.get old q))) (sym (has-append q gone (i ∷ []) ∙ either_last (has_number q gone) (nat_eq q i))) where
       at : (b s g : Bool) → fin.get mid q ≡ cond s (fin.get old q) (cond g None (fin.get old q)) → (b ≡ true → s ≡ true) → fin.get mid q ≡ cond s (fin.get old q) (cond (g || b) None (fin.get old q))
       at true true g e among = e
       at true false g e among = absurd (true≢false (sym (among refl)))
@@ -64,8 +64,8 @@ gone_for_all false false o out none = none refl
 -- of the slow frames, the first ones stay
 pub stored-cut_slow : (held new : HeldFrames) (recent : List ℕ) (slow : List SlowRank) (last : Option ℕ) (R S gone : List Frame) → AreStored held recent slow last R (S ++ gone) → LetsGo held (map index_of R) (map index_of gone) new → AreStored new recent (map rank_of S) last R S
 stored-cut_slow held new recent slow last R S gone h go =
-    let stays : ℕ → Bool = λ q. has q (map index_of R) in
-    let away : ℕ → Bool = λ q. has q (map index_of gone) in
+    let stays : ℕ → Bool = λ q. has_number q (map index_of R) in
+    let away : ℕ → Bool = λ q. has_number q (map index_of gone) in
     record {
       recent_at = h.recent_at;
       slow_at = refl;
@@ -98,8 +98,8 @@ stored-cut_slow held new recent slow last R S gone h go =
 -- of the recent frames, the last ones stay
 pub stored-cut_recent : (held new : HeldFrames) (recent : List ℕ) (slow : List SlowRank) (last : Option ℕ) (gone R S : List Frame) → AreStored held recent slow last (gone ++ R) S → LetsGo held (map index_of S) (map index_of gone) new → AreStored new (map index_of R) slow last R S
 stored-cut_recent held new recent slow last gone R S h go =
-    let stays : ℕ → Bool = λ q. has q (map index_of S) in
-    let away : ℕ → Bool = λ q. has q (map index_of gone) in
+    let stays : ℕ → Bool = λ q. has_number q (map index_of S) in
+    let away : ℕ → Bool = λ q. has_number q (map index_of gone) in
     record {
       recent_at = refl;
       slow_at = h.slow_at;
@@ -141,7 +141,7 @@ take_next [] k d h = absurd (no_less k h)
 take_next (x ∷ xs) zero d h = refl
 take_next (x ∷ xs) (suc k) d h = ap (λ ys. x ∷ ys) (take_next xs k d (omega arith))
 
-pub any_has : (i : ℕ) (is : List ℕ) → list_any (λ y. nat_eq y i) is ≡ has i is
+pub any_has : (i : ℕ) (is : List ℕ) → list_any (λ y. nat_eq y i) is ≡ has_number i is
 any_has i [] = refl
 any_has i (x ∷ is) = λ j. flips x i j || any_has i is j where
   flips : (a b : ℕ) → nat_eq a b ≡ nat_eq b a
@@ -150,7 +150,7 @@ any_has i (x ∷ is) = λ j. flips x i j || any_has i is j where
 pub unlike : {A : Type 0} {b : Bool} → b ≡ true → b ≡ false → A
 unlike e p = absurd (true≢false (sym e ∙ p))
 
-pub any_ranks : (i : ℕ) (rs : List SlowRank) → list_any (λ r. nat_eq r.frame_index i) rs ≡ has i (map rank_index rs)
+pub any_ranks : (i : ℕ) (rs : List SlowRank) → list_any (λ r. nat_eq r.frame_index i) rs ≡ has_number i (map rank_index rs)
 any_ranks i [] = refl
 any_ranks i (r ∷ rs) = λ j. flips r.frame_index i j || any_ranks i rs j where
   flips : (a b : ℕ) → nat_eq a b ≡ nat_eq b a

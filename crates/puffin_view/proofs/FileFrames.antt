@@ -32,7 +32,7 @@ use Rattle.puffin_view.specs.View.Known.{view_of, collection_of, lacks_ids}
 use Rattle.puffin_view.specs.View.File.{frame_stored, details_stored, read_view, file_at, FailsToRead, IsViewOf}
 use Rattle.puffin_view.specs.View.FrameFile.{HasGiven}
 use Rattle.puffin_view.proofs.Taking.{Took-all, Took-none}
-use Rattle.puffin_view.proofs.FilesRead.{checked, refused, given_more, fault_given}
+use Rattle.puffin_view.proofs.lemmas.FilesRead.{checked, refused, given_more, fault_given}
 
 -- ---- a frame that was read, as a view sees it
 

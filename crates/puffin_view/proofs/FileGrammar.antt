@@ -17,7 +17,7 @@ use Rattle.puffin_view.specs.View.ViewedFrames.{fields_of}
 use Rattle.puffin_view.specs.View.Known.{lacks_ids}
 use Rattle.puffin_view.specs.View.File.{magic, frame_stored, with_ids, frames_from, frames_at, most_packets, begins_file, file_at}
 use Rattle.puffin_view.specs.View.Grammar.{ArePackets, IsEnd, IsFile, fields_stored}
-use Rattle.puffin_view.proofs.FilesRead.{is_at_end, most_is}
+use Rattle.puffin_view.proofs.lemmas.FilesRead.{is_at_end, most_is}
 use Rattle.puffin_view.proofs.FilesWritten.{Answer, unless_missing, one_before, room}
 
 abbrev pub PacketsRead : Type 0

@@ -15,7 +15,7 @@ use Rattle.puffin_view.specs.View.Known.{lacks_ids}
 use Rattle.puffin_view.specs.View.File.{magic, file_of, frames_at, most_packets, file_at}
 use Rattle.puffin_view.specs.View.FrameFile.{frame_at, AreGiven, HasGiven, IsLeftOf, IsCut}
 use Rattle.puffin_view.proofs.Members.{neither}
-use Rattle.puffin_view.proofs.FilesRead.{goes_on, behind, end_stays, is_at_end}
+use Rattle.puffin_view.proofs.lemmas.FilesRead.{goes_on, behind, end_stays, is_at_end}
 use Rattle.puffin_view.proofs.FilesWritten.{Again, Answer, room}
 use Rattle.puffin_view.proofs.FileGrammar.{end_read}
 use Rattle.puffin_view.proofs.ReadingsCut.{packet_truncated}

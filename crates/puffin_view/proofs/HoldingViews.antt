@@ -28,7 +28,7 @@ use Rattle.std.specs.Option.{option_copied}
 use Rattle.puffin_view.specs.declared.profile_view.running_stats.RunningStats.{RunningStats}
 use Rattle.puffin_view.specs.View.Stats.{stats_of, cut}
 use Rattle.puffin_view.specs.declared.profile_view.stats.FrameStats.{FrameStats}
-use Rattle.puffin_view.specs.inner.Held.{IsSummed, frames_seen, held_of, number_if, unpacked_number, ram_taken, wrapped}
+use Rattle.puffin_view.specs.inner.Held.{IsSummed, frames_seen, held_of, number_if, unpacked_number, ram_taken, wrapped_sum}
 
 turned : (k q : ℕ) → is_at (nat_cmp k) q ≡ eq_by_cmp nat_cmp q k
 turned k q = grind arith
@@ -124,7 +124,7 @@ sum_by-below f n h (x ∷ xs) =
     let more : suc (length xs) * n ≡ length xs * n + n = suc-mul (length xs) n in
     omega arith
 
-fits : (n : ℕ) → n < 2 ^ 128 → wrapped n ≡ n
+fits : (n : ℕ) → n < 2 ^ 128 → wrapped_sum n ≡ n
 fits n low = mod-eq_of_lt low
 
 module _ {A : Type 0} where
@@ -156,18 +156,18 @@ module _ {A : Type 0} where
 
   -- one more, in the place of what was there
   pub sum_inserted : (f : Arc FrameData A → ℕ) (es fs : List (ℕ × Arc FrameData A)) (k : ℕ) (a : Arc FrameData A) (before : Option (Arc FrameData A)) (u v w : ℕ) → fs ≡ insert_entry nat_cmp es k a → before ≡ lookup (is_at (nat_cmp k)) es
-      → IsStrictlySortedBy nat_cmp (keys_of es) → u ≡ wrapped (sum_by f (values_of es)) → ((rest : ℕ) → u ≡ wrapped (rest + unwrap_or (option_map f before) 0) → v ≡ wrapped rest) → w ≡ wrapped (v + f a) → w ≡ wrapped (sum_by f (values_of fs))
+      → IsStrictlySortedBy nat_cmp (keys_of es) → u ≡ wrapped_sum (sum_by f (values_of es)) → ((rest : ℕ) → u ≡ wrapped_sum (rest + unwrap_or (option_map f before) 0) → v ≡ wrapped_sum rest) → w ≡ wrapped_sum (v + f a) → w ≡ wrapped_sum (sum_by f (values_of fs))
   sum_inserted f es fs k a before u v w put found sorted was lowered raised =
       let rest : ℕ = sum_by f (values_of (remove_entry (is_at (nat_cmp k)) es)) in
       let removed = sum_by-remove_entry f (is_at (nat_cmp k)) es in
       let inserted = sum_by-insert_entry f nat_cmp_total es k a sorted in
       let more : rest + f a ≡ sum_by f (values_of (insert_entry nat_cmp es k a)) = omega arith in
-      raised ∙ ap (λ n. wrapped (n + f a)) (lowered rest (was ∙ ap wrapped (sym (without f es k before found)))) ∙ mod-add-mod rest (2 ^ 128) (f a) ∙ ap wrapped more ∙ ap (λ l. wrapped (sum_by f (values_of l))) (sym put)
+      raised ∙ ap (λ n. wrapped_sum (n + f a)) (lowered rest (was ∙ ap wrapped_sum (sym (without f es k before found)))) ∙ mod-add-mod rest (2 ^ 128) (f a) ∙ ap wrapped_sum more ∙ ap (λ l. wrapped_sum (sum_by f (values_of l))) (sym put)
 
   pub sum_removed : (f : Arc FrameData A → ℕ) (es fs : List (ℕ × Arc FrameData A)) (k : ℕ) (before : Option (Arc FrameData A)) (u v : ℕ) → fs ≡ remove_entry (is_at (nat_cmp k)) es → before ≡ lookup (is_at (nat_cmp k)) es
-      → u ≡ wrapped (sum_by f (values_of es)) → ((rest : ℕ) → u ≡ wrapped (rest + unwrap_or (option_map f before) 0) → v ≡ wrapped rest) → v ≡ wrapped (sum_by f (values_of fs))
+      → u ≡ wrapped_sum (sum_by f (values_of es)) → ((rest : ℕ) → u ≡ wrapped_sum (rest + unwrap_or (option_map f before) 0) → v ≡ wrapped_sum rest) → v ≡ wrapped_sum (sum_by f (values_of fs))
   sum_removed f es fs k before u v cut found was lowered =
-      lowered (sum_by f (values_of (remove_entry (is_at (nat_cmp k)) es))) (was ∙ ap wrapped (sym (without f es k before found))) ∙ ap (λ l. wrapped (sum_by f (values_of l))) (sym cut)
+      lowered (sum_by f (values_of (remove_entry (is_at (nat_cmp k)) es))) (was ∙ ap wrapped_sum (sym (without f es k before found))) ∙ ap (λ l. wrapped_sum (sum_by f (values_of l))) (sym cut)
 
   pub seen_copied : (o : Option (Bor (Arc FrameData A))) (p : Option (Arc FrameData A)) → option_copied o ≡ p → option_map (λ a. shared_frame a.now) o ≡ option_map shared_frame p
   seen_copied o p e = same o ∙ ap (option_map shared_frame) e where
@@ -213,8 +213,8 @@ module _ {A : Type 0} where
   pub summed_cloned : (es fs : List (ℕ × Arc FrameData A)) (sums : RunningStats) → AllZip (λ p q. (q.0 ≡ p.0) × (arc_value q.1 ≡ arc_value p.1)) es fs → IsSummed es sums → IsSummed fs sums
   summed_cloned es fs sums h s = record {
     ordered = subst (λ ks. IsStrictlySortedBy nat_cmp ks) (sym (keys_cloned es fs h)) s.ordered;
-    unpacked_frames = s.unpacked_frames ∙ ap wrapped (sum_cloned (λ f. number_if f.is_unpacked) es fs h);
-    bytes = s.bytes ∙ ap wrapped (sum_cloned ram_of es fs h);
+    unpacked_frames = s.unpacked_frames ∙ ap wrapped_sum (sum_cloned (λ f. number_if f.is_unpacked) es fs h);
+    bytes = s.bytes ∙ ap wrapped_sum (sum_cloned ram_of es fs h);
   }
 
 -- the bytes that a frame takes, as its sizes say it

@@ -1,3 +1,4 @@
+pub mod lemmas
 mod Rankings
 mod Rows
 mod RowPlaces
@@ -15,7 +16,6 @@ mod Listing
 mod Chronology
 mod CountingPieces
 mod Selecting
-mod FilesRead
 mod FileFrames
 mod FilesWritten
 mod Searching
@@ -23,5 +23,3 @@ mod FilesAgain
 mod FileGrammar
 mod ReadingsCut
 mod FilesCut
-mod FramesHeld
-mod ReadingViews

@@ -6,7 +6,7 @@ use Rattle.std.specs.Option.{option_map}
 use Rattle.std.specs.Iterator.{MakesProgress, item_count}
 use Rattle.puffin_view.specs.declared.profile_view.slow_rank.SlowRank.{SlowRank}
 use Rattle.puffin_view.specs.View.ViewedFrames.{Frame, index_of}
-use Rattle.puffin_view.specs.View.Ranking.{rank_index, has}
+use Rattle.puffin_view.specs.View.Ranking.{rank_index, has_number}
 use Rattle.puffin_view.proofs.Cutting.{any_ranks}
 
 pub given : {A B : Type 0} (h : A → Option B) (rest rest' : List A) (all : List B) (a : A) (b : B) → filter_map h rest ≡ all → rest ≡ a ∷ rest' → h a ≡ Some b → all ≡ b ∷ filter_map h rest'
@@ -31,8 +31,8 @@ slow_given g p rest rest' all a e step is = sym e ∙ ap (λ l. filter p (map g 
 pub slow_passed : {A : Type 0} (g : A → Frame) (p : Frame → Bool) (rest rest' : List A) (all : List Frame) (a : A) → filter p (map g rest) ≡ all → rest ≡ a ∷ rest' → p (g a) ≡ false → filter p (map g rest') ≡ all
 slow_passed g p rest rest' all a e step is = sym (left_more p false (g a) (map g rest') is) ∙ ap (λ l. filter p (map g l)) (sym step) ∙ e
 
-pub is_slow : (slow : List SlowRank) (i : ℕ) (f g : Frame) (r b : Bool) → i ≡ index_of g → g ≡ f → r ≡ list_any (λ s. nat_eq s.frame_index i) slow → r ≡ b → has (index_of f) (map rank_index slow) ≡ b
-is_slow slow i f g r b e same found known = ap (λ k. has k (map rank_index slow)) (sym (e ∙ ap index_of same)) ∙ sym (any_ranks i slow) ∙ sym found ∙ known
+pub is_slow : (slow : List SlowRank) (i : ℕ) (f g : Frame) (r b : Bool) → i ≡ index_of g → g ≡ f → r ≡ list_any (λ s. nat_eq s.frame_index i) slow → r ≡ b → has_number (index_of f) (map rank_index slow) ≡ b
+is_slow slow i f g r b e same found known = ap (λ k. has_number k (map rank_index slow)) (sym (e ∙ ap index_of same)) ∙ sym (any_ranks i slow) ∙ sym found ∙ known
 
 pub got_some : {A : Type 0} (g : A → Frame) (o : Option A) (p : Option Frame) (a : A) → option_map g o ≡ p → o ≡ Some a → p ≡ Some (g a)
 got_some g o p a e is = sym e ∙ ap (option_map g) is

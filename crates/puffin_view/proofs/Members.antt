@@ -6,7 +6,7 @@ use Rattle.std.specs.List.Sorted.{IsStrictlySortedBy}
 use Rattle.std.specs.declared.cmp.Ordering.{Ordering}
 use Rattle.std.specs.declared.cmp.Ordering.TheVariants.{Less}
 use Rattle.std.specs.Ordering.{nat_cmp, eq_by_cmp}
-use Rattle.puffin_view.specs.View.Ranking.{place, last_from, last_in, has}
+use Rattle.puffin_view.specs.View.Ranking.{place, last_from, last_in, has_number}
 use Rattle.puffin_view.specs.View.ViewedFrames.{Frame, index_of, is_slower_frame}
 use Rattle.puffin_view.specs.inner.Kept.{AreRising, HaveOwnIndices}
 use Rattle.puffin_view.specs.inner.Store.{AreHeld, has_index}
@@ -20,10 +20,10 @@ neither false b h = (refl, h)
 
 -- members by index
 
-pub has-append : (q : ℕ) (xs ys : List ℕ) → has q (xs ++ ys) ≡ (has q xs || has q ys)
+pub has-append : (q : ℕ) (xs ys : List ℕ) → has_number q (xs ++ ys) ≡ (has_number q xs || has_number q ys)
 has-append q [] ys = refl
 has-append q (x ∷ xs) ys = at (nat_eq q x) (has-append q xs ys) where
-  at : (b : Bool) → has q (xs ++ ys) ≡ (has q xs || has q ys) → (b || has q (xs ++ ys)) ≡ ((b || has q xs) || has q ys)
+  at : (b : Bool) → has_number q (xs ++ ys) ≡ (has_number q xs || has_number q ys) → (b || has_number q (xs ++ ys)) ≡ ((b || has_number q xs) || has_number q ys)
   at true e = refl
   at false e = e
 
@@ -34,7 +34,7 @@ has_index-append q (f ∷ fs) gs = at (nat_eq q (index_of f)) (has_index-append 
   at true e = refl
   at false e = e
 
-pub has-index_of : (q : ℕ) (fs : List Frame) → has q (map index_of fs) ≡ has_index q fs
+pub has-index_of : (q : ℕ) (fs : List Frame) → has_number q (map index_of fs) ≡ has_index q fs
 has-index_of q [] = refl
 has-index_of q (f ∷ fs) = ap (λ b. nat_eq q (index_of f) || b) (has-index_of q fs)
 

@@ -17,7 +17,7 @@ use Rattle.puffin_view.specs.View.ViewedFrames.{Frame, index_of, duration_of}
 use Rattle.puffin_view.specs.inner.Held.{HeldFrames}
 use Rattle.puffin_view.specs.inner.Ranks.{AreRanked, LetsGo}
 use Rattle.puffin_view.specs.View.FrameRanks.{rank_of, rank_cmp}
-use Rattle.puffin_view.specs.View.Ranking.{rank_index, has, last_from, last_in}
+use Rattle.puffin_view.specs.View.Ranking.{rank_index, has_number, last_from, last_in}
 use Rattle.puffin_view.specs.inner.Kept.{AreRising}
 use Rattle.puffin_view.specs.inner.Store.{AreHeld, AreStored}
 use Rattle.puffin_view.proofs.Placing.{rank_cmp_total}
@@ -159,14 +159,14 @@ module _ (held : HeldFrames) (recent : List ℕ) (slow : List SlowRank) (last : 
   stored_ranked = subst (AreRanked held) (sym h.slow_at) (frames_ranked held S h.slow_held)
 
 -- letting go keeps what stays
-has_itself : (r : SlowRank) (slow : List SlowRank) → has (rank_index r) (map rank_index (r ∷ slow)) ≡ true
-has_itself r slow = ap (λ b. b || has (rank_index r) (map rank_index slow)) (same (rank_index r) (rank_index r) refl) where
+has_itself : (r : SlowRank) (slow : List SlowRank) → has_number (rank_index r) (map rank_index (r ∷ slow)) ≡ true
+has_itself r slow = ap (λ b. b || has_number (rank_index r) (map rank_index slow)) (same (rank_index r) (rank_index r) refl) where
   same : (a b : ℕ) → a ≡ b → nat_eq a b ≡ true
   same a b e = grind arith
 
-all_kept : (P Q : SlowRank → Type 0) (slow : List SlowRank) → ((r : SlowRank) → has (rank_index r) (map rank_index slow) ≡ true → P r → Q r) → AllByRecursion P slow → AllByRecursion Q slow
+all_kept : (P Q : SlowRank → Type 0) (slow : List SlowRank) → ((r : SlowRank) → has_number (rank_index r) (map rank_index slow) ≡ true → P r → Q r) → AllByRecursion P slow → AllByRecursion Q slow
 all_kept P Q [] k h = tt
-all_kept P Q (r ∷ slow) k h = (k r (has_itself r slow) h.0, all_kept P Q slow (λ s e. k s (later (nat_eq (rank_index s) (rank_index r)) (has (rank_index s) (map rank_index slow)) e)) h.1) where
+all_kept P Q (r ∷ slow) k h = (k r (has_itself r slow) h.0, all_kept P Q slow (λ s e. k s (later (nat_eq (rank_index s) (rank_index r)) (has_number (rank_index s) (map rank_index slow)) e)) h.1) where
   later : (a b : Bool) → b ≡ true → (a || b) ≡ true
   later true b e = refl
   later false b e = e
@@ -174,4 +174,4 @@ all_kept P Q (r ∷ slow) k h = (k r (has_itself r slow) h.0, all_kept P Q slow 
 pub still_ranked : (old new : HeldFrames) (slow : List SlowRank) (gone : List ℕ) → LetsGo old (map rank_index slow) gone new → AreRanked old slow → AreRanked new slow
 still_ranked old new slow gone go ranked =
     all_kept (λ r. option_map rank_of (fin.get old (rank_index r)) ≡ Some r) (λ r. option_map rank_of (fin.get new (rank_index r)) ≡ Some r) slow
-    (λ r there h. ap (option_map rank_of) (go (rank_index r) ∙ ap (λ b. cond b (fin.get old (rank_index r)) (cond (has (rank_index r) gone) None (fin.get old (rank_index r)))) there) ∙ h) ranked
+    (λ r there h. ap (option_map rank_of) (go (rank_index r) ∙ ap (λ b. cond b (fin.get old (rank_index r)) (cond (has_number (rank_index r) gone) None (fin.get old (rank_index r)))) there) ∙ h) ranked

@@ -1,5 +1,7 @@
 -- What contracts see of a merger: the frames that were added to it.
 use Rattle.std.specs.Prelude.{◌≡◌, ℕ, ◌-◌, ◌^◌, ◌<◌, List, [], length}
+use Rattle.std.specs.Borrow.{Bor}
+use Rattle.puffin_threads.specs.declared.thread_profiler.thread_info.ThreadInfo.{ThreadInfo}
 use Rattle.puffin_threads.specs.Thread.ThreadKey.{ThreadKey, key_of}
 use Rattle.puffin_merge.specs.declared.merge.merger.Merger.{Merger}
 use Rattle.puffin_merge.specs.Merge.Occurrences.{FrameScopes, occurrences}
@@ -7,9 +9,13 @@ use Rattle.puffin_merge.specs.Merge.FrameBytes.{FrameBytes, HaveScopes, start_of
 use Rattle.puffin_merge.specs.Merge.Refusals.{AreAccepted}
 use Rattle.puffin_merge.specs.inner.Tables.{IsTableOf}
 
--- the info of the thread whose scopes are merged
+-- the info of the thread whose scopes are merged, as the merger borrows it
+abbrev pub lent_info : Merger → Bor ThreadInfo
+lent_info m = m.info
+
+-- the key of that thread
 abbrev pub merged_info : Merger → ThreadKey
-merged_info m = key_of m.info.now
+merged_info m = key_of (lent_info m).now
 
 -- These frames were added, in order; their scopes were accepted and are in the table.
 pub record HasAdded (added : List FrameBytes) (m : Merger) : Type 0 where

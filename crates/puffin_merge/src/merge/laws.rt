@@ -1,7 +1,7 @@
 //! Laws of merging. Each is the contract of a function that does nothing; a proof in another crate cites it by calling the
 //! function.
 
-ghost use Rattle.std.specs.Prelude.{◌≡◌, ◌↔◌, true, ℕ, pos, List, [], ◌∷◌, ◌++◌, IsPermutation};
+ghost use Rattle.std.specs.Prelude.{◌≡◌, ◌↔◌, IsTrue, ℕ, pos, List, [], ◌∷◌, ◌++◌, IsPermutation};
 ghost use Rattle.std.specs.declared.sync.Arc.{Arc};
 ghost use Rattle.std.specs.declared.alloc.Global.{Global};
 ghost use Rattle.puffin_data.specs.declared.error.Error.{Error};
@@ -62,6 +62,6 @@ pub fn same_scopes()
 /// borrowed or owned makes no difference.
 pub fn equal_scopes<'s>()
     ensures { (s t : MergeScope) →
-        (⟦<MergeScope<'s> as PartialEq>⟧.eq s t ≡ true)
+        IsTrue (⟦<MergeScope<'s> as PartialEq>⟧.eq s t)
         ↔ (forest_in (s ∷ []) ≡ forest_in (t ∷ [])) }
 {}

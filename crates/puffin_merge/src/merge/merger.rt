@@ -6,7 +6,7 @@ ghost use Rattle.puffin_merge.specs.Merge.Occurrences.{occurrences};
 ghost use Rattle.puffin_merge.specs.Merge.FrameBytes.{FrameBytes, most_tries_of};
 ghost use Rattle.puffin_merge.specs.Merge.Refusals.{IsMergeRefusal, IsRefusalAfter, AreMerged};
 ghost use Rattle.puffin_merge.specs.Merge.Scopes.{frame_bytes, forest_in};
-ghost use Rattle.puffin_merge.specs.Merge.Merger.{HasAdded, CanAdd, merged_info, tries_for};
+ghost use Rattle.puffin_merge.specs.Merge.Merger.{HasAdded, CanAdd, lent_info, merged_info, tries_for};
 
 use crate::merge::scope::MergeScope;
 use crate::merge::stream::{Merging, read_frame};
@@ -39,7 +39,7 @@ pub struct Merger<'i> {
 impl<'i> Merger<'i> {
     /// Makes a merger for the scopes of the thread `info`, without frames. Allocates nothing.
     pub fn new(alloc: Global, info: &'i ThreadInfo) -> Merger<'i>
-        ensures info { result.info.now ≡ info.now }
+        ensures info { (lent_info result).now ≡ info.now }
         ensures none { HasAdded [] result }
     {
         Merger {
@@ -65,7 +65,7 @@ impl<'i> Merger<'i> {
     /// [`Merger::finish`] may be called.
     pub fn add(&mut self, frame: &UnpackedFrameData) -> Result<()>
         requires { CanAdd self.old }
-        ensures info { self.new.info ≡ self.old.info }
+        ensures info { lent_info self.new ≡ lent_info self.old }
         ensures added { OnOk result ((added : List FrameBytes) → HasAdded added self.old →
             HasAdded (added ++ (frame_bytes (merged_info self.old) frame.now ∷ [])) self.new) }
         ensures refused { IfErr result (λ e. (added later : List FrameBytes) →
@@ -79,7 +79,7 @@ impl<'i> Merger<'i> {
     /// Adds a frame like [`Merger::add`]. Sets `tries` to the number of bytes `(` at which it tried to read a scope.
     pub(crate) fn add_counted(&mut self, frame: &UnpackedFrameData, tries: &mut u64) -> Result<()>
         requires { CanAdd self.old }
-        ensures info { self.new.info ≡ self.old.info }
+        ensures info { lent_info self.new ≡ lent_info self.old }
         ensures added { OnOk result ((added : List FrameBytes) →
             (before : HasAdded added self.old) →
             (h : HasAdded (added ++ (frame_bytes (merged_info self.old) frame.now ∷ []))

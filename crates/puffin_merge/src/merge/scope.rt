@@ -1,4 +1,6 @@
-ghost use Rattle.std.specs.Prelude.{◌≡◌, [], ◌∷◌, IfOk, IfErr};
+//! Merged scopes.
+
+ghost use Rattle.std.specs.Prelude.{◌≡◌, [], ◌∷◌, IfOk, IsOkUnless};
 ghost use Rattle.puffin_merge.specs.Merge.Scopes.{forest_in};
 
 use puffin_data::data::ScopeId;
@@ -32,7 +34,7 @@ impl<'s> MergeScope<'s> {
     /// Copies all borrowed texts, including those of the children. Fails only with `Memory`.
     pub fn into_owned(self, alloc: Global) -> Result<MergeScope<'static>>
         ensures same { IfOk result (λ owned. forest_in (owned ∷ []) ≡ forest_in (self.entry ∷ [])) }
-        ensures memory { IfErr result (λ e. e ≡ Error.Memory) }
+        ensures memory { IsOkUnless result Error.Memory }
     {
         let MergeScope {
             relative_start_ns,
@@ -64,7 +66,7 @@ impl<'s> MergeScope<'s> {
     /// Copies the scope and its children; borrowed texts stay borrowed. Fails only with `Memory`.
     pub fn clone(&self) -> Result<MergeScope<'s>>
         ensures same { IfOk result (λ copy. forest_in (copy ∷ []) ≡ forest_in (self.now ∷ [])) }
-        ensures memory { IfErr result (λ e. e ≡ Error.Memory) }
+        ensures memory { IsOkUnless result Error.Memory }
     {
         let mut children = Vec::with_capacity(*self.children.allocator(), self.children.len())?;
         for child in &self.children {

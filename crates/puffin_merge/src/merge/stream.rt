@@ -147,8 +147,6 @@ pub(crate) fn read_frame(
     ensures few { tries.new ≤ most_tries_of (frame_bytes (key_of info.now) frame.now) }
     ensures short { length (bytes_of (frame_bytes (key_of info.now) frame.now)) < 2 ^ 63 }
 {
-    // A law for the proof: threads are ordered by their infos.
-    puffin_threads::laws::order_of_keys();
     *tries = 0;
     merging.origin = origin_of(frame, first);
     let outside = Open::outside(merging.origin);

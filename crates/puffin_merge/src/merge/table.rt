@@ -1,6 +1,6 @@
 //! The nodes of a merge, in one list.
 
-ghost use Rattle.std.specs.Prelude.{◌≡◌, ◌<◌, ◌≤◌, ◌+◌, ◌-◌, ◌^◌, ◌⊎◌, ◌++◌, ◌∷◌, [], List, ℕ, vec_len, max, string_cmp, IfOk, IfErr, IfSome, IfNone, OnOk};
+ghost use Rattle.std.specs.Prelude.{◌≡◌, ◌<◌, ◌≤◌, ◌+◌, ◌-◌, ◌^◌, ◌⊎◌, ◌++◌, ◌∷◌, [], List, ℕ, vec_len, max, string_cmp, IfOk, IfErr, IfSome, IfNone, OnOk, IsOkUnless};
 ghost use Rattle.std.specs.Int.{int_min};
 ghost use Rattle.std.specs.Map.{lookup};
 ghost use Rattle.std.specs.BTreeMap.{is_at};
@@ -218,7 +218,7 @@ impl Table {
         ensures nodes { OnOk result (self.new.nodes ≡ self.old.nodes) }
         ensures numbers { OnOk result (self.new.numbers ≡ self.old.numbers) }
         ensures found { OnOk result (IsFound self.new) }
-        ensures err { IfErr result (λ e. e ≡ Error.Memory) }
+        ensures err { IsOkUnless result Error.Memory }
     {
         if let Some(number) = self.texts.get(text) {
             return Ok(*number);
@@ -261,7 +261,7 @@ impl Table {
             self.new.nodes.items
             ≡ self.old.nodes.items ++ (made_node key own_start duration ∷ [])) }
         ensures found { OnOk result (IsFound self.new) }
-        ensures err { IfErr result (λ e. e ≡ Error.Memory) }
+        ensures err { IsOkUnless result Error.Memory }
     {
         self.guesses.push(0)?;
         let place = self.nodes.len();

@@ -1,6 +1,6 @@
 //! Makes the merged scopes of a table.
 
-ghost use Rattle.std.specs.Prelude.{◌≡◌, ℕ, ◌<◌, ◌≤◌, ◌^◌, ◌/◌, ◌⊎◌, pos, FitsSigned, List, IfOk, IfErr};
+ghost use Rattle.std.specs.Prelude.{◌≡◌, ℕ, ◌<◌, ◌≤◌, ◌^◌, ◌/◌, ◌⊎◌, pos, FitsSigned, List, IfOk, IfErr, IsOkUnless};
 ghost use Rattle.std.specs.Int.{w64};
 ghost use Rattle.puffin_merge.specs.Merge.Occurrences.{Occurrence};
 ghost use Rattle.puffin_merge.specs.Merge.{IsMerge};
@@ -34,7 +34,7 @@ struct OrderedNode<'t> {
 fn ordered_nodes(alloc: Global, table: &Table) -> Result<Vec<OrderedNode<'_>>>
     ensures ordered_nodes { IfOk result (λ ordered_nodes.
         AreOrderedNodesOf table.now.nodes.items ordered_nodes.items) }
-    ensures err { IfErr result (λ e. e ≡ Error.Memory) }
+    ensures err { IsOkUnless result Error.Memory }
 {
     let mut ordered_nodes = Vec::with_capacity(alloc, table.nodes.len())?;
     for i in 0..table.nodes.len() {
@@ -153,7 +153,7 @@ fn scope_at<'s>(
         scope_then scope others
         ≡ merged (placed_node frames sums.now ordered.now placement.now)
         (forest_in children.entry.items) others) }
-    ensures err { IfErr result (λ e. e ≡ Error.Memory) }
+    ensures err { IsOkUnless result Error.Memory }
 {
     let text = ordered.text.to_string(alloc)?;
     Ok(MergeScope {

@@ -112,9 +112,9 @@ user_of (name ∷ []) = option_map (λ n. registers_user n) (name_in name)
 user_of _ = None
 
 -- a line of one word
-abbrev pub alone : Meaning → List (List ℕ) → Option Meaning
-alone what [] = Some what
-alone what (word ∷ words) = None
+abbrev pub meaning_alone : Meaning → List (List ℕ) → Option Meaning
+meaning_alone what [] = Some what
+meaning_alone what (word ∷ words) = None
 
 -- the meaning of a line, by its words
 abbrev pub line_meaning : List (List ℕ) → Option Meaning
@@ -125,6 +125,6 @@ line_meaning (verb ∷ words) =
     if bytes_eq verb (codes "function") then function_of words else
     if bytes_eq verb (codes "scope") then scope_of words else
     if bytes_eq verb (codes "user") then user_of words else
-    if bytes_eq verb (codes "snapshot") then alone tells_all words else
-    if bytes_eq verb (codes "frame") then alone takes_frame words else
+    if bytes_eq verb (codes "snapshot") then meaning_alone tells_all words else
+    if bytes_eq verb (codes "frame") then meaning_alone takes_frame words else
     if bytes_eq verb (codes "long") then long_of words else None

@@ -1,8 +1,10 @@
-ghost use Rattle.std.specs.Prelude.{◌≡◌, ◌++◌, ◌+◌, ◌-◌, ◌^◌, ◌<◌, ◌≤◌, ◌⊎◌};
+//! Why the program fails, and how it says so.
+
+ghost use Rattle.std.specs.Prelude.{◌≡◌, ◌++◌, ◌+◌, ◌≤◌, ◌⊎◌};
 ghost use Rattle.std.specs.Io.KnownBytes.{Appends};
 ghost use Rattle.arrayvec.specs.ArrayString.{array_string_len};
 ghost use Rattle.puffin_data.specs.Cause.{file_error_text};
-ghost use Rattle.puffin_data.specs.Device.{TookNothing, WritesBeginning};
+ghost use Rattle.puffin_data.specs.Device.{CanFail, TookNothing, WritesBeginning};
 ghost use Rattle.puffin_data.specs.declared.file_error.FileError.TheVariants.{Memory};
 ghost use Rattle.puffin_replay.specs.declared.replay.fault.ToolFault.TheVariants.{File};
 ghost use Rattle.puffin_replay.specs.Program.Faults.{fault_line, fault_text, status_of};
@@ -31,6 +33,14 @@ impl From<AllocError> for ToolFault {
 
     fn from(_: AllocError) -> ToolFault {
         ToolFault::File(FileError::Memory)
+    }
+}
+
+impl From<FileError> for ToolFault {
+    ghost from_gives = { λ cause fault. fault ≡ File cause };
+
+    fn from(cause: FileError) -> ToolFault {
+        ToolFault::File(cause)
     }
 }
 
@@ -88,7 +98,7 @@ fn line_of(fault: ToolFault) -> Line
 /// Writes the line that reports a fault, if there is one. Returns the program's status: 0 without a fault, 2 for wrong
 /// arguments, else 1. If the writer fails, the status is the same, and a prefix of the line has been written.
 pub fn finish<D: Drain>(fault: Option<ToolFault>, drain: &mut D) -> u8
-    requires { D.failures drain.old < 2 ^ 64 - 1 }
+    requires { CanFail D.failures drain.old }
     ensures status { result ≡ status_of fault }
     ensures beginning { WritesBeginning (D.contents drain.old) (D.contents drain.new) (
         fault_text fault) }

@@ -1,10 +1,10 @@
 //! Recording the frames that a session emits.
 
-ghost use Rattle.std.specs.Prelude.{◌≡◌, ◌⊎◌, ◌+◌, ◌-◌, ◌^◌, ◌<◌, [], All, map, option_map, IfOk, IfErr, OnOk, get_or};
+ghost use Rattle.std.specs.Prelude.{◌≡◌, ◌⊎◌, ◌+◌, [], All, map, option_map, IfOk, IfErr, OnOk, get_or};
 ghost use Rattle.std.specs.List.{Any};
 ghost use Rattle.std.specs.String.{string_bytes};
 ghost use Rattle.puffin_data.specs.declared.data.form.Form.TheVariants.{Short};
-ghost use Rattle.puffin_data.specs.Device.{TookNothing};
+ghost use Rattle.puffin_data.specs.Device.{CanFail, TookNothing};
 ghost use Rattle.puffin_frames.specs.Packet.Writing.{HasLongPart};
 ghost use Rattle.puffin_view.specs.View.{Took};
 ghost use Rattle.puffin_view.specs.View.Known.{view_of};
@@ -25,7 +25,6 @@ use puffin_frames::frame_data::FrameData;
 use puffin_frames::frame_data::laws::each_frame_is_read_again;
 use puffin_session::{Command, Reply, Session};
 use puffin_view::profile_view::FrameView;
-use puffin_view::profile_view::laws::views_hold_what_they_took;
 use std::alloc::{AllocError, Global};
 use std::sync::Arc;
 
@@ -83,10 +82,8 @@ pub(crate) fn run_into(
         (option_map (λ rs. rs.items) e.replies)) }
     ensures memory { IfErr result (λ e. e.fault ≡ FileError.Memory) }
 {
-    // By these laws, a frame's streams are read as the frame holds them, and a view and its file have only frames that the view
-    // held before or took.
+    // By this law, a frame's streams are read as the frame holds them.
     each_frame_is_read_again();
-    views_hold_what_they_took();
     let replies = match session.run(commands) {
         Ok(replies) => replies,
         Err(_) => {
@@ -122,7 +119,7 @@ pub fn record_session<D: Drain>(
     view: &mut FrameView,
     drain: &mut D,
 ) -> Result<Vec<Reply>, FileError>
-    requires { D.failures drain.old < 2 ^ 64 - 1 }
+    requires { CanFail D.failures drain.old }
     // The commands were run, each emitted frame has what was due, the view took these frames, and its file was written.
     ensures recorded { IfOk result (λ replies.
         IsRecorded session.old session.new commands.now replies.items view.old view.new
@@ -162,7 +159,7 @@ pub fn record<D: Drain>(
     view: &mut FrameView,
     drain: &mut D,
 ) -> Result<Vec<Reply>, FileError>
-    requires { D.failures drain.old < 2 ^ 64 - 1 }
+    requires { CanFail D.failures drain.old }
     ensures recorded { IfOk result (λ replies.
         (end : SessionState)
         × IsRecorded (new_session (map (λ name. (string_bytes name, Short)) names.items)) end
@@ -180,10 +177,8 @@ pub fn record<D: Drain>(
     ensures too_long { (result ≡ Err FileError.PartTooLong) →
         Any HasLongPart (fields_in (view_of view.new)) }
 {
-    match Session::new(alloc, names) {
-        Ok(mut session) => record_session(&mut session, commands, view, drain),
-        Err(_) => Err(FileError::Memory),
-    }
+    let mut session = Session::new(alloc, names)?;
+    record_session(&mut session, commands, view, drain)
 }
 
 /// Makes an empty view that packs no frames. Its frames stay as the replies have them, and are packed when they are written.
@@ -233,8 +228,8 @@ pub fn run_script<D: Drain, E: Drain>(
     out: &mut D,
     lines: &mut E,
 ) -> Result<(), FileError>
-    requires out { D.failures out.old < 2 ^ 64 - 1 }
-    requires lines { E.failures lines.old < 2 ^ 64 - 1 }
+    requires out { CanFail D.failures out.old }
+    requires lines { CanFail E.failures lines.old }
     ensures ok { OnOk result (
         IsReplayed script.now (D.contents out.old) (D.contents out.new) (E.contents lines.old)
         (E.contents lines.new)) }
@@ -250,10 +245,7 @@ pub fn run_script<D: Drain, E: Drain>(
         × (E.failures lines.new ≡ E.failures lines.old)) }
 {
     let threads = threads_of(alloc, script)?;
-    let mut session = match Session::with_forms(alloc, threads) {
-        Ok(session) => session,
-        Err(_) => return Err(FileError::Memory),
-    };
+    let mut session = Session::with_forms(alloc, threads)?;
     let mut view = loose_view(alloc);
     let replies = record_session(&mut session, &script.commands, &mut view, out)?;
     let text = reply_lines(alloc, &script.lines, &replies)?;

@@ -1,7 +1,8 @@
 //! Reading a script.
 
-ghost use Rattle.std.specs.Prelude.{◌≡◌, ◌+◌, ◌-◌, ◌^◌, ◌<◌, ◌⊎◌, List, ℕ, [], ◌∷◌, ◌++◌, Ok, Some, option_map, length, map, position, MatchOption, MatchResult, IfOk, IfErr, OnOk, slice_get};
+ghost use Rattle.std.specs.Prelude.{◌≡◌, ◌+◌, ◌^◌, ◌<◌, ◌⊎◌, List, ℕ, [], ◌∷◌, ◌++◌, Ok, Some, option_map, length, map, position, MatchOption, MatchResult, IfOk, IfErr, OnOk, slice_get};
 ghost use Rattle.std.specs.String.{string_bytes};
+ghost use Rattle.puffin_data.specs.Device.{CanFail};
 ghost use Rattle.puffin_report.specs.Count.{ReadsAll};
 ghost use Rattle.puffin_replay.specs.Script.Statements.{Meaning, begins, ends, registers, registers_user};
 ghost use Rattle.puffin_replay.specs.inner.ScriptReading.{meaning_of, lines_left, names_in, IsNumbered, Follows, IsReading};
@@ -310,11 +311,7 @@ fn script_of(alloc: Global, bytes: &[u8]) -> Result<Script, ToolFault>
     let mut lines = Lines { left: Some(bytes) };
     'lines: while let Some(line) = lines.next() {
         number += 1;
-        let statement = match parse_line(number, line) {
-            Ok(statement) => statement,
-            Err(fault) => return Err(fault),
-        };
-        if let Some(statement) = &statement {
+        if let Some(statement) = &parse_line(number, line)? {
             if reading.threads.is_late(statement) {
                 return Err(ToolFault::Line(number));
             }
@@ -334,7 +331,7 @@ fn script_of(alloc: Global, bytes: &[u8]) -> Result<Script, ToolFault>
 /// let script = read_script(alloc, &mut Counted::new(b"begin main 100 1\nend main 200\nframe\n".as_slice()))?;
 /// ```
 pub fn read_script<S: Source>(alloc: Global, source: &mut S) -> Result<Script, ToolFault>
-    requires { S.failures source.old < 2 ^ 64 - 1 }
+    requires { CanFail S.failures source.old }
     ensures script { IfOk result (λ script.
         (bytes : List ℕ)
         × ReadsAll (S.remaining source.old) (S.remaining source.new) bytes
@@ -349,9 +346,6 @@ pub fn read_script<S: Source>(alloc: Global, source: &mut S) -> Result<Script, T
     ensures io { (result ≡ Err (ToolFault.File FileError.Io)) →
         S.failures source.new ≡ S.failures source.old + 1 }
 {
-    let bytes = match read_to_end(alloc, source) {
-        Ok(bytes) => bytes,
-        Err(cause) => return Err(ToolFault::File(cause)),
-    };
+    let bytes = read_to_end(alloc, source)?;
     script_of(alloc, bytes.as_slice())
 }

@@ -1,3 +1,5 @@
+//! The tasks of the program, and its arguments.
+
 ghost use Rattle.std.specs.Prelude.{◌≡◌, option_map, map, IfOk, IfErr};
 ghost use Rattle.std.specs.String.{string_bytes};
 ghost use Rattle.puffin_replay.specs.Program.Arguments.{signed_moment_in, start_in, thread_of_word, report_by, request_of, request_in, HasPaths};

@@ -1,6 +1,6 @@
 -- The frames of the code as a view's model holds them.
 use Rattle.std.specs.Prelude.{List, map, is_some}
-use denote.Ref.{Bor}
+use Rattle.std.specs.Borrow.{Bor}
 use Rattle.std.specs.Arc.{arc_value}
 use Rattle.std.specs.declared.sync.Arc.{Arc}
 use Rattle.puffin_frames.specs.declared.frame_data.frame.FrameData.{FrameData}

@@ -12,7 +12,7 @@ use Rattle.puffin_view.specs.declared.profile_view.listings.SlowestFrames.{Slowe
 use Rattle.puffin_view.specs.declared.profile_view.listings.AllFrames.{AllFrames}
 use Rattle.puffin_view.specs.View.ViewedFrames.{Frame, index_of}
 use Rattle.puffin_view.specs.View.FrameOf.{shared_frame}
-use Rattle.puffin_view.specs.View.Ranking.{rank_index, has}
+use Rattle.puffin_view.specs.View.Ranking.{rank_index, has_number}
 
 abbrev pub frames_left : FrameRowsIter → List (Arc FrameData Global)
 frames_left s = s.older ++ deque_iter_rest s.newest
@@ -25,5 +25,5 @@ all_left s = map shared_frame (frames_left s.rest)
 
 abbrev pub slowest_left : SlowestFrames → List Frame
 slowest_left s =
-    filter (λ f. has (index_of f) (map rank_index s.slow.now.items)) (
+    filter (λ f. has_number (index_of f) (map rank_index s.slow.now.items)) (
     map shared_frame (frames_left s.rest))

@@ -43,8 +43,8 @@ last_in [] = None
 last_in (x ∷ xs) = Some (last_from x xs)
 
 -- whether an index is in a list
-abbrev pub has : ℕ → List ℕ → Bool
-has q is = list_any (nat_eq q) is
+abbrev pub has_number : ℕ → List ℕ → Bool
+has_number q is = list_any (nat_eq q) is
 
 -- the index of a rank's frame
 abbrev pub rank_index : SlowRank → ℕ

@@ -8,6 +8,16 @@ use Rattle.puffin_view.specs.View.ViewedFrames.{Frame, ram_of}
 abbrev pub cut : ℕ → ℕ
 cut n = min (2 ^ 64 - 1) n
 
+-- the three numbers of statistics
+abbrev pub frames_counted : FrameStats → ℕ
+frames_counted s = s.frames
+
+abbrev pub unpacked_counted : FrameStats → ℕ
+unpacked_counted s = s.unpacked_frames
+
+abbrev pub ram_counted : FrameStats → ℕ
+ram_counted s = s.bytes_of_ram_used
+
 abbrev pub stats_of : List Frame → FrameStats
 stats_of fs = record {
   frames = cut (length fs);

@@ -44,11 +44,11 @@ abbrev pub ram_if : {A : Type 0} → Option (Arc FrameData A) → ℕ
 ram_if o = unwrap_or (option_map ram_taken o) 0
 
 -- a sum as it wraps around in a u128
-abbrev pub wrapped : ℕ → ℕ
-wrapped n = n % 2 ^ 128
+abbrev pub wrapped_sum : ℕ → ℕ
+wrapped_sum n = n % 2 ^ 128
 
 -- the sums are those of the frames
 pub record IsSummed {A : Type 0} (es : List (ℕ × Arc FrameData A)) (sums : RunningStats) : Type 0 where
   pub ordered : IsStrictlySortedBy nat_cmp (keys_of es)
-  pub unpacked_frames : sums.unpacked_frames ≡ wrapped (sum_by unpacked_number (values_of es))
-  pub bytes : sums.bytes_of_ram_used ≡ wrapped (sum_by ram_taken (values_of es))
+  pub unpacked_frames : sums.unpacked_frames ≡ wrapped_sum (sum_by unpacked_number (values_of es))
+  pub bytes : sums.bytes_of_ram_used ≡ wrapped_sum (sum_by ram_taken (values_of es))

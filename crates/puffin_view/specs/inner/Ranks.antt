@@ -5,7 +5,7 @@ use Rattle.std.specs.Option.{option_map, option_map_or}
 use Rattle.std.specs.Ordering.{is_lt}
 use Rattle.std.specs.FinMap as map
 use Rattle.puffin_view.specs.declared.profile_view.slow_rank.SlowRank.{SlowRank}
-use Rattle.puffin_view.specs.View.Ranking.{place, last_in, rank_index, has}
+use Rattle.puffin_view.specs.View.Ranking.{place, last_in, rank_index, has_number}
 use Rattle.puffin_view.specs.View.FrameRanks.{rank_of, rank_cmp}
 use Rattle.puffin_view.specs.inner.Held.{HeldFrames}
 
@@ -33,5 +33,6 @@ AreRanked held slow =
 -- what was held is still held, except under the indices in gone that aren't in stays
 abbrev pub LetsGo : HeldFrames → List ℕ → List ℕ → HeldFrames → Type 0
 LetsGo old stays gone new =
-    (q : ℕ) →
-    map.get new q ≡ cond (has q stays) (map.get old q) (cond (has q gone) None (map.get old q))
+    (q : ℕ) → map.get new q
+    ≡ cond (has_number q stays) (map.get old q) (
+    cond (has_number q gone) None (map.get old q))

@@ -1,11 +1,11 @@
 //! Files of views.
 
-ghost use Rattle.std.specs.Prelude.{◌≡◌, ◌⊎◌, ◌+◌, ◌-◌, ◌^◌, ◌<◌, true, IfErr, OnOk};
+ghost use Rattle.std.specs.Prelude.{◌≡◌, ◌⊎◌, ◌+◌, IsTrue, IfErr, OnOk};
 ghost use Rattle.std.specs.List.{AllByRecursion, Any};
 ghost use Rattle.std.specs.Io.KnownBytes.{Appends};
 ghost use Rattle.puffin_data.specs.declared.error.Error.{Error};
 ghost use Rattle.puffin_data.specs.declared.file_error.FileError.{FileError};
-ghost use Rattle.puffin_data.specs.Device.{TookNothing, WritesBeginning, failures_after};
+ghost use Rattle.puffin_data.specs.Device.{CanFail, TookNothing, WritesBeginning, failures_after};
 ghost use Rattle.puffin_frames.specs.Packet.Grammar.{IsPacked};
 ghost use Rattle.puffin_frames.specs.Packet.Writing.{HasLongPart};
 ghost use Rattle.puffin_view.specs.View.ViewedFrames.{fields_of};
@@ -16,8 +16,8 @@ ghost use Rattle.puffin_view.specs.View.File.{file_of, fields_in, file_at, Reads
 
 use crate::profile_view::frame_file::{read_magic, write_magic};
 use crate::profile_view::frame_view::FrameView;
+use puffin_data::FileError;
 use puffin_data::data::{Drain, Source};
-use puffin_data::{Error, FileError};
 use puffin_frames::frame_data::FrameData;
 use std::alloc::Global;
 use std::sync::Arc;
@@ -27,16 +27,12 @@ fn add_read(alloc: Global, view: &mut FrameView, frame: FrameData) -> Result<(),
     ensures ok { OnOk result (Adds (frame_of frame) view.old view.new) }
     ensures missing { IfErr result (λ e.
         e ≡ FileError.Refused Error.MissingId →
-        lacks_ids (fields_of (frame_of frame)) ≡ true) }
+        IsTrue (lacks_ids (fields_of (frame_of frame)))) }
     ensures cause { IfErr result (λ e.
         (e ≡ FileError.Refused Error.MissingId) ⊎ (e ≡ FileError.Memory)) }
 {
     let frame = Arc::new(alloc, frame)?;
-    match view.add_frame(frame) {
-        Ok(()) => Ok(()),
-        Err(Error::Memory) => Err(FileError::Memory),
-        Err(cause) => Err(FileError::Refused(cause)),
-    }
+    Ok(view.add_frame(frame)?)
 }
 
 impl FrameView {
@@ -50,7 +46,7 @@ impl FrameView {
     /// view.write(&mut Counted::new(File::create(&rt, "frames.puffin")?))?;
     /// ```
     pub fn write<D: Drain>(&self, drain: &mut D) -> Result<(), FileError>
-        requires { D.failures drain.old < 2 ^ 64 - 1 }
+        requires { CanFail D.failures drain.old }
         ensures ok { OnOk result (
             Appends (D.contents drain.old) (D.contents drain.new) (
             file_of (fields_in (view_of self.now)))) }
@@ -87,7 +83,7 @@ impl FrameView {
     /// let view = FrameView::read(alloc, &mut Counted::new(File::open(&rt, "frames.puffin")?))?;
     /// ```
     pub fn read<S: Source>(alloc: Global, source: &mut S) -> Result<FrameView, FileError>
-        requires { S.failures source.old < 2 ^ 64 - 1 }
+        requires { CanFail S.failures source.old }
         ensures file { ReadsView file_at (S.remaining source.old) (S.remaining source.new) result }
         ensures failures { S.failures source.new ≡ failures_after (S.failures source.old) result }
     {

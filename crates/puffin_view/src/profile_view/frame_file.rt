@@ -1,9 +1,9 @@
 //! Files of frames, one frame at a time.
 
-ghost use Rattle.std.specs.Prelude.{◌≡◌, ◌≢◌, ◌⊎◌, ◌+◌, ◌-◌, ◌^◌, ◌<◌, ◌++◌, ◌∷◌, [], List, ℕ, false, true, Option, None, length, Err, Ok, IfOk, IfErr, IfSome, IfNone, OnOk};
+ghost use Rattle.std.specs.Prelude.{◌≡◌, ◌≢◌, ◌⊎◌, ◌+◌, ◌-◌, ◌^◌, ◌<◌, ◌++◌, ◌∷◌, [], List, ℕ, IsFalse, IsTrue, Option, None, length, Err, Ok, IfOk, IfErr, IfSome, IfNone, OnOk, IsOkUnless};
 ghost use Rattle.std.specs.Io.KnownBytes.{Appends, Consumes};
 ghost use Rattle.puffin_data.specs.declared.file_error.FileError.{FileError};
-ghost use Rattle.puffin_data.specs.Device.{TookNothing, WritesBeginning, failures_after, is_io};
+ghost use Rattle.puffin_data.specs.Device.{CanFail, TookNothing, WritesBeginning, failures_after, is_io};
 ghost use Rattle.puffin_frames.specs.Packet.Stored.{PacketFields, Stored};
 ghost use Rattle.puffin_frames.specs.Packet.Next.{stored_of, IsFresh};
 ghost use Rattle.puffin_frames.specs.Packet.Grammar.{IsPacked, packet};
@@ -28,7 +28,7 @@ fn is_magic(letters: [u8; 4]) -> bool
 
 /// Reads the four letters that a file begins with, `PUF0`, from a borrowed source. Fails like [`FrameReader::new`].
 pub fn read_magic<S: Source>(source: &mut S) -> Result<(), FileError>
-    requires { S.failures source.old < 2 ^ 64 - 1 }
+    requires { CanFail S.failures source.old }
     ensures begun { OnOk result (
         HasGiven (S.remaining source.old) (S.remaining source.new) []) }
     ensures err { IfErr result (λ e.
@@ -49,10 +49,10 @@ pub fn read_magic<S: Source>(source: &mut S) -> Result<(), FileError>
 
 /// Reads the next frame, and checks that all of its details have ids.
 fn checked_frame<S: Source>(alloc: Global, source: &mut S) -> Result<Option<FrameData>, FileError>
-    requires { S.failures source.old < 2 ^ 64 - 1 }
+    requires { CanFail S.failures source.old }
     ensures next { GivesNext (S.remaining source.old) (S.remaining source.new) result }
     ensures ids { IfOk result (λ next. IfSome next (λ frame.
-        lacks_ids (packet_fields frame) ≡ false)) }
+        IsFalse (lacks_ids (packet_fields frame)))) }
     ensures fresh { IfOk result (λ next. IfSome next IsFresh) }
     ensures failures { S.failures source.new ≡ failures_after (S.failures source.old) result }
 {
@@ -68,7 +68,7 @@ fn checked_frame<S: Source>(alloc: Global, source: &mut S) -> Result<Option<Fram
 /// Reads the next frame from a borrowed source, after [`read_magic`]. Returns and fails like [`FrameReader::next`], except that
 /// a call after the end or a fault reads on.
 pub fn next_frame<S: Source>(alloc: Global, source: &mut S) -> Result<Option<FrameData>, FileError>
-    requires { S.failures source.old < 2 ^ 64 - 1 }
+    requires { CanFail S.failures source.old }
     ensures given { IfOk result (λ next. IfSome next (λ frame.
         (old : Option (List ℕ)) (frames : List Stored) →
         HasGiven old (S.remaining source.old) frames →
@@ -83,7 +83,7 @@ pub fn next_frame<S: Source>(alloc: Global, source: &mut S) -> Result<Option<Fra
     // The same for this call alone.
     ensures next { GivesNext (S.remaining source.old) (S.remaining source.new) result }
     ensures ids { IfOk result (λ next. IfSome next (λ frame.
-        lacks_ids (packet_fields frame) ≡ false)) }
+        IsFalse (lacks_ids (packet_fields frame)))) }
     ensures fresh { IfOk result (λ next. IfSome next IsFresh) }
     ensures failures { S.failures source.new ≡ failures_after (S.failures source.old) result }
 {
@@ -92,7 +92,7 @@ pub fn next_frame<S: Source>(alloc: Global, source: &mut S) -> Result<Option<Fra
 
 /// Writes the letters that a file begins with.
 pub(super) fn write_magic<D: Drain>(drain: &mut D) -> Result<(), FileError>
-    requires { D.failures drain.old < 2 ^ 64 - 1 }
+    requires { CanFail D.failures drain.old }
     ensures ok { OnOk result (Appends (D.contents drain.old) (D.contents drain.new) magic) }
     ensures err { IfErr result (λ e.
         (e ≡ FileError.Io)
@@ -117,7 +117,7 @@ pub struct FrameReader<S: Source> {
     source: S,
     /// True after the end or a fault.
     is_done: bool,
-    ghost countable: { is_done ≡ false → S.failures source < 2 ^ 64 - 1 },
+    ghost countable: { IsFalse is_done → CanFail S.failures source },
 }
 
 impl<S: Source> FrameReader<S> {
@@ -130,7 +130,7 @@ impl<S: Source> FrameReader<S> {
     pub fn new(alloc: Global, source: S) -> Result<FrameReader<S>, FileError>
     where
         S: Drop,
-        requires { S.failures source < 2 ^ 64 - 1 }
+        requires { CanFail S.failures source }
         ensures begun { IfOk result (λ reader.
             HasGiven (S.remaining source) (S.remaining (source_of reader)) []) }
         // what a failure left of the source that was dropped
@@ -141,7 +141,7 @@ impl<S: Source> FrameReader<S> {
         ensures cause { IfErr result (λ e. (e ≡ FileError.NoMagic) ⊎ (e ≡ FileError.Io)) }
         ensures failures { IfOk result (λ reader.
             S.failures (source_of reader) ≡ S.failures source) }
-        ensures not_done { IfOk result (λ reader. is_done_of reader ≡ false) }
+        ensures not_done { IfOk result (λ reader. IsFalse (is_done_of reader)) }
     {
         let mut source = source;
         read_magic(&mut source)?;
@@ -164,7 +164,7 @@ impl<S: Source> FrameReader<S> {
             HasGiven old (S.remaining (source_of self.new)) (frames ++ stored_of frame ∷ []))) }
         // At the end these are all frames of the file, as when it is read at once.
         ensures end { IfOk result (λ next. IfNone next (
-            is_done_of self.old ≡ false →
+            IsFalse (is_done_of self.old) →
             (old : Option (List ℕ)) (frames : List Stored) →
             HasGiven old (S.remaining (source_of self.old)) frames →
             length frames < 2 ^ 64 - 1 →
@@ -176,14 +176,14 @@ impl<S: Source> FrameReader<S> {
             FailsToRead file_at old (S.remaining (source_of self.new)) e) }
         // It goes on after a frame, and only then.
         ensures goes_on { is_done_of self.new ≡ ends_reading result }
-        ensures done { is_done_of self.old ≡ true →
+        ensures done { IsTrue (is_done_of self.old) →
             (result ≡ Ok None) × (self.new ≡ self.old) }
 
         // The same for this call alone.
-        ensures next { is_done_of self.old ≡ false → GivesNext
+        ensures next { IsFalse (is_done_of self.old) → GivesNext
             (S.remaining (source_of self.old)) (S.remaining (source_of self.new)) result }
         ensures ids { IfOk result (λ next. IfSome next (λ frame.
-            lacks_ids (packet_fields frame) ≡ false)) }
+            IsFalse (lacks_ids (packet_fields frame)))) }
         ensures fresh { IfOk result (λ next. IfSome next IsFresh) }
         ensures failures { S.failures (source_of self.new)
             ≡ failures_after (S.failures (source_of self.old)) result }
@@ -215,7 +215,7 @@ pub struct FrameWriter<D: Drain> {
     drain: D,
     /// True after `Io`: a prefix of a packet may have been written, and nothing after it would be read.
     is_broken: bool,
-    ghost countable: { is_broken ≡ false → D.failures drain < 2 ^ 64 - 1 },
+    ghost countable: { IsFalse is_broken → CanFail D.failures drain },
 }
 
 impl<D: Drain> FrameWriter<D> {
@@ -228,7 +228,7 @@ impl<D: Drain> FrameWriter<D> {
     pub fn new(drain: D) -> Result<FrameWriter<D>, FileError>
     where
         D: Drop,
-        requires { D.failures drain < 2 ^ 64 - 1 }
+        requires { CanFail D.failures drain }
         ensures begun { IfOk result (λ writer.
             HoldsFile (D.contents drain) (D.contents (drain_of writer)) []) }
         // what a failure left of the drain that was dropped
@@ -236,10 +236,10 @@ impl<D: Drain> FrameWriter<D> {
             (dropped : D)
             × WritesBeginning (D.contents drain) (D.contents dropped) magic
             × ((D.failures dropped ≡ D.failures drain + 1) ⊎ TookNothing D.takes dropped)) }
-        ensures cause { IfErr result (λ e. e ≡ FileError.Io) }
+        ensures cause { IsOkUnless result FileError.Io }
         ensures failures { IfOk result (λ writer.
             D.failures (drain_of writer) ≡ D.failures drain) }
-        ensures not_broken { IfOk result (λ writer. is_broken_of writer ≡ false) }
+        ensures not_broken { IfOk result (λ writer. IsFalse (is_broken_of writer)) }
     {
         let mut drain = drain;
         write_magic(&mut drain)?;
@@ -262,7 +262,7 @@ impl<D: Drain> FrameWriter<D> {
             HoldsSoFar (is_broken_of self.new) old (D.contents (drain_of self.new))
             (written_after result cs (packet_fields frame.now)) }
         ensures breaks { is_broken_of self.new ≡ is_io result }
-        ensures broken { is_broken_of self.old ≡ true →
+        ensures broken { IsTrue (is_broken_of self.old) →
             (result ≡ Err FileError.Io) × (self.new ≡ self.old) }
         ensures written { OnOk result ((old : Option (List ℕ)) (cs : List PacketFields) →
             HoldsFile old (D.contents (drain_of self.old)) cs →
@@ -275,8 +275,8 @@ impl<D: Drain> FrameWriter<D> {
         ensures packed { OnOk result (IsPacked (packet_fields frame.now)) }
 
         // The same for this call alone.
-        ensures packet { is_broken_of self.old ≡ false → WritesPacket D.contents D.failures D.takes
-            (drain_of self.old) (drain_of self.new)
+        ensures packet { IsFalse (is_broken_of self.old) →
+            WritesPacket D.contents D.failures D.takes (drain_of self.old) (drain_of self.new)
             (packet (packet_fields frame.now)) (HasLongPart (packet_fields frame.now)) result }
     {
         if self.is_broken {

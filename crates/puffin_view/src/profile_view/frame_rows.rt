@@ -1,5 +1,5 @@
 //! Frames sorted by index: the newest in a row, older ones in a map.
-ghost use Rattle.std.specs.Prelude.{◌≡◌, ◌<◌, ◌∷◌, ◌++◌, [], None, length, IfNone, IfOk, IfErr, IfSome, IsSome, OnErr, OnOk, nat_eq, false};
+ghost use Rattle.std.specs.Prelude.{◌≡◌, ◌<◌, ◌∷◌, ◌++◌, [], None, length, IfNone, IfOk, IfSome, IsSome, OnErr, OnOk, nat_eq, false, IsOkUnless};
 ghost use Rattle.std.specs.BTreeMap.{insert_entry, is_at};
 ghost use Rattle.std.specs.Iterator.{YieldsFirstBy, item_count};
 ghost use Rattle.std.specs.List.{AllZip, HoldsAt};
@@ -63,7 +63,7 @@ impl FrameRows {
             rows_of self.new
             ≡ rows_of self.old ++ (index_of (shared_frame frame), frame) ∷ []) }
         ensures err { OnErr result (rows_of self.new ≡ rows_of self.old) }
-        ensures cause { IfErr result (λ e. e ≡ Error.Memory) }
+        ensures cause { IsOkUnless result Error.Memory }
     {
         self.newest.reserve(1)?;
         self.newest.push_back_reserved(frame);
@@ -132,7 +132,7 @@ impl FrameRows {
         ensures ok { IfOk result (λ copy.
             AllZip (λ p q. (q.0 ≡ p.0) × (arc_value q.1 ≡ arc_value p.1)) (rows_of self.now) (
             rows_of copy)) }
-        ensures cause { IfErr result (λ e. e ≡ Error.Memory) }
+        ensures cause { IsOkUnless result Error.Memory }
     {
         Ok(FrameRows {
             older: self.older.clone()?,

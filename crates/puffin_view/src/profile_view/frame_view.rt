@@ -1,5 +1,5 @@
 //! Views of frames.
-ghost use Rattle.std.specs.Prelude.{◌≡◌, ◌↔◌, [], IfOk, IfErr, IsTrue};
+ghost use Rattle.std.specs.Prelude.{◌≡◌, ◌↔◌, [], IfOk, IsTrue, IsOkUnless};
 ghost use Rattle.std.specs.Option.{option_map};
 ghost use Rattle.puffin_data.specs.declared.error.Error.{Error};
 ghost use Rattle.puffin_threads.specs.Details.Collection.{no_details};
@@ -122,10 +122,7 @@ impl FrameView {
     pub fn latest_frame(&self) -> Option<&Arc<FrameData>>
         ensures { option_map (λ a. shared_frame a.now) result ≡ last_in (view_of self.now).recent }
     {
-        match self.recent.back() {
-            Some(index) => self.held.get(*index),
-            None => None,
-        }
+        self.held.get(*self.recent.back()?)
     }
 
     /// Iterates over the last `n` of the recent frames, oldest first; over all of them if there are fewer.
@@ -185,7 +182,7 @@ impl FrameView {
     /// Returns a copy, which shares this view's frames and details. Fails only with `Memory`.
     pub fn clone(&self) -> Result<FrameView>
         ensures same { IfOk result (λ copy. copy ≡ self.now) }
-        ensures cause { IfErr result (λ e. e ≡ Error.Memory) }
+        ensures cause { IsOkUnless result Error.Memory }
     {
         Ok(FrameView {
             held: self.held.clone()?,

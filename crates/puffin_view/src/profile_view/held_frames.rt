@@ -1,5 +1,5 @@
 //! The frames of a view by their indices.
-ghost use Rattle.std.specs.Prelude.{◌≡◌, ℕ, ◌≤◌, None, OnOk, OnErr, IfOk, IfErr, IsSome};
+ghost use Rattle.std.specs.Prelude.{◌≡◌, ℕ, ◌≤◌, None, OnOk, OnErr, IfOk, IsSome, IsOkUnless};
 ghost use Rattle.std.specs.FinMap as map;
 ghost use Rattle.std.specs.Option.{option_map};
 ghost use Rattle.puffin_data.specs.declared.error.Error.{Error};
@@ -64,7 +64,7 @@ impl HeldFrames {
             self.new
             ≡ map.insert self.old (index_of (shared_frame frame)) (shared_frame frame)) }
         ensures err { OnErr result (self.new ≡ self.old) }
-        ensures cause { IfErr result (λ e. e ≡ Error.Memory) }
+        ensures cause { IsOkUnless result Error.Memory }
     {
         let is_unpacked = frame.has_unpacked();
         let bytes = frame.bytes_of_ram_used();
@@ -112,7 +112,7 @@ impl HeldFrames {
     /// Returns a copy, which shares the frames. Fails only with `Memory`.
     pub fn clone(&self) -> Result<HeldFrames>
         ensures ok { IfOk result (λ copy. copy ≡ self.now) }
-        ensures cause { IfErr result (λ e. e ≡ Error.Memory) }
+        ensures cause { IsOkUnless result Error.Memory }
     {
         Ok(HeldFrames {
             frames: self.frames.clone()?,

@@ -1,7 +1,7 @@
 //! Laws of views and their files, as contracts of functions that do nothing. A proof in another crate cites a law by calling
 //! its function.
 
-ghost use Rattle.std.specs.Prelude.{ℕ, Bool, List, ◌≡◌, ◌↔◌, ◌<◌, ◌<ℤ◌, ◌≤◌, false, Option, Some, None, [], ◌∷◌, ◌++◌, ◌-◌, ◌^◌, true, Ok, Err, length, map, drop, nat_lt, if◌then◌else◌};
+ghost use Rattle.std.specs.Prelude.{ℕ, Bool, List, ◌≡◌, ◌↔◌, ◌<◌, ◌<ℤ◌, ◌≤◌, IsFalse, Option, Some, None, [], ◌∷◌, ◌++◌, ◌-◌, ◌^◌, IsTrue, Ok, Err, length, map, drop, nat_lt, if◌then◌else◌};
 ghost use Rattle.std.specs.List.{AllPairs, AllByRecursion, list_any};
 ghost use Rattle.std.specs.declared.cmp.Ordering.TheVariants.{Less, Equal};
 ghost use Rattle.std.specs.Ordering.{eq_by_cmp};
@@ -35,7 +35,7 @@ use puffin_frames::frame_data::laws::{only_packets_are_read, written_is_read};
 pub fn slowest_first()
     ensures first { (k : ℕ) (cs : List PacketFields) → AreFirst is_slower k cs (slowest k cs) }
     ensures in_order { (k : ℕ) (cs : List PacketFields) →
-        AllPairs (λ c d. is_slower d c ≡ false) (slowest k cs) }
+        AllPairs (λ c d. IsFalse (is_slower d c)) (slowest k cs) }
 {}
 
 /// Frames are ordered by duration, longest first, then by index. The order is total, and two frames tie exactly when they have
@@ -81,10 +81,10 @@ pub fn ranks_by_duration()
 /// passes it, no frame in the file does.
 pub fn views_hold_what_they_took()
     ensures held { (p : PacketFields → Bool) (v : View) (fs : List Frame) →
-        list_any p (fields_held v) ≡ false → list_any p (map fields_of fs) ≡ false →
-        list_any p (fields_held (after_all v fs)) ≡ false }
-    ensures listed { (p : PacketFields → Bool) (v : View) → list_any p (fields_held v) ≡ false →
-        list_any p (fields_in v) ≡ false }
+        IsFalse (list_any p (fields_held v)) → IsFalse (list_any p (map fields_of fs)) →
+        IsFalse (list_any p (fields_held (after_all v fs))) }
+    ensures listed { (p : PacketFields → Bool) (v : View) → IsFalse (list_any p (fields_held v)) →
+        IsFalse (list_any p (fields_in v)) }
 {}
 
 /// A written file of fewer than `2^64 - 1` frames, followed by an end (four zero bytes, or fewer than four bytes), is read as
@@ -92,10 +92,10 @@ pub fn views_hold_what_they_took()
 /// written as the same bytes.
 pub fn written_files_are_read()
     ensures again { (cs : List PacketFields) (end : List ℕ) → AllByRecursion IsPacked cs →
-        length cs < 2 ^ 64 - 1 → is_end end ≡ true → list_any lacks_ids cs ≡ false →
+        length cs < 2 ^ 64 - 1 → IsTrue (is_end end) → IsFalse (list_any lacks_ids cs) →
         file_at (file_of cs ++ end) ≡ Ok (map packed cs, drop 4 end) }
     ensures missing { (cs : List PacketFields) (end : List ℕ) → AllByRecursion IsPacked cs →
-        length cs < 2 ^ 64 - 1 → is_end end ≡ true → list_any lacks_ids cs ≡ true →
+        length cs < 2 ^ 64 - 1 → IsTrue (is_end end) → IsTrue (list_any lacks_ids cs) →
         file_at (file_of cs ++ end) ≡ Err (FileError.Refused Error.MissingId) }
     ensures one_list { (cs ds : List PacketFields) → AllByRecursion IsPacked cs →
         AllByRecursion IsPacked ds → file_of cs ≡ file_of ds → cs ≡ ds }
@@ -111,10 +111,10 @@ pub fn only_files_are_read()
     ensures read { (bytes : List ℕ) (frames : List Stored) (after : List ℕ) → IsBytes bytes →
         (file_at bytes ≡ Ok (frames, after))
         ↔ (IsFile bytes frames after × (length frames < 2 ^ 64 - 1)
-        × (list_any lacks_ids (fields_stored frames) ≡ false)) }
+        × IsFalse (list_any lacks_ids (fields_stored frames))) }
     ensures missing { (bytes : List ℕ) (frames : List Stored) (after : List ℕ) → IsBytes bytes →
         IsFile bytes frames after → length frames < 2 ^ 64 - 1 →
-        list_any lacks_ids (fields_stored frames) ≡ true →
+        IsTrue (list_any lacks_ids (fields_stored frames)) →
         file_at bytes ≡ Err (FileError.Refused Error.MissingId) }
 {
     // For the proof alone: a law of packets.
@@ -138,7 +138,7 @@ pub fn what_was_written_is_read()
     ensures fault { (cs : List PacketFields) (new : Option (List ℕ)) (e : FileError) →
         AllByRecursion IsPacked cs → length cs < 2 ^ 64 - 1 →
         FailsToRead file_at (Some (file_of cs)) new e → ¬ IsOutside e →
-        (e ≡ FileError.Refused Error.MissingId) × (list_any lacks_ids cs ≡ true) }
+        (e ≡ FileError.Refused Error.MissingId) × IsTrue (list_any lacks_ids cs) }
     ensures view { (v : View) (new : Option (List ℕ)) (view : FrameView) →
         AllByRecursion IsPacked (fields_in v) → length (fields_in v) < 2 ^ 64 - 1 →
         ReadsView file_at (Some (file_of (fields_in v))) new (Ok view) →
@@ -158,10 +158,10 @@ pub fn reading_keeps_what_rises()
     ensures kept { (fs : List Frame) → length fs < 2 ^ 64 - 1 →
         fields_in (after_all read_view fs) ≡ rising_end (map fields_of fs) }
     ensures goes_on { (cs : List PacketFields) (c : PacketFields) →
-        rises_behind (last_index cs) c ≡ true →
+        IsTrue (rises_behind (last_index cs) c) →
         rising_end (cs ++ c ∷ []) ≡ rising_end cs ++ c ∷ [] }
     ensures begins_anew { (cs : List PacketFields) (c : PacketFields) →
-        rises_behind (last_index cs) c ≡ false →
+        IsFalse (rises_behind (last_index cs) c) →
         rising_end (cs ++ c ∷ []) ≡ c ∷ [] }
 {}
 
@@ -176,22 +176,22 @@ pub fn cut_files_give_whole_frames()
     // what a call that reads it at once returns
     ensures file { (cs : List PacketFields) (bytes : List ℕ) (whole : List PacketFields)
         (h : IsCut cs bytes whole) → AllByRecursion IsPacked cs → length cs < 2 ^ 64 - 1 →
-        list_any lacks_ids cs ≡ false →
+        IsFalse (list_any lacks_ids cs) →
         file_at bytes
         ≡ (if nat_lt (length h.left) 4 then Ok (map packed whole, [])
         else Err FileError.Truncated) }
     // what a reader has given so far: the first of these frames
     ensures given { (cs : List PacketFields) (bytes : List ℕ) (whole : List PacketFields) →
-        IsCut cs bytes whole → AllByRecursion IsPacked cs → list_any lacks_ids cs ≡ false →
+        IsCut cs bytes whole → AllByRecursion IsPacked cs → IsFalse (list_any lacks_ids cs) →
         (new : Option (List ℕ)) (frames : List Stored) → HasGiven (Some bytes) new frames →
         (given more : List PacketFields) × (whole ≡ given ++ more) × (frames ≡ map packed given) }
     // all of them, once it is at the end or fails with a fault of the bytes
     ensures end { (cs : List PacketFields) (bytes : List ℕ) (whole : List PacketFields) →
-        IsCut cs bytes whole → AllByRecursion IsPacked cs → list_any lacks_ids cs ≡ false →
+        IsCut cs bytes whole → AllByRecursion IsPacked cs → IsFalse (list_any lacks_ids cs) →
         (mid new : Option (List ℕ)) (frames : List Stored) → HasGiven (Some bytes) mid frames →
         GivesNext mid new (Ok None) → frames ≡ map packed whole }
     ensures fault { (cs : List PacketFields) (bytes : List ℕ) (whole : List PacketFields) →
-        IsCut cs bytes whole → AllByRecursion IsPacked cs → list_any lacks_ids cs ≡ false →
+        IsCut cs bytes whole → AllByRecursion IsPacked cs → IsFalse (list_any lacks_ids cs) →
         (mid new : Option (List ℕ)) (frames : List Stored) (e : FileError) →
         HasGiven (Some bytes) mid frames → GivesNext mid new (Err e) → ¬ IsOutside e →
         (e ≡ FileError.Truncated) × (frames ≡ map packed whole) }

@@ -12,6 +12,7 @@ use std::sync::Arc;
 
 /// Iterates over recent frames of a view, oldest first. Returned by
 /// [`FrameView::recent_frames`](crate::profile_view::FrameView::recent_frames) and `latest_frames`.
+#[must_use = "iterators are lazy and do nothing unless consumed"]
 #[derive(Drop)]
 pub struct RecentFrames<'a> {
     rest: vec_deque::Iter<'a, FrameIndex>,
@@ -50,6 +51,7 @@ impl<'a> Iterator for RecentFrames<'a> {
 
 /// Iterates over all frames of a view, each once, in ascending order of index. Returned by
 /// [`FrameView::all_uniq`](crate::profile_view::FrameView::all_uniq).
+#[must_use = "iterators are lazy and do nothing unless consumed"]
 #[derive(Drop)]
 pub struct AllFrames<'a> {
     rest: FrameRowsIter<'a>,
@@ -80,6 +82,7 @@ impl<'a> Iterator for AllFrames<'a> {
 
 /// Iterates over the slowest frames of a view, in ascending order of index. Returned by
 /// [`FrameView::slowest_frames_chronological`](crate::profile_view::FrameView::slowest_frames_chronological).
+#[must_use = "iterators are lazy and do nothing unless consumed"]
 #[derive(Drop)]
 pub struct SlowestFrames<'a> {
     rest: FrameRowsIter<'a>,

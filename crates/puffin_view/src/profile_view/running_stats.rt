@@ -1,7 +1,7 @@
 //! Running sums over the frames of a view.
 ghost use Rattle.std.specs.Prelude.{◌≡◌, ◌+◌, ℕ};
 ghost use Rattle.puffin_view.specs.View.Stats.{cut};
-ghost use Rattle.puffin_view.specs.inner.Held.{number_if, ram_if, unpacked_if, wrapped};
+ghost use Rattle.puffin_view.specs.inner.Held.{number_if, ram_if, unpacked_if, wrapped_sum};
 
 use crate::profile_view::stats::FrameStats;
 use puffin_frames::frame_data::FrameData;
@@ -28,8 +28,8 @@ impl RunningStats {
     /// Adds one frame to the sums.
     pub fn raise(&mut self, is_unpacked: bool, bytes: usize)
         ensures { self.new ≡ record {
-          unpacked_frames = wrapped (self.old.unpacked_frames + number_if is_unpacked);
-          bytes_of_ram_used = wrapped (self.old.bytes_of_ram_used + bytes);
+          unpacked_frames = wrapped_sum (self.old.unpacked_frames + number_if is_unpacked);
+          bytes_of_ram_used = wrapped_sum (self.old.bytes_of_ram_used + bytes);
         } }
     {
         self.unpacked_frames = self.unpacked_frames.wrapping_add(is_unpacked as u128);
@@ -39,11 +39,11 @@ impl RunningStats {
     /// Subtracts one frame, if there is one, from the sums.
     pub fn lower(&mut self, frame: Option<Arc<FrameData>>)
         ensures unpacked_frames { (rest : ℕ)
-            → self.old.unpacked_frames ≡ wrapped (rest + unpacked_if frame)
-            → self.new.unpacked_frames ≡ wrapped rest }
+            → self.old.unpacked_frames ≡ wrapped_sum (rest + unpacked_if frame)
+            → self.new.unpacked_frames ≡ wrapped_sum rest }
         ensures bytes { (rest : ℕ)
-            → self.old.bytes_of_ram_used ≡ wrapped (rest + ram_if frame)
-            → self.new.bytes_of_ram_used ≡ wrapped rest }
+            → self.old.bytes_of_ram_used ≡ wrapped_sum (rest + ram_if frame)
+            → self.new.bytes_of_ram_used ≡ wrapped_sum rest }
     {
         if let Some(frame) = frame {
             self.unpacked_frames = self

@@ -1,5 +1,5 @@
 //! Selects the slowest of a list of frames.
-ghost use Rattle.std.specs.Prelude.{◌≡◌, ◌++◌, IfOk, IfErr, OnOk, map, filter_map, slice_get};
+ghost use Rattle.std.specs.Prelude.{◌≡◌, ◌++◌, IfOk, OnOk, map, filter_map, slice_get, IsOkUnless};
 ghost use Rattle.std.specs.Option.{option_to_list};
 ghost use Rattle.puffin_data.specs.declared.error.Error.{Error};
 ghost use Rattle.puffin_view.specs.View.FrameOf.{frame_of, frames_of};
@@ -47,11 +47,11 @@ pub(super) struct ByIndex {
 /// Returns the places of all frames of a list. Fails only with `Memory`.
 fn slow_places(alloc: Global, frames: &[Arc<FrameData>]) -> Result<Vec<ByDuration>>
     ensures ok { IfOk result (λ v. map slow_place v.items ≡ ranks_from 0 (frames_of frames.now)) }
-    ensures cause { IfErr result (λ e. e ≡ Error.Memory) }
+    ensures cause { IsOkUnless result Error.Memory }
 {
     let mut places = Vec::with_capacity(alloc, frames.len())?;
-    for place in 0..frames.len() {
-        places.push(ByDuration::of(&frames[place], place))?;
+    'frames: for (place, frame) in frames.iter().enumerate() {
+        places.push(ByDuration::of(frame, place))?;
     }
     Ok(places)
 }
@@ -59,11 +59,10 @@ fn slow_places(alloc: Global, frames: &[Arc<FrameData>]) -> Result<Vec<ByDuratio
 /// Converts places to `ByIndex`, in the same order. Fails only with `Memory`.
 fn old_places(alloc: Global, slow: &[ByDuration]) -> Result<Vec<ByIndex>>
     ensures ok { IfOk result (λ v. map old_place v.items ≡ map slow_place slow.now) }
-    ensures cause { IfErr result (λ e. e ≡ Error.Memory) }
+    ensures cause { IsOkUnless result Error.Memory }
 {
     let mut places = Vec::with_capacity(alloc, slow.len())?;
-    for k in 0..slow.len() {
-        let at = slow[k];
+    for at in slow {
         places.push(ByIndex {
             frame_index: at.frame_index,
             place: at.place,
@@ -78,7 +77,7 @@ fn push_at(all: &mut Vec<Arc<FrameData>>, frames: &[Arc<FrameData>], place: usiz
     ensures ok { OnOk result (
         frames_of all.new.items
         ≡ frames_of all.old.items ++ option_to_list (slice_get (frames_of frames.now) place)) }
-    ensures cause { IfErr result (λ e. e ≡ Error.Memory) }
+    ensures cause { IsOkUnless result Error.Memory }
 {
     match frames.get(place) {
         Some(frame) => {
@@ -98,11 +97,11 @@ fn frames_at(
     ensures ok { IfOk result (λ v.
         frames_of v.items ≡ filter_map (λ r. slice_get (frames_of frames.now) r.place) (
         map old_place places.now)) }
-    ensures cause { IfErr result (λ e. e ≡ Error.Memory) }
+    ensures cause { IsOkUnless result Error.Memory }
 {
     let mut all = Vec::with_capacity(alloc, places.len())?;
-    for k in 0..places.len() {
-        push_at(&mut all, frames, places[k].place)?;
+    for chosen in places {
+        push_at(&mut all, frames, chosen.place)?;
     }
     Ok(all)
 }
@@ -120,7 +119,7 @@ pub fn select_slowest(
     max: usize,
 ) -> Result<Vec<Arc<FrameData>>>
     ensures ok { IfOk result (λ v. IsSelection max (frames_of frames.now) (frames_of v.items)) }
-    ensures cause { IfErr result (λ e. e ≡ Error.Memory) }
+    ensures cause { IsOkUnless result Error.Memory }
 {
     let places = slow_places(alloc, frames)?;
     let ranked: Vec<ByDuration> = places.into_iter().sorted(alloc)?.take(max).collect(alloc)?;

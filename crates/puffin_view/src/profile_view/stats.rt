@@ -3,7 +3,7 @@ ghost use Rattle.std.specs.Prelude.{◌≡◌, ◌+◌, []};
 ghost use Rattle.std.specs.Iterator.{IsFinite};
 ghost use Rattle.std.specs.Iterator.Runs.{WholeRun};
 ghost use Rattle.puffin_view.specs.View.FrameOf.{frame_of, lent_frames};
-ghost use Rattle.puffin_view.specs.View.Stats.{stats_of};
+ghost use Rattle.puffin_view.specs.View.Stats.{stats_of, frames_counted, unpacked_counted, ram_counted};
 ghost use Rattle.puffin_view.specs.inner.FrameCounts.{with_frame};
 
 use puffin_frames::frame_data::FrameData;
@@ -46,21 +46,21 @@ impl FrameStats {
 
     /// Returns the number of frames.
     pub fn frames(&self) -> usize
-        ensures { result ≡ self.now.frames }
+        ensures { result ≡ frames_counted self.now }
     {
         self.frames
     }
 
     /// Returns the number of frames that are held unpacked, whether or not they are packed too.
     pub fn unpacked_frames(&self) -> usize
-        ensures { result ≡ self.now.unpacked_frames }
+        ensures { result ≡ unpacked_counted self.now }
     {
         self.unpacked_frames
     }
 
     /// Returns how many bytes the frames take: those of their streams, unpacked and packed.
     pub fn bytes_of_ram_used(&self) -> usize
-        ensures { result ≡ self.now.bytes_of_ram_used }
+        ensures { result ≡ ram_counted self.now }
     {
         self.bytes_of_ram_used
     }

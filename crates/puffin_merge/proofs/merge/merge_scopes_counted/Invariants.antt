@@ -6,10 +6,10 @@ use Rattle.puffin_merge.specs.Merge.Scopes.{frames_bytes}
 use Rattle.puffin_merge.proofs.AllAdded.{AddedFirst}
 use Rattle.puffin_merge.proofs.merge.merge_scopes_counted.Given as goal
 
-abbrev pub invariant-loop-i : goal.invariant-loop-i
-invariant-loop-i l = record {
+abbrev pub invariant-loop-frame : goal.invariant-loop-frame
+invariant-loop-frame l = record {
   info : key_of l.merger.info.now ≡ key_of l.info;
-  added : AddedFirst (frames_bytes (key_of l.info) l.frames) l.i l.merger l.tries;
-  few : l.tries ≤ most_tries (take l.i (frames_bytes (key_of l.info) l.frames));
-  low : l.tries ≤ l.i * 2 ^ 64;
+  added : AddedFirst (frames_bytes (key_of l.info) l.frames) l.frame-index l.merger l.tries;
+  few : l.tries ≤ most_tries (take l.frame-index (frames_bytes (key_of l.info) l.frames));
+  low : l.tries ≤ l.frame-index * 2 ^ 64;
 }

@@ -1,9 +1,10 @@
 -- What was given is summed up.
-use Rattle.std.proofs.Common.{List, [], ◌∷◌, ◌++◌, ◌∙◌, inl, arith, length-append}
+use Rattle.std.proofs.Common.{List, [], ◌∷◌, ◌++◌, ◌∙◌, inl, arith, length, length-append}
 use Rattle.std.proofs.lemmas.Result.{err_from_is_err_and}
 use Rattle.puffin_threads.specs.Thread.ThreadKey.{key_of}
 use Rattle.puffin_frames.specs.Packet.Stored.{Stored}
 use Rattle.puffin_frames.specs.Packet.Next.{stored_of}
+use Rattle.puffin_view.proofs.lemmas.FilesRead.{spent, most_frames}
 use Rattle.puffin_report.proofs.Stepping.{fresh_frame, room_left, none_left, ends_so, if_ok_so, if_err_so}
 use Rattle.puffin_report.proofs.summary.summarize.Goals as goal
 
@@ -42,4 +43,4 @@ frames-preserved g c =
 pub returns-clause-err : goal.returns-clause-err
 returns-clause-err g c =
     let before = c.frames.invariant in
-    inl (c.files_have_an_end.ensures _ _ before.0 before.1 (none_left before.0 c.frames.counter before.3 c.frames-test.false c.frames.auto.counter-end))
+    inl (spent _ _ before.0 (most_frames (length before.0) (none_left before.0 c.frames.counter before.3 c.frames-test.false c.frames.auto.counter-end)) before.1)

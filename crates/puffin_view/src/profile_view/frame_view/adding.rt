@@ -1,5 +1,5 @@
 //! Adding frames to a view.
-ghost use Rattle.std.specs.Prelude.{◌≡◌, ◌⊎◌, ◌↔◌, true, false, OnOk, OnErr, IfErr};
+ghost use Rattle.std.specs.Prelude.{◌≡◌, ◌⊎◌, ◌↔◌, IsTrue, IsFalse, OnOk, OnErr, IfErr, IsOkUnless};
 ghost use Rattle.puffin_data.specs.declared.error.Error.{Error};
 ghost use Rattle.puffin_threads.specs.Details.Collection.{no_details};
 ghost use Rattle.puffin_view.specs.View.ViewedFrames.{fields_of, index_of};
@@ -44,7 +44,7 @@ impl FrameView {
             HoldsAlso (shared_frame frame) (view_of self.old) (view_of self.new)) }
         ensures ok { OnOk result (Adds (shared_frame frame) self.old self.new) }
         ensures missing { (result ≡ Err Error.MissingId)
-            ↔ (lacks_ids (fields_of (shared_frame frame)) ≡ true) }
+            ↔ IsTrue (lacks_ids (fields_of (shared_frame frame))) }
         ensures unchanged { (result ≡ Err Error.MissingId) → self.new ≡ self.old }
         ensures cause { IfErr result (λ e. (e ≡ Error.MissingId) ⊎ (e ≡ Error.Memory)) }
         // What may have changed if it fails.
@@ -89,7 +89,7 @@ impl FrameView {
         ensures ok { OnOk result (
             self.new ≡ with_frames self.old (with_newest_packed (view_of self.old))) }
         ensures err { OnErr result (self.new ≡ self.old) }
-        ensures cause { IfErr result (λ e. e ≡ Error.Memory) }
+        ensures cause { IsOkUnless result Error.Memory }
     {
         let alloc = *self.recent.allocator();
         let Some(newest) = self.latest_frame() else {
@@ -105,11 +105,11 @@ impl FrameView {
 
     /// Adds a frame, whose index must be above that of the last frame taken. Fails only with `Memory`; nothing changes then.
     fn join(&mut self, frame: Arc<FrameData>) -> Result<()>
-        requires { is_past (view_of self.old) (index_of (shared_frame frame)) ≡ false }
+        requires { IsFalse (is_past (view_of self.old) (index_of (shared_frame frame))) }
         ensures ok { OnOk result (
             self.new ≡ with_frames self.old (joined_by (view_of self.old) (shared_frame frame))) }
         ensures err { OnErr result (self.new ≡ self.old) }
-        ensures cause { IfErr result (λ e. e ≡ Error.Memory) }
+        ensures cause { IsOkUnless result Error.Memory }
     {
         let rank = SlowRank::of(&frame);
         self.recent.reserve(1)?;
@@ -141,7 +141,7 @@ impl FrameView {
         ensures err { OnErr result (
             KeepsFrames (view_of self.old) (index_of (shared_frame frame)) (view_of self.new)) }
         ensures collection { collection_of self.new ≡ collection_of self.old }
-        ensures cause { IfErr result (λ e. e ≡ Error.Memory) }
+        ensures cause { IsOkUnless result Error.Memory }
         ensures steady { IsSteady (view_of self.old) }
     {
         if self.is_past(frame.frame_index()) {

@@ -1,6 +1,7 @@
 -- What was run is what each frame says that the view takes; and what is left where it is refused.
 use Rattle.std.proofs.Common.{rules, refl, subst, inl, inr}
 use Rattle.puffin_view.specs.View.Known.{view_of, lacks_ids}
+use Rattle.puffin_view.proofs.lemmas.FramesHeld.{held_or_taken, listed_is_held}
 use Rattle.puffin_replay.specs.Program.EmittedFrames.{frames_emitted, TakesSome}
 use Rattle.puffin_session.specs.Session.Runs.{Records}
 use Rattle.puffin_replay.proofs.DueFrames.{emits}
@@ -23,11 +24,11 @@ returns-in-Ok-add_frames-clause-taken c =
     let old = c.args.view.now in
     let new = c.add_frames.new.view in
     let taken = subst (λ rs. TakesAll (frames_emitted rs) old new) c.deref.ensures.value (c.in-Ok-add_frames.ensures.ok, c.in-Ok-add_frames.ensures.took) in
-    let held = ids_kept c.views_hold_what_they_took.ensures.held c.in-Ok.replies.items old new c.in-Ok.ensures.ids taken.0 in
+    let held = ids_kept held_or_taken c.in-Ok.replies.items old new c.in-Ok.ensures.ids taken.0 in
     record {
       run = emits c.each_frame_is_read_again.ensures.again c.args.session.now c.run.new.self c.args.commands.now c.in-Ok.replies.items run;
       view = taken.0;
       took = taken.1;
       held_ids = held;
-      ids = λ before. c.views_hold_what_they_took.ensures.listed lacks_ids (view_of new) (held before);
+      ids = λ before. listed_is_held lacks_ids (view_of new) (held before);
     }

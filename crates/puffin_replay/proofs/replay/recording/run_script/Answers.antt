@@ -19,7 +19,7 @@ returns-in_err-replies-clause-fails g c =
     let script = c.args.script.now in
     rw (p.1, p.2)
     (unfinished script (map (λ t. (string_bytes t.0, t.1)) c.in_ok-threads.threads.items) c.deref.result.now c.in_ok-threads.ensures c.deref.ensures.value c.loose_view-view.result c.record_session.new.view c.loose_view-view.ensures.frames c.in_err-replies.field-0.0 (g.D.Drain.contents c.args.out.now) (g.D.Drain.contents c.record_session.new.drain) (g.E.Drain.contents c.args.lines.now)
-    (c.record_session.new.session, subst (λ (s : SessionState). IsBroken s c.record_session.new.session c.deref.result.now c.loose_view-view.result c.record_session.new.view (g.D.Drain.contents c.args.out.now) (g.D.Drain.contents c.record_session.new.drain) c.in_err-replies.field-0.0) c.in-Ok.ensures.new c.in_err-replies.ensures.broken) (λ e. c.in_err-replies.ensures.too_long (ap Err e)))
+    (c.record_session.new.session, subst (λ (s : SessionState). IsBroken s c.record_session.new.session c.deref.result.now c.loose_view-view.result c.record_session.new.view (g.D.Drain.contents c.args.out.now) (g.D.Drain.contents c.record_session.new.drain) c.in_err-replies.field-0.0) c.in_ok-session.ensures.new c.in_err-replies.ensures.broken) (λ e. c.in_err-replies.ensures.too_long (ap Err e)))
 
 pub returns-in_err-text-clause-fails : goal.returns-in_err-text-clause-fails
 returns-in_err-text-clause-fails g c =
@@ -28,7 +28,7 @@ returns-in_err-text-clause-fails g c =
     let recorded = c.in_ok-replies.ensures.recorded in
     let ran = recorded.taken in
     let end = c.record_session.new.session in
-    let run : (last : SessionState) × EmitsDue (new_session (map (λ t. (string_bytes t.0, t.1)) c.in_ok-threads.threads.items)) last c.deref.result.now c.in_ok-replies.replies.items = (end, subst (λ (s : SessionState). EmitsDue s end c.deref.result.now c.in_ok-replies.replies.items) c.in-Ok.ensures.new ran.run) in
+    let run : (last : SessionState) × EmitsDue (new_session (map (λ t. (string_bytes t.0, t.1)) c.in_ok-threads.threads.items)) last c.deref.result.now c.in_ok-replies.replies.items = (end, subst (λ (s : SessionState). EmitsDue s end c.deref.result.now c.in_ok-replies.replies.items) c.in_ok-session.ensures.new ran.run) in
     let ids = ran.ids (subst (λ (v : View). NoneLacksIds (fields_held v)) (sym c.loose_view-view.ensures.frames) refl) in
     rw p.1
     (no_lines script (map (λ t. (string_bytes t.0, t.1)) c.in_ok-threads.threads.items) c.deref.result.now c.in_ok-threads.ensures c.deref.ensures.value c.loose_view-view.result c.record_session.new.view c.loose_view-view.ensures.frames c.in_ok-replies.replies.items run ran.view
@@ -40,7 +40,7 @@ returns-clause-ok g c =
     let recorded = c.in_ok-replies.ensures.recorded in
     let ran = recorded.taken in
     let end = c.record_session.new.session in
-    let run : (last : SessionState) × EmitsDue (new_session (map (λ t. (string_bytes t.0, t.1)) c.in_ok-threads.threads.items)) last c.deref.result.now c.in_ok-replies.replies.items = (end, subst (λ (s : SessionState). EmitsDue s end c.deref.result.now c.in_ok-replies.replies.items) c.in-Ok.ensures.new ran.run) in
+    let run : (last : SessionState) × EmitsDue (new_session (map (λ t. (string_bytes t.0, t.1)) c.in_ok-threads.threads.items)) last c.deref.result.now c.in_ok-replies.replies.items = (end, subst (λ (s : SessionState). EmitsDue s end c.deref.result.now c.in_ok-replies.replies.items) c.in_ok-session.ensures.new ran.run) in
     let ids = ran.ids (subst (λ (v : View). NoneLacksIds (fields_held v)) (sym c.loose_view-view.ensures.frames) refl) in
     let lines = c.as_bytes.ensures.value ∙ c.in_ok-text.ensures ∙ ap (λ (ns : List ℕ). reply_lines ns c.deref-3.result.now) c.deref-2.ensures.value ∙ ap (λ (rs : List Reply). reply_lines script.lines.items rs) c.deref-3.ensures.value in
     on_ok_weaker c.write_all.result
@@ -54,7 +54,7 @@ returns-clause-fails g c =
     let recorded = c.in_ok-replies.ensures.recorded in
     let ran = recorded.taken in
     let end = c.record_session.new.session in
-    let run : (last : SessionState) × EmitsDue (new_session (map (λ t. (string_bytes t.0, t.1)) c.in_ok-threads.threads.items)) last c.deref.result.now c.in_ok-replies.replies.items = (end, subst (λ (s : SessionState). EmitsDue s end c.deref.result.now c.in_ok-replies.replies.items) c.in-Ok.ensures.new ran.run) in
+    let run : (last : SessionState) × EmitsDue (new_session (map (λ t. (string_bytes t.0, t.1)) c.in_ok-threads.threads.items)) last c.deref.result.now c.in_ok-replies.replies.items = (end, subst (λ (s : SessionState). EmitsDue s end c.deref.result.now c.in_ok-replies.replies.items) c.in_ok-session.ensures.new ran.run) in
     let ids = ran.ids (subst (λ (v : View). NoneLacksIds (fields_held v)) (sym c.loose_view-view.ensures.frames) refl) in
     let lines = c.as_bytes.ensures.value ∙ c.in_ok-text.ensures ∙ ap (λ (ns : List ℕ). reply_lines ns c.deref-3.result.now) c.deref-2.ensures.value ∙ ap (λ (rs : List Reply). reply_lines script.lines.items rs) c.deref-3.ensures.value in
     told-cut _ _ c.write_all.result

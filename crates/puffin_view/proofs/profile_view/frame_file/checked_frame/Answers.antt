@@ -3,7 +3,7 @@ use Rattle.puffin_threads.specs.Details.{shared_details}
 use Rattle.puffin_frames.specs.Frame.Contents.{frame_details}
 use Rattle.puffin_view.specs.View.ViewedFrames.{Frame, fields_of}
 use Rattle.puffin_view.specs.View.Known.{lacks_ids}
-use Rattle.puffin_view.proofs.FilesRead.{checked, refused}
+use Rattle.puffin_view.proofs.lemmas.FilesRead.{checked, refused}
 use Rattle.puffin_view.proofs.FileFrames.{fresh_frame, tested}
 use Rattle.puffin_view.proofs.profile_view.frame_file.checked_frame.Goals as goal
 

@@ -1,4 +1,4 @@
-use Rattle.puffin_view.proofs.FilesRead.{given_more, all_given, fault_given}
+use Rattle.puffin_view.proofs.lemmas.FilesRead.{given_more, all_given, fault_given}
 use Rattle.puffin_view.proofs.profile_view.frame_file.next_frame.Goals as goal
 
 pub returns-clause-given : goal.returns-clause-given

@@ -1,4 +1,4 @@
-use Rattle.std.proofs.Common.{◌≡◌, ◌<◌, ◌≤◌, arith, length, rules, of_calls}
+use Rattle.std.proofs.Common.{arith, rules, of_calls}
 use Rattle.std.proofs.lemmas.Fn.{always_returns_same}
 use Rattle.puffin_view.specs.View.ViewedFrames.{index_of}
 use Rattle.puffin_view.specs.View.FrameOf.{shared_frame}

@@ -1,4 +1,4 @@
-use Rattle.puffin_view.proofs.ReadingViews.{kept_by_reading, end_goes_on, end_begins_anew}
+use Rattle.puffin_view.proofs.lemmas.ReadingViews.{kept_by_reading, end_goes_on, end_begins_anew}
 use Rattle.puffin_view.proofs.profile_view.laws.reading_keeps_what_rises.Goals as goal
 
 pub returns-clause-kept : goal.returns-clause-kept

@@ -1,4 +1,4 @@
-use Rattle.puffin_view.proofs.FramesHeld.{held_or_taken, listed_is_held}
+use Rattle.puffin_view.proofs.lemmas.FramesHeld.{held_or_taken, listed_is_held}
 use Rattle.puffin_view.proofs.profile_view.laws.views_hold_what_they_took.Goals as goal
 
 pub returns-clause-held : goal.returns-clause-held

@@ -1,5 +1,5 @@
 use Rattle.puffin_view.proofs.FilesAgain.{frames_again, fault_again, view_again}
-use Rattle.puffin_view.proofs.FramesHeld.{read_again}
+use Rattle.puffin_view.proofs.lemmas.FramesHeld.{read_again}
 use Rattle.puffin_view.proofs.profile_view.laws.what_was_written_is_read.Goals as goal
 
 pub returns-clause-frames : goal.returns-clause-frames

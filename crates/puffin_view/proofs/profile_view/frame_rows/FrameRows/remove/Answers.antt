@@ -1,4 +1,4 @@
-use Rattle.std.proofs.Common.{◌≡◌, ◌<◌, ◌++◌, arith, length, sym, ap, ◌∙◌}
+use Rattle.std.proofs.Common.{◌<◌, ◌++◌, arith, length, sym, ap, ◌∙◌}
 use Rattle.std.specs.VecDeque.{deque_len}
 use Rattle.puffin_view.specs.inner.Rows.{keyed}
 use Rattle.puffin_view.proofs.Rows.{at, rest_sorted, lookup-first, remove-first}

@@ -5,9 +5,9 @@ use Rattle.puffin_view.proofs.Storing.{newest_held}
 use Rattle.puffin_view.proofs.Placing.{last_or_of}
 use Rattle.puffin_view.proofs.profile_view.frame_view.FrameView.latest_frame.Goals as goal
 
-pub returns-in-Some : goal.returns-in-Some
-returns-in-Some c =
+pub returns : goal.returns
+returns c =
     let s = c.self.inside in
-    let filled : 0 < deque_len s.recent = c.in-Some.ensures.variant.0 refl in
+    let filled : 0 < deque_len s.recent = c.in_ok-back.ensures.variant.0 refl in
     let as_many : deque_len s.recent ≡ length s.recent.items = omega arith in
-    c.get.ensures ∙ newest_held s.held s.recent.items s.slow.items s.last _ _ c.in-Some.index.now c.self.invariant (last_or_of s.recent.items (deque_len s.recent) c.in-Some.index.now as_many filled c.in-Some.ensures.lookup) ∙ ap (λ v. last_in v.frames.recent) c.self.view_is
+    c.get.ensures ∙ newest_held s.held s.recent.items s.slow.items s.last _ _ c.in_ok-back.field-0.now c.self.invariant (last_or_of s.recent.items (deque_len s.recent) c.in_ok-back.field-0.now as_many filled c.in_ok-back.ensures.lookup) ∙ ap (λ v. last_in v.frames.recent) c.self.view_is

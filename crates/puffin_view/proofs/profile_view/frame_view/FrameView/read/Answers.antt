@@ -5,7 +5,7 @@ use Rattle.puffin_frames.specs.Packet.Next.{stored_of}
 use Rattle.puffin_view.specs.View.FrameOf.{frame_of}
 use Rattle.puffin_view.specs.View.Known.{view_of, collection_of}
 use Rattle.puffin_view.specs.View.{View}
-use Rattle.puffin_view.proofs.FilesRead.{spent, none_left, failed, all_given, fault_given}
+use Rattle.puffin_view.proofs.lemmas.FilesRead.{spent, none_left, failed, all_given, fault_given}
 use Rattle.puffin_view.proofs.FileFrames.{fresh_frame, view_of_frames, view_of_more, refused_frame, given_frame}
 use Rattle.puffin_view.proofs.profile_view.frame_view.FrameView.read.Goals as goal
 

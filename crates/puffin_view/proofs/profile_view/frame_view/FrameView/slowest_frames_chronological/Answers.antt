@@ -4,12 +4,12 @@ use Rattle.puffin_view.specs.declared.profile_view.slow_rank.SlowRank.{SlowRank}
 use Rattle.puffin_view.specs.View.ViewedFrames.{Frame, index_of, chronological}
 use Rattle.puffin_view.specs.View.FrameOf.{frames_of}
 use Rattle.puffin_view.specs.View.Listings.{frames_left}
-use Rattle.puffin_view.specs.View.Ranking.{rank_index, has}
+use Rattle.puffin_view.specs.View.Ranking.{rank_index, has_number}
 use Rattle.puffin_view.proofs.Chronology.{slow_listed}
 use Rattle.puffin_view.proofs.profile_view.frame_view.FrameView.slowest_frames_chronological.Goals as goal
 
 slow_of : List SlowRank → List Frame → List Frame
-slow_of rs fs = filter (λ f. has (index_of f) (map rank_index rs)) fs
+slow_of rs fs = filter (λ f. has_number (index_of f) (map rank_index rs)) fs
 
 pub returns : goal.returns
 unfolding slow_of

@@ -1,4 +1,4 @@
-use Rattle.std.proofs.Common.{◌≡◌, ℕ, ◌≤◌, sym, ap, subst, ◌∙◌, ◌+◌, arith, None, refl}
+use Rattle.std.proofs.Common.{◌≡◌, ℕ, ◌≤◌, sym, ap, subst, ◌∙◌, ◌+◌, arith, None}
 use Rattle.std.specs.FinMap as fin
 use Rattle.std.specs.List.Sorted.{IsStrictlySortedBy}
 use Rattle.std.specs.Map.{keys_of, lookup}
@@ -6,7 +6,7 @@ use Rattle.std.specs.Ordering.{nat_cmp}
 use Rattle.std.specs.BTreeMap.{insert_entry}
 use Rattle.puffin_view.specs.View.ViewedFrames.{index_of, ram_of}
 use Rattle.puffin_view.specs.View.FrameOf.{frame_of, shared_frame}
-use Rattle.puffin_view.specs.inner.Held.{unpacked_number, ram_taken, number_if, wrapped}
+use Rattle.puffin_view.specs.inner.Held.{unpacked_number, ram_taken, number_if, wrapped_sum}
 use Rattle.puffin_view.specs.inner.Rows.{rows_of}
 use Rattle.puffin_view.proofs.Rows.{at, below_none, insert-last, sorted-insert, lookup-insert}
 use Rattle.puffin_view.proofs.HoldingViews.{sum_inserted, held_of-inserted, ram_says, not_seen, plus_none}
@@ -32,11 +32,11 @@ invariant_of-self-2 c =
       ordered = subst (λ l. IsStrictlySortedBy nat_cmp (keys_of l)) (sym (put c)) (sorted-insert k c.args.frame es c.self.invariant.ordered);
       unpacked_frames = sum_inserted unpacked_number es (rows_of c.push.new.self) k c.args.frame None
           c.self.inside.sums.unpacked_frames c.self.inside.sums.unpacked_frames c.raise.new.self.unpacked_frames (put c) none c.self.invariant.ordered c.self.invariant.unpacked_frames
-          (λ rest e. e ∙ ap wrapped (plus_none rest)) (ap (λ s. s.unpacked_frames) c.raise.ensures ∙ ap (λ b. wrapped (c.self.inside.sums.unpacked_frames + number_if b)) (unpacked_is c));
+          (λ rest e. e ∙ ap wrapped_sum (plus_none rest)) (ap (λ s. s.unpacked_frames) c.raise.ensures ∙ ap (λ b. wrapped_sum (c.self.inside.sums.unpacked_frames + number_if b)) (unpacked_is c));
       bytes = sum_inserted ram_taken es (rows_of c.push.new.self) k c.args.frame None
           c.self.inside.sums.bytes_of_ram_used c.self.inside.sums.bytes_of_ram_used c.raise.new.self.bytes_of_ram_used (put c) none c.self.invariant.ordered c.self.invariant.bytes
-          (λ rest e. e ∙ ap wrapped (plus_none rest))
-          (ap (λ s. s.bytes_of_ram_used) c.raise.ensures ∙ ap (λ n. wrapped (c.self.inside.sums.bytes_of_ram_used + n)) (c.bytes_of_ram_used-bytes.ensures ∙ ram_says c.deref-2.result.now ∙ ap (λ f. ram_of (frame_of f)) c.deref-2.ensures));
+          (λ rest e. e ∙ ap wrapped_sum (plus_none rest))
+          (ap (λ s. s.bytes_of_ram_used) c.raise.ensures ∙ ap (λ n. wrapped_sum (c.self.inside.sums.bytes_of_ram_used + n)) (c.bytes_of_ram_used-bytes.ensures ∙ ram_says c.deref-2.result.now ∙ ap (λ f. ram_of (frame_of f)) c.deref-2.ensures));
     }
 
 pub returns-clause-ok : goal.returns-clause-ok

@@ -10,7 +10,7 @@ use Rattle.std.specs.declared.cmp.Ordering.TheVariants.{Less, Equal, Greater}
 use Rattle.std.specs.FinMap as fin
 use Rattle.std.specs.FinMap.Entries.{by_order, below_all, is_sorted, same_entries}
 use Rattle.puffin_frames.specs.Packet.Stored.{PacketFields, packed}
-use Rattle.puffin_view.specs.View.Ranking.{place, last_of, last_in, has}
+use Rattle.puffin_view.specs.View.Ranking.{place, last_of, last_in, has_number}
 use Rattle.puffin_view.specs.View.ViewedFrames.{Frame, fields_of, index_of, frame_index, is_slower_frame, packed_under, rising_end, is_rising, rises_above, frames_by_index, chronological}
 use Rattle.puffin_view.specs.View.{View, without_frames, with_packed, with_newest_packed, is_past, joined_by, after_taking, after_all, Took}
 use Rattle.puffin_view.specs.View.File.{fields_held, fields_in, frame_stored, read_view}
@@ -218,7 +218,7 @@ rising_in_place fs rising few =
     let slow : AllByRecursion (λ g. has_index (index_of g) fs ≡ true) v.slow =
     (all_held (λ g. has_index (index_of g) fs ≡ true) (λ i f h. ap (λ (k : ℕ). has_index k fs) (index_packed_at i f) ∙ h) read_view fs (has_all (λ g. has_index (index_of g) fs ≡ true) fs (λ g h. h)) (record { recent = tt; slow = tt })).slow in
     let alike : (q : ℕ) → has_index q fs ≡ has_index q v.recent = λ q.
-    sym (has-index_of q fs) ∙ (ap (has q) (indices_said fs ∙ (ap (map frame_index) (sym recent) ∙ sym (indices_said v.recent))) ∙ has-index_of q v.recent) in
+    sym (has-index_of q fs) ∙ (ap (has_number q) (indices_said fs ∙ (ap (map frame_index) (sym recent) ∙ sym (indices_said v.recent))) ∙ has-index_of q v.recent) in
     let slow_again : AllByRecursion (λ g. has_index (index_of g) v.recent ≡ true) v.slow = all_map (λ g. has_index (index_of g) fs ≡ true) (λ g. has_index (index_of g) v.recent ≡ true) (λ g h. sym (alike (index_of g)) ∙ h) v.slow slow in
     ap (map fields_of) (in_place v.recent v.slow (ap is_rising recent ∙ rising) slow_again)
 
