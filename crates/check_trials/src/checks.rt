@@ -3,8 +3,8 @@
 use crate::devices::OneByte;
 use puffin_data::data::{Buffered, Counted, Reader, Stream, Walk};
 use puffin_data::{Error, FileError};
-use puffin_frames::thread_profiler::ThreadInfo;
 use puffin_report::{count_stream, print_report};
+use puffin_threads::thread_profiler::ThreadInfo;
 use puffin_view::profile_view::FrameView;
 use std::alloc::{AllocError, Global};
 

@@ -5,8 +5,8 @@ use crate::refusal::Refusal;
 use puffin::profile_view::FrameView;
 use puffin_data::FileError;
 use puffin_data::data::{Counted, ScopeId};
-use puffin_frames::thread_profiler::Closed;
 use puffin_replay::replay::{Command, Reply, record};
+use puffin_threads::thread_profiler::Closed;
 use std::alloc::Global;
 
 /// The file of one frame, with the scope `data` of the thread `main`.

@@ -7,8 +7,8 @@ use puffin::profile_view::FrameView;
 use puffin_data::FileError;
 use puffin_data::data::{Buffered, Counted};
 use puffin_frames::frame_data::FrameData;
-use puffin_frames::thread_profiler::ThreadInfo;
 use puffin_replay::replay::{Summary, summarize};
+use puffin_threads::thread_profiler::ThreadInfo;
 use std::alloc::Global;
 use std::sync::Arc;
 

@@ -11,8 +11,8 @@ use crate::streams::nested;
 use puffin::global_profiler::GlobalProfiler;
 use puffin_data::Error;
 use puffin_data::data::{Reader, ScopeId, Stream, StreamInfo};
-use puffin_frames::scope_details::{ScopeCollection, ScopeDetails, ScopeIds};
-use puffin_frames::thread_profiler::{ScriptClock, ThreadProfiler};
+use puffin_threads::scope_details::{ScopeCollection, ScopeDetails, ScopeIds};
+use puffin_threads::thread_profiler::{ScriptClock, ThreadProfiler};
 use std::alloc::Global;
 use std::sync::Arc;
 

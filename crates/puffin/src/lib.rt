@@ -30,7 +30,8 @@ pub mod light;
 mod macros;
 
 pub use puffin_data::{Error, FileError, FrameIndex, NanoSecond, Result, data, wire};
-pub use puffin_frames::{frame_data, scope_details, thread_profiler};
+pub use puffin_frames::frame_data;
 pub use puffin_merge::merge;
 pub use puffin_scopes::{ProfilerScope, Site, Switch, utils};
+pub use puffin_threads::{scope_details, thread_profiler};
 pub use puffin_view::profile_view;

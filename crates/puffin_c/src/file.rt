@@ -14,8 +14,8 @@ use crate::texts::{copied, text};
 use crate::unread::lay_over;
 use puffin_data::FileError;
 use puffin_data::data::Counted;
-use puffin_frames::thread_profiler::ThreadInfo;
 use puffin_report::print_report;
+use puffin_threads::thread_profiler::ThreadInfo;
 use puffin_view::profile_view::{next_frame, read_magic};
 use std::alloc::Global;
 

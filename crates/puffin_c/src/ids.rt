@@ -12,7 +12,7 @@ use crate::fault::{Fault, answer_code};
 use crate::handles::PuffinIds;
 use crate::shared_ids::SharedIds;
 use puffin_data::Error;
-use puffin_frames::scope_details::ScopeIds;
+use puffin_threads::scope_details::ScopeIds;
 use std::alloc::Global;
 use std::sync::Arc;
 

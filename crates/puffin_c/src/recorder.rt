@@ -14,7 +14,7 @@ use crate::shared_ids::SharedIds;
 use puffin_collector::Collector;
 use puffin_data::data::{Form, ScopeId};
 use puffin_data::{NanoSecond, Result};
-use puffin_frames::thread_profiler::{ScriptClock, ThreadProfiler};
+use puffin_threads::thread_profiler::{ScriptClock, ThreadProfiler};
 use std::alloc::Global;
 use std::borrow::CowStr;
 use std::marker::Model;

@@ -1,4 +1,4 @@
-use puffin_frames::scope_details::ScopeIds;
+use puffin_threads::scope_details::ScopeIds;
 use std::sync::Arc;
 
 /// Draws ids for all threads and profilers that were opened with it.

@@ -17,7 +17,7 @@ use puffin_data::{Error, Result};
 use puffin_frames::frame_data::{
     FrameData, FrameIndex, FrameMeta, ThreadStreams, UnpackedFrameData,
 };
-use puffin_frames::scope_details::{ScopeCollection, ScopeDetails, ScopeIds};
+use puffin_threads::scope_details::{ScopeCollection, ScopeDetails, ScopeIds};
 use std::alloc::Global;
 use std::collections::BTreeMap;
 use std::marker::Model;

@@ -4,7 +4,7 @@ ghost use Rattle.puffin_threads.specs.Details.Collection.{KeepsOwnIds};
 ghost use Rattle.puffin_collector.specs.Collector.State.{all_details, delta_of};
 
 use puffin_data::{Error, Result};
-use puffin_frames::scope_details::{ScopeCollection, ScopeDetails};
+use puffin_threads::scope_details::{ScopeCollection, ScopeDetails};
 use std::alloc::Global;
 use std::sync::Arc;
 

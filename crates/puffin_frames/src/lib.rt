@@ -11,4 +11,3 @@
 pub mod frame_data;
 pub mod laws;
 
-pub use puffin_threads::{scope_details, thread_profiler};

@@ -2,7 +2,7 @@
 use history::Adds;
 use puffin_data::data::StreamInfoRef;
 use puffin_frames::frame_data::FrameData;
-use puffin_frames::thread_profiler::ThreadInfo;
+use puffin_threads::thread_profiler::ThreadInfo;
 use std::marker::Model;
 use std::snapshot::Snapshot;
 use std::sync::Arc;

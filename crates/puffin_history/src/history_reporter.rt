@@ -12,8 +12,8 @@ use history::History;
 use puffin_collector::Totals;
 use puffin_data::data::StreamInfoRef;
 use puffin_data::{Error, Result};
-use puffin_frames::scope_details::ScopeDetails;
-use puffin_frames::thread_profiler::{AnyThread, Closed, Reporter, ThreadInfo};
+use puffin_threads::scope_details::ScopeDetails;
+use puffin_threads::thread_profiler::{AnyThread, Closed, Reporter, ThreadInfo};
 use std::sync::Wait;
 use std::sync::ledger::Ledger;
 

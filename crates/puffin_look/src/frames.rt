@@ -12,7 +12,7 @@ use crate::text::{push_count, push_moment};
 use puffin_data::data::{Drain, Source};
 use puffin_data::{FileError, FrameIndex, NanoSecond, Result as Answer};
 use puffin_frames::frame_data::UnpackedFrameData;
-use puffin_frames::scope_details::ScopeDetails;
+use puffin_threads::scope_details::ScopeDetails;
 use std::alloc::{AllocError, Global};
 use std::sync::Arc;
 

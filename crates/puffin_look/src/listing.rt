@@ -15,7 +15,7 @@ use puffin_data::data::{Drain, Source, write_all};
 use puffin_data::{Error, FileError, Result as Answer};
 use puffin_frames::frame_data::laws::each_frame_is_read_again;
 use puffin_frames::frame_data::{FrameData, UnpackedFrameData};
-use puffin_frames::scope_details::ScopeDetails;
+use puffin_threads::scope_details::ScopeDetails;
 use puffin_view::profile_view::{next_frame, read_magic};
 use std::alloc::Global;
 use std::sync::Arc;

@@ -10,7 +10,7 @@ ghost use Rattle.puffin_report.specs.Count.{ReadsAll, IsCounted, IsCutShort};
 use puffin_data::data::{Drain, Source, Stream, StreamInfo, read_to_end, write_all};
 use puffin_data::{Error, FileError, NanoSecond};
 use puffin_frames::frame_data::{FrameIndex, UnpackedFrameData};
-use puffin_frames::thread_profiler::ThreadInfo;
+use puffin_threads::thread_profiler::ThreadInfo;
 use std::alloc::{AllocError, Global};
 use std::collections::BTreeMap;
 

@@ -11,9 +11,9 @@ ghost use Rattle.puffin_report.specs.Report.{IsReported, IsUnreported};
 use crate::summary::{Summary, summarize};
 use puffin_data::data::{Drain, ScopeId, Source, write_all};
 use puffin_data::{FileError, NanoSecond};
-use puffin_frames::scope_details::ScopeCollection;
-use puffin_frames::thread_profiler::ThreadInfo;
 use puffin_merge::merge::MergeScope;
+use puffin_threads::scope_details::ScopeCollection;
+use puffin_threads::thread_profiler::ThreadInfo;
 use std::alloc::{AllocError, Global};
 
 /// Returns the first line, which has the number of frames.

@@ -10,9 +10,9 @@ ghost use Rattle.puffin_report.specs.Summary.{IsSummary, FailsToSumUp};
 use crate::summing::Summing;
 use puffin_data::FileError;
 use puffin_data::data::Source;
-use puffin_frames::scope_details::ScopeCollection;
-use puffin_frames::thread_profiler::ThreadInfo;
 use puffin_merge::merge::MergeScope;
+use puffin_threads::scope_details::ScopeCollection;
+use puffin_threads::thread_profiler::ThreadInfo;
 use puffin_view::profile_view::{next_frame, read_magic};
 use std::alloc::Global;
 

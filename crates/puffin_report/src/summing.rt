@@ -19,9 +19,9 @@ use crate::summary::Summary;
 use puffin_data::{Error, FileError, FrameIndex};
 use puffin_frames::frame_data::laws::each_frame_is_read_again;
 use puffin_frames::frame_data::{FrameData, UnpackedFrameData};
-use puffin_frames::scope_details::ScopeCollection;
-use puffin_frames::thread_profiler::ThreadInfo;
 use puffin_merge::merge::Merger;
+use puffin_threads::scope_details::ScopeCollection;
+use puffin_threads::thread_profiler::ThreadInfo;
 use std::alloc::Global;
 use std::sync::Arc;
 

@@ -3,7 +3,7 @@
 use crate::guard_state::GuardState;
 use puffin_data::data::ScopeId;
 use puffin_data::{Error, Result};
-use puffin_frames::thread_profiler::{Closed, NsSource, Reporter, ThreadProfiler};
+use puffin_threads::thread_profiler::{Closed, NsSource, Reporter, ThreadProfiler};
 
 /// A guard of a thread's scope: dropping it ends the scope.
 ///

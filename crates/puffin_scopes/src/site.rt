@@ -3,8 +3,8 @@
 use crate::utils::{clean_function_name, short_file_name};
 use puffin_data::Result;
 use puffin_data::data::ScopeId;
-use puffin_frames::scope_details::ScopeIds;
-use puffin_frames::thread_profiler::{NsSource, ThreadProfiler};
+use puffin_threads::scope_details::ScopeIds;
+use puffin_threads::thread_profiler::{NsSource, ThreadProfiler};
 use std::alloc::Global;
 use std::borrow::CowStr;
 use std::sync::atomic::{AtomicIn, Ordering, Rule};

@@ -3,7 +3,7 @@
 use puffin_collector::Emitted;
 use puffin_data::data::{ScopeId, Stream};
 use puffin_data::{Error, NanoSecond};
-use puffin_frames::thread_profiler::{Closed, ThreadInfo};
+use puffin_threads::thread_profiler::{Closed, ThreadInfo};
 
 /// A step of a session. A negative time counts as 0, and a time before the thread's last one counts as the last one.
 #[derive(Drop)]

@@ -4,11 +4,11 @@
 
 use puffin_data::data::{Buffered, Counted};
 use puffin_data::{Error, FileError};
-use puffin_frames::thread_profiler::ThreadInfo;
 use puffin_replay::replay::{
     Script, Task, ToolFault, count_stream, finish, print_report, read_script, read_words,
     run_script,
 };
+use puffin_threads::thread_profiler::ThreadInfo;
 use std::fs::File;
 use std::io::BufReader;
 use std::process::ExitCode;

@@ -2,7 +2,7 @@ use crate::equal::equal;
 use puffin_data::data::{Stream, StreamInfo};
 use puffin_data::{Error, NanoSecond, Result};
 use puffin_frames::frame_data::{FrameData, ThreadStreams, UnpackedFrameData, report_to};
-use puffin_frames::thread_profiler::ThreadInfo;
+use puffin_threads::thread_profiler::ThreadInfo;
 use std::alloc::Global;
 use std::collections::BTreeMap;
 use std::test::Fail;

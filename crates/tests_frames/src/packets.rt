@@ -2,7 +2,7 @@ use crate::equal::equal;
 use puffin_data::data::Counted;
 use puffin_data::{FileError, Result};
 use puffin_frames::frame_data::{FrameData, UnpackedFrameData};
-use puffin_frames::scope_details::{ScopeCollection, ScopeDetails};
+use puffin_threads::scope_details::{ScopeCollection, ScopeDetails};
 use std::alloc::Global;
 use std::borrow::CowStr;
 use std::process::Abort;

@@ -2,8 +2,8 @@ use crate::equal::equal;
 use crate::merge::{Frames, Outcome, begin, frame, leaf, merged, one_frame, one_scope, thread};
 use puffin_data::data::Stream;
 use puffin_data::{Error, Result};
-use puffin_frames::scope_details::ScopeCollection;
 use puffin_merge::merge::merge_scopes_counted;
+use puffin_threads::scope_details::ScopeCollection;
 use std::alloc::Global;
 use tests_support::streams::end;
 

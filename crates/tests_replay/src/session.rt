@@ -3,8 +3,8 @@ use crate::steps::Step::{Begin, End, EndOuter, NewFrame, Report};
 use crate::steps::{Outcome, replies, replies_in_two_forms, replies_of, session};
 use puffin_data::data::Form;
 use puffin_data::{Error, NanoSecond};
-use puffin_frames::thread_profiler::Closed;
 use puffin_replay::replay::Reply;
+use puffin_threads::thread_profiler::Closed;
 
 /// Whether a reply is the frame with this number, whose only stream has this key, so many bytes and this range.
 fn is_frame(

@@ -1,7 +1,7 @@
 use puffin_data::data::{Stream, StreamInfo};
 use puffin_data::{Error, NanoSecond, Result};
 use puffin_frames::frame_data::{FrameData, FrameIndex};
-use puffin_frames::scope_details::ScopeDetails;
+use puffin_threads::scope_details::ScopeDetails;
 use puffin_view::profile_view::{FrameStats, FrameView, select_slowest};
 use std::borrow::CowStr;
 use std::sync::Arc;

@@ -24,8 +24,8 @@ use puffin_collector::{Emitted, Totals};
 use puffin_data::data::{ScopeId, StreamInfoRef};
 use puffin_data::{Error, Result};
 use puffin_frames::frame_data::FrameData;
-use puffin_frames::scope_details::{ScopeDetails, ScopeIds};
-use puffin_frames::thread_profiler::ThreadInfo;
+use puffin_threads::scope_details::{ScopeDetails, ScopeIds};
+use puffin_threads::thread_profiler::ThreadInfo;
 use std::sync::ledger::{Book, Ledger};
 use std::sync::{Arc, Wait};
 

@@ -22,8 +22,8 @@ use puffin_collector::{Collector, Emitted, Totals};
 use puffin_data::data::{ScopeId, StreamInfoRef};
 use puffin_data::{Error, Result};
 use puffin_frames::frame_data::{FrameData, FrameIndex};
-use puffin_frames::scope_details::{ScopeDetails, ScopeIds};
-use puffin_frames::thread_profiler::{Reporter, ThreadInfo};
+use puffin_threads::scope_details::{ScopeDetails, ScopeIds};
+use puffin_threads::thread_profiler::{Reporter, ThreadInfo};
 use std::alloc::Global;
 use std::sync::{Arc, Wait};
 

@@ -14,8 +14,8 @@ use crate::delta::{all_have_ids, copies};
 use puffin_data::data::{StreamInfoRef, is_valid_range};
 use puffin_data::{Error, NanoSecond, Result};
 use puffin_frames::frame_data::{FrameMeta, are_unlike, report_to};
-use puffin_frames::scope_details::ScopeDetails;
-use puffin_frames::thread_profiler::{Reporter, ThreadInfo};
+use puffin_threads::scope_details::ScopeDetails;
+use puffin_threads::thread_profiler::{Reporter, ThreadInfo};
 
 impl Collector {
     /// Appends a thread's scopes to those that are pending under its info, and adds the details to the next frame's new ones.

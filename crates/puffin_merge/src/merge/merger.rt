@@ -13,7 +13,7 @@ use crate::merge::stream::{Merging, read_frame};
 use crate::merge::tree::tree_of;
 use puffin_data::{NanoSecond, Result};
 use puffin_frames::frame_data::UnpackedFrameData;
-use puffin_frames::thread_profiler::ThreadInfo;
+use puffin_threads::thread_profiler::ThreadInfo;
 use std::alloc::Global;
 
 /// Merges one thread's scopes over frames that are added one at a time.

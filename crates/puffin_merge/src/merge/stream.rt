@@ -14,7 +14,7 @@ use crate::merge::table::{Asked, NodeNumber, Table};
 use puffin_data::data::{RawScope, Visitor, text_of, walk_with};
 use puffin_data::{Error, NanoSecond, Result};
 use puffin_frames::frame_data::UnpackedFrameData;
-use puffin_frames::thread_profiler::ThreadInfo;
+use puffin_threads::thread_profiler::ThreadInfo;
 use std::alloc::Global;
 
 /// The greatest nesting depth.

@@ -7,8 +7,8 @@ ghost use Rattle.puffin_replay.specs.Program.ReplyLines.{frame_text, duration_te
 
 use puffin_data::{Error, NanoSecond};
 use puffin_frames::frame_data::{FrameData, FrameIndex};
-use puffin_frames::thread_profiler::Closed;
 use puffin_session::Reply;
+use puffin_threads::thread_profiler::Closed;
 use std::alloc::{AllocError, Global};
 
 /// Formats the first half of a frame's line.

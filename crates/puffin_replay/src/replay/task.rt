@@ -5,7 +5,7 @@ ghost use Rattle.std.specs.String.{string_bytes};
 ghost use Rattle.puffin_replay.specs.Program.Arguments.{signed_moment_in, start_in, thread_of_word, report_by, request_of, request_in, HasPaths};
 
 use puffin_data::{Error, NanoSecond, Result};
-use puffin_frames::thread_profiler::ThreadInfo;
+use puffin_threads::thread_profiler::ThreadInfo;
 
 /// A task of the program.
 #[derive(Debug, Drop, PartialEq, Eq)]

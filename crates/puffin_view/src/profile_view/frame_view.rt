@@ -20,7 +20,7 @@ use crate::profile_view::slow_rank::SlowRank;
 use crate::profile_view::stats::FrameStats;
 use puffin_data::{Error, Result};
 use puffin_frames::frame_data::{FrameData, FrameIndex};
-use puffin_frames::scope_details::ScopeCollection;
+use puffin_threads::scope_details::ScopeCollection;
 use std::alloc::Global;
 use std::collections::VecDeque;
 use std::marker::Model;

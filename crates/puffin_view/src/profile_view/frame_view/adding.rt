@@ -15,7 +15,7 @@ use crate::profile_view::held_frames::HeldFrames;
 use crate::profile_view::slow_rank::SlowRank;
 use puffin_data::{Error, Result};
 use puffin_frames::frame_data::{FrameData, FrameIndex};
-use puffin_frames::scope_details::ScopeCollection;
+use puffin_threads::scope_details::ScopeCollection;
 use std::collections::VecDeque;
 use std::mem;
 use std::sync::Arc;
