@@ -1,5 +1,5 @@
-//! Frames: what threads recorded between two moments, by thread. The modules [`thread_profiler`] and [`scope_details`] are those
-//! of `puffin_threads`.
+//! Frames: what threads recorded between two moments, by thread, with the details of the scopes that are new. A frame is held
+//! unpacked, packed as the bytes of its packet, or both ways.
 //!
 //! | to | call |
 //! |---|---|
