@@ -1,5 +1,5 @@
 //! The value that the lock of a profiler with a history protects.
-ghost use Rattle.std.specs.Prelude.{◌≡◌, ◌+◌, ◌-◌, ◌^◌, ◌<◌, ◌≤◌, ◌⊎◌, ◌↔◌, ◌++◌, ◌∷◌, [], true, vec_len, Some, OnOk, OnErr, IfOk, IfErr, IfSome, IfNone, ⊤};
+ghost use Rattle.std.specs.Prelude.{◌≡◌, ◌+◌, ◌-◌, ◌^◌, ◌<◌, ◌≤◌, ◌⊎◌, ◌↔◌, ◌++◌, ◌∷◌, [], vec_len, Some, OnOk, OnErr, IfOk, IfErr, IfSome, IfNone, ⊤, IsTrue};
 ghost use Rattle.std.specs.FinMap as map;
 ghost use Rattle.std.specs.List.{list_any};
 ghost use Rattle.std.specs.Arc.{arc_value};
@@ -243,7 +243,7 @@ impl<L: Ledger + History, M: Ledger> WithHistory<L, M> {
             collected_of self.new.profiler
             ≡ after_learning (collected_of self.old.profiler) (frame_details (arc_value frame))) }
         ensures missing { (result ≡ Err Error.MissingId)
-            ↔ (list_any lacks_id (frame_details (arc_value frame)) ≡ true) }
+            ↔ IsTrue (list_any lacks_id (frame_details (arc_value frame))) }
         ensures unchanged { (result ≡ Err Error.MissingId) →
             collected_of self.new.profiler ≡ collected_of self.old.profiler }
         ensures cause { IfErr result (λ e. (e ≡ Error.MissingId) ⊎ (e ≡ Error.Memory)) }

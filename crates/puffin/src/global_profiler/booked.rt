@@ -1,5 +1,5 @@
 //! The value that a shared profiler's lock protects.
-ghost use Rattle.std.specs.Prelude.{◌≡◌, ◌+◌, ◌-◌, ◌^◌, ◌<◌, ◌≤◌, ◌⊎◌, ◌↔◌, [], true, vec_len, Some, OnOk, OnErr, IfOk, IfErr, IfSome, IfNone, ⊤};
+ghost use Rattle.std.specs.Prelude.{◌≡◌, ◌+◌, ◌-◌, ◌^◌, ◌<◌, ◌≤◌, ◌⊎◌, ◌↔◌, [], vec_len, Some, OnOk, OnErr, IfOk, IfErr, IfSome, IfNone, ⊤, IsTrue};
 ghost use Rattle.std.specs.FinMap as map;
 ghost use Rattle.std.specs.List.{list_any};
 ghost use Rattle.std.specs.Arc.{arc_value};
@@ -219,7 +219,7 @@ impl<L: Ledger, M: Ledger> Booked<L, M> {
             HandsOn (λ b. (FrameSink-box b).accepts) (arc_value frame)
             (sinks_of self.old.profiler) refused (sinks_of self.new.profiler)) }
         ensures missing { (result ≡ Err Error.MissingId)
-            ↔ (list_any lacks_id (frame_details (arc_value frame)) ≡ true) }
+            ↔ IsTrue (list_any lacks_id (frame_details (arc_value frame))) }
         ensures unchanged { (result ≡ Err Error.MissingId) →
             collected_of self.new.profiler ≡ collected_of self.old.profiler }
         ensures cause { IfErr result (λ e. (e ≡ Error.MissingId) ⊎ (e ≡ Error.Memory)) }

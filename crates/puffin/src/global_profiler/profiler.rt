@@ -1,5 +1,5 @@
 //! A profiler that threads report to.
-ghost use Rattle.std.specs.Prelude.{◌≡◌, ◌+◌, ◌-◌, ◌^◌, ◌<◌, ◌⊎◌, ◌↔◌, [], true, OnOk, OnErr, IfOk, IfErr, IfSome, IfNone, ⊤};
+ghost use Rattle.std.specs.Prelude.{◌≡◌, ◌+◌, ◌-◌, ◌^◌, ◌<◌, ◌⊎◌, ◌↔◌, [], OnOk, OnErr, IfOk, IfErr, IfSome, IfNone, ⊤, IsTrue};
 ghost use Rattle.std.specs.FinMap as map;
 ghost use Rattle.std.specs.List.{list_any};
 ghost use Rattle.std.specs.Arc.{arc_value};
@@ -149,7 +149,7 @@ impl GlobalProfiler {
         ensures ok { OnOk result (collected_of self.new
             ≡ after_wanting (after_learning (collected_of self.old) (shared_details details.now))) }
         ensures missing { (result ≡ Err Error.MissingId)
-            ↔ (list_any lacks_id (shared_details details.now) ≡ true) }
+            ↔ IsTrue (list_any lacks_id (shared_details details.now)) }
         ensures unchanged { (result ≡ Err Error.MissingId) →
             collected_of self.new ≡ collected_of self.old }
         ensures err { OnErr result (
@@ -244,7 +244,7 @@ impl GlobalProfiler {
             HandsOn (λ b. (FrameSink-box b).accepts) (arc_value frame) (sinks_of self.old) refused
             (sinks_of self.new)) }
         ensures missing { (result ≡ Err Error.MissingId)
-            ↔ (list_any lacks_id (frame_details (arc_value frame)) ≡ true) }
+            ↔ IsTrue (list_any lacks_id (frame_details (arc_value frame))) }
         ensures unchanged { (result ≡ Err Error.MissingId) →
             collected_of self.new ≡ collected_of self.old }
         ensures cause { IfErr result (λ e. (e ≡ Error.MissingId) ⊎ (e ≡ Error.Memory)) }
