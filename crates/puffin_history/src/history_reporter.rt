@@ -54,7 +54,6 @@ impl<L: Ledger + History, M: Ledger, R: Wait> HistoryReporter<L, M, R> {
     /// out. Waits for the lock.
     pub fn totals(&mut self) -> Totals
         requires boxed_sinks { ⊤ }
-        ensures sum { result.reported ≡ result.pending + result.emitted }
         ensures own { (self.old.share.counts.reported ≤ result.reported)
             × (self.old.share.counts.handed ≤ result.emitted) }
         ensures same { self.new.share ≡ self.old.share }

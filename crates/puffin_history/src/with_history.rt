@@ -261,9 +261,9 @@ impl<L: Ledger + History, M: Ledger> WithHistory<L, M> {
     pub fn add_sink(&mut self, sink: Sink) -> std::result::Result<FrameSinkId, (Error, Sink)>
         requires boxed_sinks { ⊤ }
         ensures ok { IfOk result (λ id.
-            (id.0 ≡ next_sink_of self.old.profiler)
+            (id ≡ next_sink_of self.old.profiler)
             × (next_sink_of self.new.profiler ≡ next_sink_of self.old.profiler + 1)
-            × PutsIn id.0 sink (sinks_of self.old.profiler) (sinks_of self.new.profiler)) }
+            × PutsIn id sink (sinks_of self.old.profiler) (sinks_of self.new.profiler)) }
         ensures err { IfErr result (λ e.
             (e.1 ≡ sink)
             × (sinks_of self.new.profiler ≡ sinks_of self.old.profiler)
@@ -281,9 +281,9 @@ impl<L: Ledger + History, M: Ledger> WithHistory<L, M> {
     pub fn remove_sink(&mut self, id: FrameSinkId) -> Option<Sink>
         requires boxed_sinks { ⊤ }
         ensures some { IfSome result (λ sink.
-            TakesOut id.0 sink (sinks_of self.old.profiler) (sinks_of self.new.profiler)) }
+            TakesOut id sink (sinks_of self.old.profiler) (sinks_of self.new.profiler)) }
         ensures none { IfNone result (
-            HasNone id.0 (sinks_of self.old.profiler)
+            HasNone id (sinks_of self.old.profiler)
             × (sinks_of self.new.profiler ≡ sinks_of self.old.profiler)) }
         ensures next { next_sink_of self.new.profiler ≡ next_sink_of self.old.profiler }
         ensures rest { collected_of self.new.profiler ≡ collected_of self.old.profiler }
@@ -300,7 +300,6 @@ impl<L: Ledger + History, M: Ledger> WithHistory<L, M> {
         ensures pending { result.pending
             ≡ total_scopes (map.values (collected_of self.old.profiler).streams) }
         ensures emitted { result.emitted ≡ (collected_of self.old.profiler).emitted }
-        ensures sum { result.reported ≡ result.pending + result.emitted }
         ensures own { (share.old.counts.reported ≤ result.reported)
             × (share.old.counts.handed ≤ result.emitted) }
         ensures same { (self.new.profiler ≡ self.old.profiler)
@@ -328,7 +327,6 @@ impl<L: Ledger + History, M: Ledger> WithHistory<L, M> {
         ensures handed { IfOk result (λ s. s.handed ≡ all_handed_by shares.items) }
         ensures pending { IfOk result (λ s. s.pending
             ≡ total_scopes (map.values (collected_of self.old.profiler).streams)) }
-        ensures sum { IfOk result (λ s. s.reported ≡ s.handed + s.pending) }
         ensures history { OnOk result (
             Recounts (vec_len shares) (accounts_of shares.items) self.old.log.entries) }
         ensures left_pending { (collected_of self.old.profiler).streams

@@ -53,6 +53,7 @@ pub struct Settled {
     pub handed: u64,
     /// The number of reported scopes that weren't handed out.
     pub pending: u64,
+    ghost sum: { reported ≡ handed + pending },
 }
 
 impl<L: Ledger, M: Ledger> Booked<L, M> {
@@ -236,9 +237,9 @@ impl<L: Ledger, M: Ledger> Booked<L, M> {
     pub fn add_sink(&mut self, sink: Sink) -> std::result::Result<FrameSinkId, (Error, Sink)>
         requires boxed_sinks { ⊤ }
         ensures ok { IfOk result (λ id.
-            (id.0 ≡ next_sink_of self.old.profiler)
+            (id ≡ next_sink_of self.old.profiler)
             × (next_sink_of self.new.profiler ≡ next_sink_of self.old.profiler + 1)
-            × PutsIn id.0 sink (sinks_of self.old.profiler) (sinks_of self.new.profiler)) }
+            × PutsIn id sink (sinks_of self.old.profiler) (sinks_of self.new.profiler)) }
         ensures err { IfErr result (λ e.
             (e.1 ≡ sink)
             × (sinks_of self.new.profiler ≡ sinks_of self.old.profiler)
@@ -255,9 +256,9 @@ impl<L: Ledger, M: Ledger> Booked<L, M> {
     pub fn remove_sink(&mut self, id: FrameSinkId) -> Option<Sink>
         requires boxed_sinks { ⊤ }
         ensures some { IfSome result (λ sink.
-            TakesOut id.0 sink (sinks_of self.old.profiler) (sinks_of self.new.profiler)) }
+            TakesOut id sink (sinks_of self.old.profiler) (sinks_of self.new.profiler)) }
         ensures none { IfNone result (
-            HasNone id.0 (sinks_of self.old.profiler)
+            HasNone id (sinks_of self.old.profiler)
             × (sinks_of self.new.profiler ≡ sinks_of self.old.profiler)) }
         ensures next { next_sink_of self.new.profiler ≡ next_sink_of self.old.profiler }
         ensures rest { collected_of self.new.profiler ≡ collected_of self.old.profiler }
@@ -273,7 +274,6 @@ impl<L: Ledger, M: Ledger> Booked<L, M> {
         ensures pending { result.pending
             ≡ total_scopes (map.values (collected_of self.old.profiler).streams) }
         ensures emitted { result.emitted ≡ (collected_of self.old.profiler).emitted }
-        ensures sum { result.reported ≡ result.pending + result.emitted }
         ensures honest { AreHonest (collected_of self.old.profiler).streams }
         ensures own { (share.old.reported ≤ result.reported)
             × (share.old.handed ≤ result.emitted) }
@@ -300,7 +300,6 @@ impl<L: Ledger, M: Ledger> Booked<L, M> {
         ensures handed { IfOk result (λ s. s.handed ≡ all_handed shares.items) }
         ensures pending { IfOk result (λ s. s.pending
             ≡ total_scopes (map.values (collected_of self.old.profiler).streams)) }
-        ensures sum { IfOk result (λ s. s.reported ≡ s.handed + s.pending) }
         ensures err { IfErr result (λ v. (v ≡ shares) × ¬ (vec_len shares ≡ L.parts)) }
         ensures same { self.new.profiler ≡ self.old.profiler }
     {

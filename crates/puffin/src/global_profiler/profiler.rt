@@ -67,7 +67,7 @@ impl GlobalProfiler {
     {
         GlobalProfiler {
             collector: Collector::new(alloc, frame_index),
-            sinks: Sinks::of_none(no_sinks),
+            sinks: Sinks::from_empty(no_sinks),
         }
     }
 
@@ -270,9 +270,9 @@ impl GlobalProfiler {
     pub fn add_sink(&mut self, sink: Sink) -> std::result::Result<FrameSinkId, (Error, Sink)>
         requires boxed_sinks { ⊤ }
         ensures ok { IfOk result (λ id.
-            (id.0 ≡ next_sink_of self.old)
+            (id ≡ next_sink_of self.old)
             × (next_sink_of self.new ≡ next_sink_of self.old + 1)
-            × PutsIn id.0 sink (sinks_of self.old) (sinks_of self.new)) }
+            × PutsIn id sink (sinks_of self.old) (sinks_of self.new)) }
         ensures err { IfErr result (λ e.
             (e.1 ≡ sink)
             × (sinks_of self.new ≡ sinks_of self.old)
@@ -290,9 +290,9 @@ impl GlobalProfiler {
     pub fn remove_sink(&mut self, id: FrameSinkId) -> Option<Sink>
         requires boxed_sinks { ⊤ }
         ensures some { IfSome result (λ sink.
-            TakesOut id.0 sink (sinks_of self.old) (sinks_of self.new)) }
+            TakesOut id sink (sinks_of self.old) (sinks_of self.new)) }
         ensures none { IfNone result (
-            HasNone id.0 (sinks_of self.old) × (sinks_of self.new ≡ sinks_of self.old)) }
+            HasNone id (sinks_of self.old) × (sinks_of self.new ≡ sinks_of self.old)) }
         ensures next { next_sink_of self.new ≡ next_sink_of self.old }
         ensures rest { collected_of self.new ≡ collected_of self.old }
     {
@@ -305,7 +305,6 @@ impl GlobalProfiler {
         ensures pending { result.pending
             ≡ total_scopes (map.values (collected_of self.now).streams) }
         ensures emitted { result.emitted ≡ (collected_of self.now).emitted }
-        ensures sum { result.reported ≡ result.pending + result.emitted }
         // Pending scopes are always honest.
         ensures honest { AreHonest (collected_of self.now).streams }
     {

@@ -249,7 +249,6 @@ impl<L: Ledger, M: Ledger> SharedProfiler<L, M> {
     /// Calls [`Booked::totals`] under the lock.
     pub fn totals(&self, rt: &impl Wait, share: &mut Share<L, M>) -> Totals
         requires boxed_sinks { ⊤ }
-        ensures sum { result.reported ≡ result.pending + result.emitted }
         ensures own { (share.old.reported ≤ result.reported)
             × (share.old.handed ≤ result.emitted) }
         ensures same { share.new ≡ share.old }
@@ -274,7 +273,6 @@ impl<L: Ledger, M: Ledger> SharedProfiler<L, M> {
             (vec_len shares ≡ L.parts) × (vec_len shares ≡ M.parts)) }
         ensures reported { IfOk result (λ s. s.reported ≡ all_reported shares.items) }
         ensures handed { IfOk result (λ s. s.handed ≡ all_handed shares.items) }
-        ensures sum { IfOk result (λ s. s.reported ≡ s.handed + s.pending) }
         ensures err { IfErr result (λ v. (v ≡ shares) × ¬ (vec_len shares ≡ L.parts)) }
     {
         self.lock(rt).settle(shares)

@@ -49,7 +49,6 @@ impl<L: Ledger, M: Ledger, R: Wait> SharedReporter<L, M, R> {
     /// out. Waits for the lock.
     pub fn totals(&mut self) -> Totals
         requires boxed_sinks { ⊤ }
-        ensures sum { result.reported ≡ result.pending + result.emitted }
         ensures own { (self.old.share.reported ≤ result.reported)
             × (self.old.share.handed ≤ result.emitted) }
         ensures same { self.new.share ≡ self.old.share }

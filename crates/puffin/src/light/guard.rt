@@ -51,6 +51,7 @@ pub trait Records {
 
 /// A guard of a scope: the scope ends when the guard is dropped. If it is the thread's outermost scope, everything that has
 /// closed since the last accepted report is then reported.
+#[must_use = "a guard that isn't bound ends its scope at once"]
 pub struct Guard<'t, T: Records> {
     thread: &'t mut T,
     state: GuardState,
