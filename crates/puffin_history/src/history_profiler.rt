@@ -12,7 +12,7 @@ ghost use Rattle.puffin_frames.specs.Frame.Contents.{frame_details};
 ghost use Rattle.puffin_frames.specs.Frame.Sums.{total_scopes};
 ghost use Rattle.puffin.specs.Profiler.{collected_of};
 ghost use Rattle.puffin.specs.Shares.{with_reported, CountsFrame, SpellsItsScopes};
-ghost use Rattle.puffin.specs.SharedCauses.{IsReportCause, IsScopesCause, IsFrameCause, IsAddingCause};
+ghost use Rattle.puffin.specs.SharedCauses.{IsReportCause, IsScopesCause, IsFrameCause, IsAddingCause, IsSinkCause, IsDetailsCause};
 ghost use Rattle.puffin_history.specs.Happenings.{History, reported, pending_of};
 ghost use Rattle.puffin_history.specs.Members.{IsNewMember, Told, TakesFrame};
 ghost use Rattle.puffin_history.specs.Leaving.{accounts_of, all_reported_by, all_handed_by};
@@ -245,7 +245,7 @@ impl<L: Ledger + History, M: Ledger> HistoryProfiler<L, M> {
         requires boxed_sinks { ⊤ }
         ensures missing { (result ≡ Err Error.MissingId)
             ↔ IsTrue (list_any lacks_id (frame_details (arc_value frame))) }
-        ensures cause { IfErr result (λ e. (e ≡ Error.MissingId) ⊎ (e ≡ Error.Memory)) }
+        ensures cause { IfErr result IsDetailsCause }
     {
         self.lock(rt).add_frame(rt, frame)
     }
@@ -258,7 +258,7 @@ impl<L: Ledger + History, M: Ledger> HistoryProfiler<L, M> {
     ) -> std::result::Result<FrameSinkId, (Error, Sink)>
         requires boxed_sinks { ⊤ }
         ensures err { IfErr result (λ e.
-            (e.1 ≡ sink) × ((e.0 ≡ Error.SinkIdsExhausted) ⊎ (e.0 ≡ Error.Memory))) }
+            (e.1 ≡ sink) × IsSinkCause e.0) }
     {
         self.lock(rt).add_sink(sink)
     }

@@ -12,9 +12,10 @@ ghost use Rattle.puffin_frames.specs.Frame.Sums.{total_scopes};
 ghost use Rattle.puffin_collector.specs.Collector.State.{AcceptsReport, RefusesReport, after_learning, after_wanting};
 ghost use Rattle.puffin_collector.specs.Collector.Registering.{Adds, AddsSome};
 ghost use Rattle.puffin_collector.specs.Collector.Collecting.{Collects, TellsIds, KeepsPending, KnowsSome};
-ghost use Rattle.puffin.specs.Profiler.{collected_of, sinks_of, next_sink_of, IsNewProfiler};
+ghost use Rattle.puffin.specs.Profiler.{collected_of, sinks_of, next_sink_of, SameSinks, IsNewProfiler};
 ghost use Rattle.puffin.specs.Sinks.{PutsIn, TakesOut, HasNone};
 ghost use Rattle.puffin.specs.Sinks.Handing.{HandsOn, HandsOnAny};
+ghost use Rattle.puffin.specs.SharedCauses.{IsDetailsCause};
 
 use crate::global_profiler::sink::{FrameSink, FrameSinkId, Sink};
 use crate::global_profiler::sinks::{SinkEntry, Sinks};
@@ -87,7 +88,7 @@ impl GlobalProfiler {
         ensures err { IfErr result (λ e.
             RefusesReport (collected_of self.old) (key_of info) (details_seen details.now)
             (facts_of_ref times.now) e (collected_of self.new)) }
-        ensures sinks { self.new.sinks ≡ self.old.sinks }
+        ensures sinks { SameSinks self.old self.new }
     {
         self.collector.report(info, details, times)
     }
@@ -101,7 +102,7 @@ impl GlobalProfiler {
         ensures err { IfErr result (λ e.
             RefusesReport (collected_of self.old) (key_of info) [] (facts_of_ref times.now) e
             (collected_of self.new)) }
-        ensures sinks { self.new.sinks ≡ self.old.sinks }
+        ensures sinks { SameSinks self.old self.new }
     {
         self.collector.report_user_scopes(info, times)
     }
@@ -120,7 +121,7 @@ impl GlobalProfiler {
         ensures err { IfErr result (λ e.
             AddsSome (collected_of self.old) (details_seen details.now) e (
             collected_of self.new)) }
-        ensures sinks { self.new.sinks ≡ self.old.sinks }
+        ensures sinks { SameSinks self.old self.new }
     {
         self.collector.register_user_scopes(ids, details)
     }
@@ -129,7 +130,7 @@ impl GlobalProfiler {
     pub fn emit_scope_snapshot(&mut self)
         requires boxed_sinks { ⊤ }
         ensures wants { collected_of self.new ≡ after_wanting (collected_of self.old) }
-        ensures sinks { self.new.sinks ≡ self.old.sinks }
+        ensures sinks { SameSinks self.old self.new }
     {
         self.collector.emit_scope_snapshot();
     }
@@ -155,8 +156,8 @@ impl GlobalProfiler {
         ensures err { OnErr result (
             KnowsSome (collected_of self.old) (shared_details details.now)
             (collected_of self.new)) }
-        ensures cause { IfErr result (λ e. (e ≡ Error.MissingId) ⊎ (e ≡ Error.Memory)) }
-        ensures sinks { self.new.sinks ≡ self.old.sinks }
+        ensures cause { IfErr result IsDetailsCause }
+        ensures sinks { SameSinks self.old self.new }
     {
         self.collector.learn(details)?;
         self.collector.emit_scope_snapshot();
@@ -185,7 +186,7 @@ impl GlobalProfiler {
             ↔ ((collected_of self.old).index ≡ 2 ^ 64 - 1) }
         ensures err { IfErr result (λ e.
             KeepsPending (collected_of self.old) e (collected_of self.new)) }
-        ensures sinks { self.new.sinks ≡ self.old.sinks }
+        ensures sinks { SameSinks self.old self.new }
     {
         self.collector.collect_frame()
     }
@@ -247,7 +248,7 @@ impl GlobalProfiler {
             ↔ IsTrue (list_any lacks_id (frame_details (arc_value frame))) }
         ensures unchanged { (result ≡ Err Error.MissingId) →
             collected_of self.new ≡ collected_of self.old }
-        ensures cause { IfErr result (λ e. (e ≡ Error.MissingId) ⊎ (e ≡ Error.Memory)) }
+        ensures cause { IfErr result IsDetailsCause }
         ensures known { OnErr result (
             KnowsSome (collected_of self.old) (frame_details (arc_value frame))
             (collected_of self.new)) }

@@ -8,7 +8,7 @@ ghost use Rattle.puffin_threads.specs.Details.{details_seen, lacks_id, AllHaveId
 ghost use Rattle.puffin_frames.specs.Frame.Contents.{frame_details};
 ghost use Rattle.puffin.specs.Profiler.{collected_of};
 ghost use Rattle.puffin.specs.Shares.{no_counts, with_reported, CountsFrame, SpellsItsScopes, all_reported, all_handed};
-ghost use Rattle.puffin.specs.SharedCauses.{IsReportCause, IsScopesCause, IsFrameCause, IsAddingCause};
+ghost use Rattle.puffin.specs.SharedCauses.{IsReportCause, IsScopesCause, IsFrameCause, IsAddingCause, IsSinkCause, IsDetailsCause};
 
 use crate::global_profiler::booked::{Booked, Settled};
 use crate::global_profiler::profiler::GlobalProfiler;
@@ -221,7 +221,7 @@ impl<L: Ledger, M: Ledger> SharedProfiler<L, M> {
         requires boxed_sinks { ⊤ }
         ensures missing { (result ≡ Err Error.MissingId)
             ↔ IsTrue (list_any lacks_id (frame_details (arc_value frame))) }
-        ensures cause { IfErr result (λ e. (e ≡ Error.MissingId) ⊎ (e ≡ Error.Memory)) }
+        ensures cause { IfErr result IsDetailsCause }
     {
         self.lock(rt).add_frame(rt, frame)
     }
@@ -234,7 +234,7 @@ impl<L: Ledger, M: Ledger> SharedProfiler<L, M> {
     ) -> std::result::Result<FrameSinkId, (Error, Sink)>
         requires boxed_sinks { ⊤ }
         ensures err { IfErr result (λ e.
-            (e.1 ≡ sink) × ((e.0 ≡ Error.SinkIdsExhausted) ⊎ (e.0 ≡ Error.Memory))) }
+            (e.1 ≡ sink) × IsSinkCause e.0) }
     {
         self.lock(rt).add_sink(sink)
     }
