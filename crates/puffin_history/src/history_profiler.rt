@@ -4,8 +4,7 @@ ghost use Rattle.std.specs.FinMap as map;
 ghost use Rattle.std.specs.List.{list_any};
 ghost use Rattle.std.specs.Arc.{arc_value};
 ghost use Rattle.history.specs.Entries.{events};
-ghost use Rattle.puffin_data.specs.Forest.{Forest};
-ghost use Rattle.puffin_data.specs.Honesty.{IsHonestRef, facts_of_ref};
+ghost use Rattle.puffin_data.specs.Honesty.{IsHonestReport, facts_of_ref};
 ghost use Rattle.puffin_threads.specs.Thread.ThreadKey.{key_of};
 ghost use Rattle.puffin_threads.specs.Details.{details_seen, lacks_id, AllHaveIds};
 ghost use Rattle.puffin_frames.specs.Frame.Contents.{frame_details};
@@ -169,7 +168,7 @@ impl<L: Ledger + History, M: Ledger> HistoryProfiler<L, M> {
         details: &[ScopeDetails],
         times: &StreamInfoRef,
     ) -> Result<()>
-        requires { (f : Forest) × IsHonestRef times.now f }
+        requires { IsHonestReport times.now }
         ensures counted { OnOk result (
             share.new.counts ≡ with_reported share.old.counts times.now.num_scopes) }
         ensures told { OnOk result (
@@ -190,7 +189,7 @@ impl<L: Ledger + History, M: Ledger> HistoryProfiler<L, M> {
         info: ThreadInfo,
         times: &StreamInfoRef,
     ) -> Result<()>
-        requires { (f : Forest) × IsHonestRef times.now f }
+        requires { IsHonestReport times.now }
         ensures counted { OnOk result (
             share.new.counts ≡ with_reported share.old.counts times.now.num_scopes) }
         ensures told { OnOk result (

@@ -3,8 +3,7 @@ ghost use Rattle.std.specs.Prelude.{◌≡◌, ◌+◌, ◌-◌, ◌^◌, ◌<�
 ghost use Rattle.std.specs.FinMap as map;
 ghost use Rattle.std.specs.List.{list_any};
 ghost use Rattle.std.specs.Arc.{arc_value};
-ghost use Rattle.puffin_data.specs.Forest.{Forest};
-ghost use Rattle.puffin_data.specs.Honesty.{IsHonestRef, facts_of_ref};
+ghost use Rattle.puffin_data.specs.Honesty.{IsHonestReport, facts_of_ref};
 ghost use Rattle.puffin_threads.specs.Thread.ThreadKey.{key_of};
 ghost use Rattle.puffin_threads.specs.Details.{details_seen, lacks_id};
 ghost use Rattle.puffin_frames.specs.Frame.Contents.{AreHonest, frame_details};
@@ -103,7 +102,7 @@ impl<L: Ledger, M: Ledger> Booked<L, M> {
         details: &[ScopeDetails],
         times: &StreamInfoRef,
     ) -> Result<()>
-        requires { (f : Forest) × IsHonestRef times.now f }
+        requires { IsHonestReport times.now }
         ensures ok { OnOk result (
             AcceptsReport (collected_in self.old) (key_of info)
             (details_seen details.now) (facts_of_ref times.now)
@@ -131,7 +130,7 @@ impl<L: Ledger, M: Ledger> Booked<L, M> {
         info: ThreadInfo,
         times: &StreamInfoRef,
     ) -> Result<()>
-        requires { (f : Forest) × IsHonestRef times.now f }
+        requires { IsHonestReport times.now }
         ensures ok { OnOk result (
             AcceptsReport (collected_in self.old) (key_of info) []
             (facts_of_ref times.now) (collected_in self.new)) }

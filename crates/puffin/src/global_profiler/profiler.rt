@@ -3,8 +3,7 @@ ghost use Rattle.std.specs.Prelude.{◌≡◌, ◌+◌, ◌-◌, ◌^◌, ◌<�
 ghost use Rattle.std.specs.FinMap as map;
 ghost use Rattle.std.specs.List.{list_any};
 ghost use Rattle.std.specs.Arc.{arc_value};
-ghost use Rattle.puffin_data.specs.Forest.{Forest};
-ghost use Rattle.puffin_data.specs.Honesty.{IsHonestRef, facts_of_ref};
+ghost use Rattle.puffin_data.specs.Honesty.{IsHonestReport, facts_of_ref};
 ghost use Rattle.puffin_threads.specs.Thread.ThreadKey.{key_of};
 ghost use Rattle.puffin_threads.specs.Details.{details_seen, shared_details, lacks_id};
 ghost use Rattle.puffin_frames.specs.Frame.Contents.{AreHonest, frame_details};
@@ -81,7 +80,7 @@ impl GlobalProfiler {
         details: &[ScopeDetails],
         times: &StreamInfoRef,
     ) -> Result<()>
-        requires { (f : Forest) × IsHonestRef times.now f }
+        requires { IsHonestReport times.now }
         ensures ok { OnOk result (
             AcceptsReport (collected_of self.old) (key_of info) (details_seen details.now)
             (facts_of_ref times.now) (collected_of self.new)) }
@@ -95,7 +94,7 @@ impl GlobalProfiler {
 
     /// Appends the caller's own scopes to the pending ones, as [`Collector::report_user_scopes`] does. Fails in the same cases.
     pub fn report_user_scopes(&mut self, info: ThreadInfo, times: &StreamInfoRef) -> Result<()>
-        requires { (f : Forest) × IsHonestRef times.now f }
+        requires { IsHonestReport times.now }
         ensures ok { OnOk result (
             AcceptsReport (collected_of self.old) (key_of info) [] (facts_of_ref times.now)
             (collected_of self.new)) }

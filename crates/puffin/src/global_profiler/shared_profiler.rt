@@ -2,8 +2,7 @@
 ghost use Rattle.std.specs.Prelude.{◌≡◌, ◌+◌, ◌<◌, ◌≤◌, ◌⊎◌, ◌↔◌, vec_len, All, OnOk, OnErr, IfOk, IfErr, ⊤, IsOkUnless, IsTrue};
 ghost use Rattle.std.specs.List.{list_any};
 ghost use Rattle.std.specs.Arc.{arc_value};
-ghost use Rattle.puffin_data.specs.Forest.{Forest};
-ghost use Rattle.puffin_data.specs.Honesty.{IsHonestRef};
+ghost use Rattle.puffin_data.specs.Honesty.{IsHonestReport};
 ghost use Rattle.puffin_threads.specs.Details.{details_seen, lacks_id, AllHaveIds};
 ghost use Rattle.puffin_frames.specs.Frame.Contents.{frame_details};
 ghost use Rattle.puffin.specs.Profiler.{collected_of};
@@ -151,7 +150,7 @@ impl<L: Ledger, M: Ledger> SharedProfiler<L, M> {
         details: &[ScopeDetails],
         times: &StreamInfoRef,
     ) -> Result<()>
-        requires { (f : Forest) × IsHonestRef times.now f }
+        requires { IsHonestReport times.now }
         ensures counted { OnOk result (
             share.new ≡ with_reported share.old times.now.num_scopes) }
         ensures ids { OnOk result (AllHaveIds (details_seen details.now)) }
@@ -170,7 +169,7 @@ impl<L: Ledger, M: Ledger> SharedProfiler<L, M> {
         info: ThreadInfo,
         times: &StreamInfoRef,
     ) -> Result<()>
-        requires { (f : Forest) × IsHonestRef times.now f }
+        requires { IsHonestReport times.now }
         ensures counted { OnOk result (
             share.new ≡ with_reported share.old times.now.num_scopes) }
         ensures uncounted { OnErr result (share.new ≡ share.old) }
