@@ -1,5 +1,6 @@
 //! The sinks of a profiler.
-ghost use Rattle.std.specs.Prelude.{◌≡◌, ◌+◌, ◌-◌, ◌<◌, ◌⊎◌, ◌∷◌, [], ◌++◌, ◌^◌, length, slice_get, Some, IfOk, IfErr, IfSome, IfNone};
+ghost use Rattle.std.specs.Prelude.{◌≡◌, ◌+◌, ◌-◌, ◌<◌, ◌⊎◌, ◌==◌, ◌∷◌, [], ◌++◌, ◌^◌, IfOk, IfErr, IfSome, IfNone};
+ghost use Rattle.std.specs.List.{position};
 ghost use Rattle.std.specs.Arc.{arc_value};
 ghost use Rattle.puffin.specs.Sinks.Handing.{HandsOn};
 ghost use Rattle.puffin.specs.Sinks.{PutsIn, TakesOut, HasNone};
@@ -96,9 +97,7 @@ impl Sinks {
 
 /// Returns the position of the sink with this number.
 fn place_of(entries: &[SinkEntry], id: u64) -> Option<usize>
-    ensures some { IfSome result (λ i.
-        (e : _) × (slice_get entries.now i ≡ Some e) × (e.id ≡ id) × (i < length entries.now)) }
-    ensures none { IfNone result (HasNone id entries.now) }
+    ensures { result ≡ position (λ entry. entry.id == id) entries.now }
 {
     entries.iter().position(|entry| entry.id == id)
 }
