@@ -138,7 +138,7 @@ fn close<L: Ledger, M: Ledger, R: Print + Wait>(
     view: GlobalFrameView,
     other: FrameSinkId,
 ) -> Option<()> {
-    let (first, second) = (view.sink_id().0, other.0);
+    let (first, second) = (view.sink_id().get(), other.get());
     let held = view.lock(rt).stats().frames();
     let knows = knows_early(rt, &view);
     let detached = view.detach(rt, profiler);

@@ -1,6 +1,20 @@
--- What is left of what lends.
+-- What a guard lends, and what is left of what lends.
+use Rattle.std.specs.Borrow.{GName}
+use Rattle.puffin_scopes.specs.declared.guard_state.GuardState.{GuardState}
 use Rattle.puffin.specs.declared.light.guard.Guard.{Guard}
 use Rattle.puffin.specs.declared.light.thread.Thread.{Thread}
+
+-- the thread that a guard lends
+abbrev pub thread_in : {T : Type 0} → Guard T → T
+thread_in guard = guard.thread.now
+
+-- the name under which that thread's value is tracked
+abbrev pub thread_name : {T : Type 0} → Guard T → GName
+thread_name guard = guard.thread.ghost_name
+
+-- whether its scope began
+abbrev pub state_of : {T : Type 0} → Guard T → GuardState
+state_of guard = guard.state
 
 -- the guard with another thread behind its reference
 abbrev pub with_thread : {T : Type 0} → Guard T → T → Guard T

@@ -1,4 +1,6 @@
 pub mod Profiler
+pub mod Booked
+pub mod Reporters
 pub mod Sinks
 pub mod Shares
 pub mod SharedCauses

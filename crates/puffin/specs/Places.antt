@@ -1,11 +1,18 @@
 -- The registered places of a program, and what registering one more does.
-use Rattle.std.specs.Prelude.{◌≡◌, ℕ, ◌+◌, ◌≤◌, List, Some, [], ◌∷◌, ◌++◌, length}
+use Rattle.std.specs.Prelude.{◌≡◌, ℕ, ◌+◌, ◌^◌, ◌⊎◌, List, Some, [], ◌∷◌, ◌++◌, length}
+use Rattle.puffin_data.specs.declared.error.Error.{Error}
+use Rattle.puffin_data.specs.declared.error.Error.TheVariants.{IdsExhausted, Memory}
 use Rattle.puffin_threads.specs.Details.{Details, default_details, with_id, shared_details}
 use Rattle.puffin_threads.specs.Details.Collection.{first_with_id}
 use Rattle.puffin_scopes.specs.Names.Files.{short_file}
 use Rattle.puffin_scopes.specs.Names.Functions.{clean}
+use Rattle.puffin.specs.declared.light.place.Place.{Place}
 use Rattle.puffin.specs.declared.light.scopes.Scopes.{Scopes}
 use Rattle.puffin.specs.declared.light.scopes.ThreadScopes.{ThreadScopes}
+
+-- the id of the place's scopes
+abbrev pub id_of : Place → ℕ
+id_of place = place.id
 
 -- the details of all registered places, in the order of their ids
 abbrev pub details_in : Scopes → List Details
@@ -32,3 +39,7 @@ pub record Registers (old : List Details) (details : Details) (id : ℕ) (new : 
   pub number : id ≡ length old + 1
   pub added : new ≡ old ++ (with_id details id ∷ [])
   pub found : first_with_id id new ≡ Some (with_id details id)
+
+-- the errors of registering a place after these: `IdsExhausted` only if no id is left
+abbrev pub IsPlaceCause : List Details → Error → Type 0
+IsPlaceCause ds e = ((e ≡ IdsExhausted) × (length ds + 1 ≡ 2 ^ 32)) ⊎ (e ≡ Memory)

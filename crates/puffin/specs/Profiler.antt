@@ -15,6 +15,10 @@ module _ {I : Type 0} {F : I → Type 0} where
   abbrev pub next_sink_of : GlobalProfiler I F → ℕ
   next_sink_of profiler = profiler.sinks.next
 
+  -- the sinks and the number of the next one are the same
+  abbrev pub SameSinks : GlobalProfiler I F → GlobalProfiler I F → Type 0
+  SameSinks old new = new.sinks ≡ old.sinks
+
   -- nothing was reported, the next frame has this index, and there are no sinks
   pub record IsNewProfiler (index : ℕ) (profiler : GlobalProfiler I F) : Type 0 where
     pub collected : collected_of profiler ≡ nothing_collected index

@@ -1,18 +1,17 @@
 //! A profiler with a history that several threads share.
-ghost use Rattle.std.specs.Prelude.{◌≡◌, ◌+◌, ◌<◌, ◌≤◌, ◌⊎◌, ◌↔◌, true, vec_len, All, OnOk, OnErr, IfOk, IfErr, ⊤};
+ghost use Rattle.std.specs.Prelude.{◌≡◌, ◌+◌, ◌<◌, ◌≤◌, ◌⊎◌, ◌↔◌, vec_len, All, OnOk, OnErr, IfOk, IfErr, ⊤, IsOkUnless, IsTrue};
 ghost use Rattle.std.specs.FinMap as map;
 ghost use Rattle.std.specs.List.{list_any};
 ghost use Rattle.std.specs.Arc.{arc_value};
 ghost use Rattle.history.specs.Entries.{events};
-ghost use Rattle.puffin_data.specs.Forest.{Forest};
-ghost use Rattle.puffin_data.specs.Honesty.{IsHonestRef, facts_of_ref};
+ghost use Rattle.puffin_data.specs.Honesty.{IsHonestReport, facts_of_ref};
 ghost use Rattle.puffin_threads.specs.Thread.ThreadKey.{key_of};
 ghost use Rattle.puffin_threads.specs.Details.{details_seen, lacks_id, AllHaveIds};
 ghost use Rattle.puffin_frames.specs.Frame.Contents.{frame_details};
 ghost use Rattle.puffin_frames.specs.Frame.Sums.{total_scopes};
 ghost use Rattle.puffin.specs.Profiler.{collected_of};
 ghost use Rattle.puffin.specs.Shares.{with_reported, CountsFrame, SpellsItsScopes};
-ghost use Rattle.puffin.specs.SharedCauses.{IsReportCause, IsScopesCause, IsFrameCause, IsAddingCause};
+ghost use Rattle.puffin.specs.SharedCauses.{IsReportCause, IsScopesCause, IsFrameCause, IsAddingCause, IsSinkCause, IsDetailsCause};
 ghost use Rattle.puffin_history.specs.Happenings.{History, reported, pending_of};
 ghost use Rattle.puffin_history.specs.Members.{IsNewMember, Told, TakesFrame};
 ghost use Rattle.puffin_history.specs.Leaving.{accounts_of, all_reported_by, all_handed_by};
@@ -122,7 +121,7 @@ impl<L: Ledger + History, M: Ledger> HistoryProfiler<L, M> {
     /// Returns another handle to this profiler. Fails only with `Memory`.
     pub fn clone(&self) -> Result<HistoryProfiler<L, M>>
         requires boxed_sinks { ⊤ }
-        ensures cause { IfErr result (λ e. e ≡ Error.Memory) }
+        ensures cause { IsOkUnless result Error.Memory }
     {
         Ok(HistoryProfiler {
             locked: Arc::try_clone(&self.locked)?,
@@ -169,7 +168,7 @@ impl<L: Ledger + History, M: Ledger> HistoryProfiler<L, M> {
         details: &[ScopeDetails],
         times: &StreamInfoRef,
     ) -> Result<()>
-        requires { (f : Forest) × IsHonestRef times.now f }
+        requires { IsHonestReport times.now }
         ensures counted { OnOk result (
             share.new.counts ≡ with_reported share.old.counts times.now.num_scopes) }
         ensures told { OnOk result (
@@ -190,7 +189,7 @@ impl<L: Ledger + History, M: Ledger> HistoryProfiler<L, M> {
         info: ThreadInfo,
         times: &StreamInfoRef,
     ) -> Result<()>
-        requires { (f : Forest) × IsHonestRef times.now f }
+        requires { IsHonestReport times.now }
         ensures counted { OnOk result (
             share.new.counts ≡ with_reported share.old.counts times.now.num_scopes) }
         ensures told { OnOk result (
@@ -244,8 +243,8 @@ impl<L: Ledger + History, M: Ledger> HistoryProfiler<L, M> {
     pub fn add_frame<R: Wait>(&self, rt: &R, frame: Arc<FrameData>) -> Result<usize>
         requires boxed_sinks { ⊤ }
         ensures missing { (result ≡ Err Error.MissingId)
-            ↔ (list_any lacks_id (frame_details (arc_value frame)) ≡ true) }
-        ensures cause { IfErr result (λ e. (e ≡ Error.MissingId) ⊎ (e ≡ Error.Memory)) }
+            ↔ IsTrue (list_any lacks_id (frame_details (arc_value frame))) }
+        ensures cause { IfErr result IsDetailsCause }
     {
         self.lock(rt).add_frame(rt, frame)
     }
@@ -258,7 +257,7 @@ impl<L: Ledger + History, M: Ledger> HistoryProfiler<L, M> {
     ) -> std::result::Result<FrameSinkId, (Error, Sink)>
         requires boxed_sinks { ⊤ }
         ensures err { IfErr result (λ e.
-            (e.1 ≡ sink) × ((e.0 ≡ Error.SinkIdsExhausted) ⊎ (e.0 ≡ Error.Memory))) }
+            (e.1 ≡ sink) × IsSinkCause e.0) }
     {
         self.lock(rt).add_sink(sink)
     }
@@ -273,7 +272,6 @@ impl<L: Ledger + History, M: Ledger> HistoryProfiler<L, M> {
     /// Calls [`WithHistory::totals`] under the lock.
     pub fn totals(&self, rt: &impl Wait, share: &mut HistoryShare<L, M>) -> Totals
         requires boxed_sinks { ⊤ }
-        ensures sum { result.reported ≡ result.pending + result.emitted }
         ensures own { (share.old.counts.reported ≤ result.reported)
             × (share.old.counts.handed ≤ result.emitted) }
         ensures same { share.new ≡ share.old }
@@ -299,7 +297,6 @@ impl<L: Ledger + History, M: Ledger> HistoryProfiler<L, M> {
             (vec_len shares ≡ L.parts) × (vec_len shares ≡ M.parts)) }
         ensures reported { IfOk result (λ s. s.reported ≡ all_reported_by shares.items) }
         ensures handed { IfOk result (λ s. s.handed ≡ all_handed_by shares.items) }
-        ensures sum { IfOk result (λ s. s.reported ≡ s.handed + s.pending) }
         ensures history { IfOk result (λ s.
             (log : History)
             × Recounts (vec_len shares) (accounts_of shares.items) log

@@ -5,6 +5,7 @@ ghost use Rattle.puffin_data.specs.Forest.{Forest};
 ghost use Rattle.puffin_data.specs.Honesty.{IsHonestRef};
 ghost use Rattle.puffin_threads.specs.Thread.Calls.{offsets_of};
 ghost use Rattle.puffin_threads.specs.Thread.Closing.{Closes, Reports};
+ghost use Rattle.puffin_history.specs.Locked.{share_of};
 
 use crate::history_profiler::HistoryProfiler;
 use crate::share::HistoryShare;
@@ -41,7 +42,7 @@ impl<L: Ledger + History, M: Ledger, R: Wait> HistoryReporter<L, M, R> {
         share: HistoryShare<L, M>,
     ) -> HistoryReporter<L, M, R>
         requires boxed_sinks { ⊤ }
-        ensures { result.share ≡ share }
+        ensures { share_of result ≡ share }
     {
         HistoryReporter {
             rt,
@@ -54,10 +55,9 @@ impl<L: Ledger + History, M: Ledger, R: Wait> HistoryReporter<L, M, R> {
     /// out. Waits for the lock.
     pub fn totals(&mut self) -> Totals
         requires boxed_sinks { ⊤ }
-        ensures sum { result.reported ≡ result.pending + result.emitted }
-        ensures own { (self.old.share.counts.reported ≤ result.reported)
-            × (self.old.share.counts.handed ≤ result.emitted) }
-        ensures same { self.new.share ≡ self.old.share }
+        ensures own { ((share_of self.old).counts.reported ≤ result.reported)
+            × ((share_of self.old).counts.handed ≤ result.emitted) }
+        ensures same { share_of self.new ≡ share_of self.old }
     {
         self.profiler.totals(&self.rt, &mut self.share)
     }
@@ -106,7 +106,7 @@ impl<L: Ledger + History, M: Ledger, R: Wait + Drop> HistoryReporter<L, M, R> {
     /// Returns the share.
     pub fn into_share(self) -> HistoryShare<L, M>
         requires boxed_sinks { ⊤ }
-        ensures { result ≡ self.share }
+        ensures { result ≡ share_of self }
     {
         let HistoryReporter {
             rt: _,
@@ -126,11 +126,11 @@ impl<L: Ledger + History, M: Ledger, R: Wait> Reporter for HistoryReporter<L, M,
     ghost use Rattle.puffin_history.specs.Members.{Told};
 
     ghost accepts = { λ old i ds r new.
-        (new.share.counts ≡ with_reported old.share.counts r.num_scopes)
-        × Told old.share (reported i r) new.share
+        ((share_of new).counts ≡ with_reported (share_of old).counts r.num_scopes)
+        × Told (share_of old) (reported i r) (share_of new)
         × AllHaveIds ds };
 
-    ghost refuses = { λ old i ds r e new. (new.share ≡ old.share) × IsReportCause ds e };
+    ghost refuses = { λ old i ds r e new. (share_of new ≡ share_of old) × IsReportCause ds e };
 
     #[inline]
     fn report(

@@ -1,5 +1,5 @@
 //! Shares of a profiler with a history.
-ghost use Rattle.std.specs.Prelude.{◌≡◌, [], vec_len, All, IfOk, IfErr};
+ghost use Rattle.std.specs.Prelude.{◌≡◌, [], vec_len, All, IfOk, IsOkUnless};
 ghost use Rattle.puffin_data.specs.declared.error.Error.{Error};
 ghost use Rattle.puffin_history.specs.Members.{IsNewMember};
 
@@ -61,7 +61,7 @@ impl<L: Ledger + History, M: Ledger> HistoryShare<L, M> {
             (vec_len shares ≡ n) × All IsNewMember shares.items) }
         ensures log { IfOk result (λ shares.
             (log.new.authors ≡ n) × (log.new.entries ≡ [])) }
-        ensures err { IfErr result (λ e. e ≡ Error.Memory) }
+        ensures err { IsOkUnless result Error.Memory }
     {
         let mut shares = Vec::with_capacity(alloc, n)?;
         for _i in 0..n {

@@ -1,11 +1,10 @@
 //! The value that the lock of a profiler with a history protects.
-ghost use Rattle.std.specs.Prelude.{◌≡◌, ◌+◌, ◌-◌, ◌^◌, ◌<◌, ◌≤◌, ◌⊎◌, ◌↔◌, ◌++◌, ◌∷◌, [], true, vec_len, Some, OnOk, OnErr, IfOk, IfErr, IfSome, IfNone, ⊤};
+ghost use Rattle.std.specs.Prelude.{◌≡◌, ◌+◌, ◌-◌, ◌^◌, ◌<◌, ◌≤◌, ◌⊎◌, ◌↔◌, ◌++◌, ◌∷◌, [], vec_len, Some, OnOk, OnErr, IfOk, IfErr, IfSome, IfNone, ⊤, IsTrue};
 ghost use Rattle.std.specs.FinMap as map;
 ghost use Rattle.std.specs.List.{list_any};
 ghost use Rattle.std.specs.Arc.{arc_value};
 ghost use Rattle.history.specs.Entries.{events};
-ghost use Rattle.puffin_data.specs.Forest.{Forest};
-ghost use Rattle.puffin_data.specs.Honesty.{IsHonestRef, facts_of_ref};
+ghost use Rattle.puffin_data.specs.Honesty.{IsHonestReport, facts_of_ref};
 ghost use Rattle.puffin_threads.specs.Thread.ThreadKey.{key_of};
 ghost use Rattle.puffin_threads.specs.Details.{details_seen, lacks_id};
 ghost use Rattle.puffin_frames.specs.Frame.Contents.{AreHonest, frame_details};
@@ -13,7 +12,7 @@ ghost use Rattle.puffin_frames.specs.Frame.Sums.{total_scopes};
 ghost use Rattle.puffin_collector.specs.Collector.State.{AcceptsReport, RefusesReport, after_learning, after_wanting};
 ghost use Rattle.puffin_collector.specs.Collector.Registering.{Adds, AddsSome};
 ghost use Rattle.puffin_collector.specs.Collector.Collecting.{Collects, TellsIds, KeepsPending, KnowsSome};
-ghost use Rattle.puffin.specs.Profiler.{collected_of, sinks_of, next_sink_of};
+ghost use Rattle.puffin.specs.Profiler.{collected_of, SameSinks};
 ghost use Rattle.puffin.specs.Sinks.{PutsIn, TakesOut, HasNone};
 ghost use Rattle.puffin.specs.Sinks.Handing.{HandsOn, HandsOnAny};
 ghost use Rattle.puffin.specs.Shares.{with_reported, CountsFrame};
@@ -21,6 +20,7 @@ ghost use Rattle.puffin_history.specs.Happenings.{reported, pending_of, Stands};
 ghost use Rattle.puffin_history.specs.Members.{Tells, TakesFrame};
 ghost use Rattle.puffin_history.specs.Leaving.{accounts_of, all_reported_by, all_handed_by};
 ghost use Rattle.puffin_history.specs.Recounted.{Recounts};
+ghost use Rattle.puffin.specs.SharedCauses.{IsDetailsCause};
 
 use crate::event::{Event, Frames, Report, Reports};
 use crate::leaving::leave_all;
@@ -57,6 +57,8 @@ pub struct WithHistory<L: Ledger + History, M: Ledger> {
 }
 
 impl<L: Ledger + History, M: Ledger> WithHistory<L, M> {
+    ghost use Rattle.puffin_history.specs.Locked.{profiler_of, collected_in, sinks_in, next_sink_in, entries_of};
+
     /// Combines a profiler to which nothing was reported with its books and a log without entries.
     pub(crate) fn new(
         profiler: GlobalProfiler,
@@ -70,7 +72,7 @@ impl<L: Ledger + History, M: Ledger> WithHistory<L, M> {
             × ((collected_of profiler).streams ≡ map.empty) }
         requires books { (reported.total ≡ 0) × (handed.total ≡ 0) }
         requires log { (log.authors ≡ parts) × (log.entries ≡ []) }
-        ensures { result.profiler ≡ profiler }
+        ensures { profiler_of result ≡ profiler }
     {
         WithHistory {
             apart: [0; 16],
@@ -84,7 +86,7 @@ impl<L: Ledger + History, M: Ledger> WithHistory<L, M> {
 
     /// Returns the profiler, and drops the rest.
     pub(crate) fn into_profiler(self) -> GlobalProfiler
-        ensures { result ≡ self.profiler }
+        ensures { result ≡ profiler_of self }
     {
         let WithHistory {
             apart: _,
@@ -107,24 +109,24 @@ impl<L: Ledger + History, M: Ledger> WithHistory<L, M> {
         details: &[ScopeDetails],
         times: &StreamInfoRef,
     ) -> Result<()>
-        requires { (f : Forest) × IsHonestRef times.now f }
+        requires { IsHonestReport times.now }
         ensures ok { OnOk result (
-            AcceptsReport (collected_of self.old.profiler) (key_of info)
+            AcceptsReport (collected_in self.old) (key_of info)
             (details_seen details.now) (facts_of_ref times.now)
-            (collected_of self.new.profiler)) }
+            (collected_in self.new)) }
         ensures counted { OnOk result (
             share.new.counts ≡ with_reported share.old.counts times.now.num_scopes) }
         ensures told { OnOk result (
             Tells share.old (reported (key_of info) (facts_of_ref times.now))
-            self.old.log.entries share.new) }
-        ensures log { OnOk result (self.new.log.entries ≡ share.new.seen) }
+            (entries_of self.old) share.new) }
+        ensures log { OnOk result (entries_of self.new ≡ share.new.seen) }
         ensures err { IfErr result (λ e.
-            RefusesReport (collected_of self.old.profiler) (key_of info)
+            RefusesReport (collected_in self.old) (key_of info)
             (details_seen details.now) (facts_of_ref times.now) e
-            (collected_of self.new.profiler)) }
+            (collected_in self.new)) }
         ensures unchanged { OnErr result (
-            (share.new ≡ share.old) × (self.new.log.entries ≡ self.old.log.entries)) }
-        ensures sinks { self.new.profiler.sinks ≡ self.old.profiler.sinks }
+            (share.new ≡ share.old) × (entries_of self.new ≡ entries_of self.old)) }
+        ensures sinks { SameSinks (profiler_of self.old) (profiler_of self.new) }
     {
         let key = Snapshot::of(&info);
         self.profiler.report(info, details, times)?;
@@ -144,22 +146,22 @@ impl<L: Ledger + History, M: Ledger> WithHistory<L, M> {
         info: ThreadInfo,
         times: &StreamInfoRef,
     ) -> Result<()>
-        requires { (f : Forest) × IsHonestRef times.now f }
+        requires { IsHonestReport times.now }
         ensures ok { OnOk result (
-            AcceptsReport (collected_of self.old.profiler) (key_of info) []
-            (facts_of_ref times.now) (collected_of self.new.profiler)) }
+            AcceptsReport (collected_in self.old) (key_of info) []
+            (facts_of_ref times.now) (collected_in self.new)) }
         ensures counted { OnOk result (
             share.new.counts ≡ with_reported share.old.counts times.now.num_scopes) }
         ensures told { OnOk result (
             Tells share.old (reported (key_of info) (facts_of_ref times.now))
-            self.old.log.entries share.new) }
-        ensures log { OnOk result (self.new.log.entries ≡ share.new.seen) }
+            (entries_of self.old) share.new) }
+        ensures log { OnOk result (entries_of self.new ≡ share.new.seen) }
         ensures err { IfErr result (λ e.
-            RefusesReport (collected_of self.old.profiler) (key_of info) []
-            (facts_of_ref times.now) e (collected_of self.new.profiler)) }
+            RefusesReport (collected_in self.old) (key_of info) []
+            (facts_of_ref times.now) e (collected_in self.new)) }
         ensures unchanged { OnErr result (
-            (share.new ≡ share.old) × (self.new.log.entries ≡ self.old.log.entries)) }
-        ensures sinks { self.new.profiler.sinks ≡ self.old.profiler.sinks }
+            (share.new ≡ share.old) × (entries_of self.new ≡ entries_of self.old)) }
+        ensures sinks { SameSinks (profiler_of self.old) (profiler_of self.new) }
     {
         self.report(share, info, &[], times)
     }
@@ -172,13 +174,13 @@ impl<L: Ledger + History, M: Ledger> WithHistory<L, M> {
     ) -> Result<Vec<ScopeId>>
         requires boxed_sinks { ⊤ }
         ensures ok { IfOk result (λ scope_ids.
-            Adds (collected_of self.old.profiler) (details_seen details.now) scope_ids.items
-            (collected_of self.new.profiler)) }
+            Adds (collected_in self.old) (details_seen details.now) scope_ids.items
+            (collected_in self.new)) }
         ensures err { IfErr result (λ e.
-            AddsSome (collected_of self.old.profiler) (details_seen details.now) e
-            (collected_of self.new.profiler)) }
-        ensures sinks { self.new.profiler.sinks ≡ self.old.profiler.sinks }
-        ensures log { self.new.log.entries ≡ self.old.log.entries }
+            AddsSome (collected_in self.old) (details_seen details.now) e
+            (collected_in self.new)) }
+        ensures sinks { SameSinks (profiler_of self.old) (profiler_of self.new) }
+        ensures log { entries_of self.new ≡ entries_of self.old }
     {
         self.profiler.register_user_scopes(ids, details)
     }
@@ -186,10 +188,10 @@ impl<L: Ledger + History, M: Ledger> WithHistory<L, M> {
     /// Makes the next frame list every known scope, as [`GlobalProfiler::emit_scope_snapshot`] does.
     pub fn emit_scope_snapshot(&mut self)
         requires boxed_sinks { ⊤ }
-        ensures wants { collected_of self.new.profiler
-            ≡ after_wanting (collected_of self.old.profiler) }
-        ensures sinks { self.new.profiler.sinks ≡ self.old.profiler.sinks }
-        ensures log { self.new.log.entries ≡ self.old.log.entries }
+        ensures wants { collected_in self.new
+            ≡ after_wanting (collected_in self.old) }
+        ensures sinks { SameSinks (profiler_of self.old) (profiler_of self.new) }
+        ensures log { entries_of self.new ≡ entries_of self.old }
     {
         self.profiler.emit_scope_snapshot();
     }
@@ -199,24 +201,24 @@ impl<L: Ledger + History, M: Ledger> WithHistory<L, M> {
     pub fn new_frame<R: Wait>(&mut self, rt: &R, share: &mut HistoryShare<L, M>) -> Result<Emitted>
         requires boxed_sinks { ⊤ }
         ensures ok { IfOk result (λ emitted.
-            Collects (collected_of self.old.profiler) emitted.frame
-            (collected_of self.new.profiler)) }
+            Collects (collected_in self.old) emitted.frame
+            (collected_in self.new)) }
         ensures ids { IfOk result (λ emitted. TellsIds emitted.frame) }
         ensures counted { IfOk result (λ emitted.
             CountsFrame share.old.counts emitted.frame share.new.counts) }
         ensures taken { IfOk result (λ emitted. TakesFrame share.old emitted.frame share.new) }
-        ensures honest { AreHonest (collected_of self.old.profiler).streams }
-        ensures sum { (collected_of self.old.profiler).reported
-            ≡ (collected_of self.old.profiler).emitted
-            + total_scopes (map.values (collected_of self.old.profiler).streams) }
+        ensures honest { AreHonest (collected_in self.old).streams }
+        ensures sum { (collected_in self.old).reported
+            ≡ (collected_in self.old).emitted
+            + total_scopes (map.values (collected_in self.old).streams) }
         ensures exhausted { (result ≡ Err Error.IndexExhausted)
-            ↔ ((collected_of self.old.profiler).index ≡ 2 ^ 64 - 1) }
+            ↔ ((collected_in self.old).index ≡ 2 ^ 64 - 1) }
         ensures err { IfErr result (λ e.
-            KeepsPending (collected_of self.old.profiler) e (collected_of self.new.profiler)) }
-        ensures kept { OnErr result (sinks_of self.new.profiler ≡ sinks_of self.old.profiler) }
+            KeepsPending (collected_in self.old) e (collected_in self.new)) }
+        ensures kept { OnErr result (sinks_in self.new ≡ sinks_in self.old) }
         ensures unchanged { OnErr result (
-            (share.new ≡ share.old) × (self.new.log.entries ≡ self.old.log.entries)) }
-        ensures next { next_sink_of self.new.profiler ≡ next_sink_of self.old.profiler }
+            (share.new ≡ share.old) × (entries_of self.new ≡ entries_of self.old)) }
+        ensures next { next_sink_in self.new ≡ next_sink_in self.old }
     {
         let Emitted { frame, refused } = self.profiler.new_frame(rt)?;
         let Some(frame) = frame else {
@@ -240,19 +242,19 @@ impl<L: Ledger + History, M: Ledger> WithHistory<L, M> {
     pub fn add_frame<R: Wait>(&mut self, rt: &R, frame: Arc<FrameData>) -> Result<usize>
         requires boxed_sinks { ⊤ }
         ensures learnt { OnOk result (
-            collected_of self.new.profiler
-            ≡ after_learning (collected_of self.old.profiler) (frame_details (arc_value frame))) }
+            collected_in self.new
+            ≡ after_learning (collected_in self.old) (frame_details (arc_value frame))) }
         ensures missing { (result ≡ Err Error.MissingId)
-            ↔ (list_any lacks_id (frame_details (arc_value frame)) ≡ true) }
+            ↔ IsTrue (list_any lacks_id (frame_details (arc_value frame))) }
         ensures unchanged { (result ≡ Err Error.MissingId) →
-            collected_of self.new.profiler ≡ collected_of self.old.profiler }
-        ensures cause { IfErr result (λ e. (e ≡ Error.MissingId) ⊎ (e ≡ Error.Memory)) }
+            collected_in self.new ≡ collected_in self.old }
+        ensures cause { IfErr result IsDetailsCause }
         ensures known { OnErr result (
-            KnowsSome (collected_of self.old.profiler) (frame_details (arc_value frame))
-            (collected_of self.new.profiler)) }
-        ensures kept { OnErr result (sinks_of self.new.profiler ≡ sinks_of self.old.profiler) }
-        ensures next { next_sink_of self.new.profiler ≡ next_sink_of self.old.profiler }
-        ensures log { self.new.log.entries ≡ self.old.log.entries }
+            KnowsSome (collected_in self.old) (frame_details (arc_value frame))
+            (collected_in self.new)) }
+        ensures kept { OnErr result (sinks_in self.new ≡ sinks_in self.old) }
+        ensures next { next_sink_in self.new ≡ next_sink_in self.old }
+        ensures log { entries_of self.new ≡ entries_of self.old }
     {
         self.profiler.add_frame(rt, frame)
     }
@@ -261,18 +263,18 @@ impl<L: Ledger + History, M: Ledger> WithHistory<L, M> {
     pub fn add_sink(&mut self, sink: Sink) -> std::result::Result<FrameSinkId, (Error, Sink)>
         requires boxed_sinks { ⊤ }
         ensures ok { IfOk result (λ id.
-            (id.0 ≡ next_sink_of self.old.profiler)
-            × (next_sink_of self.new.profiler ≡ next_sink_of self.old.profiler + 1)
-            × PutsIn id.0 sink (sinks_of self.old.profiler) (sinks_of self.new.profiler)) }
+            (id ≡ next_sink_in self.old)
+            × (next_sink_in self.new ≡ next_sink_in self.old + 1)
+            × PutsIn id sink (sinks_in self.old) (sinks_in self.new)) }
         ensures err { IfErr result (λ e.
             (e.1 ≡ sink)
-            × (sinks_of self.new.profiler ≡ sinks_of self.old.profiler)
-            × (next_sink_of self.new.profiler ≡ next_sink_of self.old.profiler)) }
+            × (sinks_in self.new ≡ sinks_in self.old)
+            × (next_sink_in self.new ≡ next_sink_in self.old)) }
         ensures cause { IfErr result (λ e.
-            ((e.0 ≡ Error.SinkIdsExhausted) × (next_sink_of self.old.profiler ≡ 2 ^ 64 - 1))
-            ⊎ ((e.0 ≡ Error.Memory) × (next_sink_of self.old.profiler < 2 ^ 64 - 1))) }
-        ensures rest { collected_of self.new.profiler ≡ collected_of self.old.profiler }
-        ensures log { self.new.log.entries ≡ self.old.log.entries }
+            ((e.0 ≡ Error.SinkIdsExhausted) × (next_sink_in self.old ≡ 2 ^ 64 - 1))
+            ⊎ ((e.0 ≡ Error.Memory) × (next_sink_in self.old < 2 ^ 64 - 1))) }
+        ensures rest { collected_in self.new ≡ collected_in self.old }
+        ensures log { entries_of self.new ≡ entries_of self.old }
     {
         self.profiler.add_sink(sink)
     }
@@ -281,13 +283,13 @@ impl<L: Ledger + History, M: Ledger> WithHistory<L, M> {
     pub fn remove_sink(&mut self, id: FrameSinkId) -> Option<Sink>
         requires boxed_sinks { ⊤ }
         ensures some { IfSome result (λ sink.
-            TakesOut id.0 sink (sinks_of self.old.profiler) (sinks_of self.new.profiler)) }
+            TakesOut id sink (sinks_in self.old) (sinks_in self.new)) }
         ensures none { IfNone result (
-            HasNone id.0 (sinks_of self.old.profiler)
-            × (sinks_of self.new.profiler ≡ sinks_of self.old.profiler)) }
-        ensures next { next_sink_of self.new.profiler ≡ next_sink_of self.old.profiler }
-        ensures rest { collected_of self.new.profiler ≡ collected_of self.old.profiler }
-        ensures log { self.new.log.entries ≡ self.old.log.entries }
+            HasNone id (sinks_in self.old)
+            × (sinks_in self.new ≡ sinks_in self.old)) }
+        ensures next { next_sink_in self.new ≡ next_sink_in self.old }
+        ensures rest { collected_in self.new ≡ collected_in self.old }
+        ensures log { entries_of self.new ≡ entries_of self.old }
     {
         self.profiler.remove_sink(id)
     }
@@ -296,15 +298,14 @@ impl<L: Ledger + History, M: Ledger> WithHistory<L, M> {
     /// scopes reported and handed out. The share doesn't change.
     pub fn totals(&mut self, share: &mut HistoryShare<L, M>) -> Totals
         requires boxed_sinks { ⊤ }
-        ensures reported { result.reported ≡ (collected_of self.old.profiler).reported }
+        ensures reported { result.reported ≡ (collected_in self.old).reported }
         ensures pending { result.pending
-            ≡ total_scopes (map.values (collected_of self.old.profiler).streams) }
-        ensures emitted { result.emitted ≡ (collected_of self.old.profiler).emitted }
-        ensures sum { result.reported ≡ result.pending + result.emitted }
+            ≡ total_scopes (map.values (collected_in self.old).streams) }
+        ensures emitted { result.emitted ≡ (collected_in self.old).emitted }
         ensures own { (share.old.counts.reported ≤ result.reported)
             × (share.old.counts.handed ≤ result.emitted) }
-        ensures same { (self.new.profiler ≡ self.old.profiler)
-            × (self.new.log.entries ≡ self.old.log.entries)
+        ensures same { (profiler_of self.new ≡ profiler_of self.old)
+            × (entries_of self.new ≡ entries_of self.old)
             × (share.new ≡ share.old) }
     {
         // Both calls do nothing; their contracts tell the prover that no share counts more than its book.
@@ -327,14 +328,13 @@ impl<L: Ledger + History, M: Ledger> WithHistory<L, M> {
         ensures reported { IfOk result (λ s. s.reported ≡ all_reported_by shares.items) }
         ensures handed { IfOk result (λ s. s.handed ≡ all_handed_by shares.items) }
         ensures pending { IfOk result (λ s. s.pending
-            ≡ total_scopes (map.values (collected_of self.old.profiler).streams)) }
-        ensures sum { IfOk result (λ s. s.reported ≡ s.handed + s.pending) }
+            ≡ total_scopes (map.values (collected_in self.old).streams)) }
         ensures history { OnOk result (
-            Recounts (vec_len shares) (accounts_of shares.items) self.old.log.entries) }
-        ensures left_pending { (collected_of self.old.profiler).streams
-            ≡ pending_of (events self.old.log.entries) }
+            Recounts (vec_len shares) (accounts_of shares.items) (entries_of self.old)) }
+        ensures left_pending { (collected_in self.old).streams
+            ≡ pending_of (events (entries_of self.old)) }
         ensures err { IfErr result (λ v. (v ≡ shares) × ¬ (vec_len shares ≡ L.parts)) }
-        ensures same { self.new.profiler ≡ self.old.profiler }
+        ensures same { profiler_of self.new ≡ profiler_of self.old }
     {
         if shares.len() as u64 != self.parts.n() {
             return Err(shares);

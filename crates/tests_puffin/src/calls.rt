@@ -58,17 +58,14 @@ fn removed<R: Wait>(rt: &R, profiler: &mut GlobalProfiler, id: FrameSinkId) -> O
 /// Checks that views are numbered from 1 on, that removing the second returns it, once, and that its number isn't given
 /// again.
 fn comes_back<R: AllocGlobal + Wait + Abort>(rt: &R, profiler: &mut GlobalProfiler) -> Outcome {
-    for limit in 1..4 {
-        equal(
-            rt,
-            add_view(rt, profiler, limit)?,
-            FrameSinkId(limit as u64),
-        );
-    }
+    let first = add_view(rt, profiler, 1)?;
+    let second = add_view(rt, profiler, 2)?;
+    let third = add_view(rt, profiler, 3)?;
+    equal(rt, [first.get(), second.get(), third.get()], [1, 2, 3]);
     for limit in [Some(2), None] {
-        equal(rt, removed(rt, profiler, FrameSinkId(2)), limit);
+        equal(rt, removed(rt, profiler, second), limit);
     }
-    equal(rt, add_view(rt, profiler, 4)?, FrameSinkId(4));
+    equal(rt, add_view(rt, profiler, 4)?.get(), 4);
     Ok(())
 }
 

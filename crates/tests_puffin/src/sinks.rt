@@ -75,12 +75,17 @@ pub(crate) fn added(
     }
 }
 
-/// Adds all sinks, in order.
-fn all_added(profiler: &mut GlobalProfiler, sinks: Vec<Sink>) -> Outcome {
+/// Adds all sinks, in order, and returns their numbers.
+fn all_added(
+    rt: &impl AllocGlobal,
+    profiler: &mut GlobalProfiler,
+    sinks: Vec<Sink>,
+) -> std::result::Result<Vec<FrameSinkId>, Fail> {
+    let mut ids = Vec::new(rt.alloc());
     for sink in sinks {
-        let _id = added(profiler, sink)?;
+        ids.push(added(profiler, sink)?)?;
     }
-    Ok(())
+    Ok(ids)
 }
 
 /// Returns what the sinks noted.
@@ -124,8 +129,9 @@ fn a_sink_that_refuses_is_counted_and_the_next_is_called(rt: HostRuntime) -> Out
     let handed = nothing_handed(&rt)?;
     let sinks = sinks_named!(rt, &handed, 3u64, 1u64);
     let mut profiler = GlobalProfiler::new(rt.alloc());
-    all_added(&mut profiler, sinks)?;
-    assert!(rt; profiler.remove_sink(FrameSinkId(2)).is_some());
+    let ids = all_added(&rt, &mut profiler, sinks)?;
+    let second = *ids.get(1).ok_or("no second sink")?;
+    assert!(rt; profiler.remove_sink(second).is_some());
     one_refuses(&rt, &mut profiler, &handed)?;
     none_is_called(&rt, &mut profiler, &handed)
 }
@@ -166,7 +172,7 @@ fn a_frame_that_is_added_is_handed_on_and_not_counted(rt: HostRuntime) -> Outcom
     let handed = nothing_handed(&rt)?;
     let sinks = sinks_named!(rt, &handed, 2u64, 2u64);
     let mut profiler = GlobalProfiler::new(rt.alloc());
-    all_added(&mut profiler, sinks)?;
+    let _ids = all_added(&rt, &mut profiler, sinks)?;
     is_handed_on(&rt, &mut profiler, &handed)
 }
 
@@ -247,6 +253,6 @@ fn a_frame_with_details_without_an_id_is_refused(rt: HostRuntime) -> Outcome {
     let handed = nothing_handed(&rt)?;
     let sinks = sinks_named!(rt, &handed, 1u64, 0u64);
     let mut profiler = GlobalProfiler::new(rt.alloc());
-    all_added(&mut profiler, sinks)?;
+    let _ids = all_added(&rt, &mut profiler, sinks)?;
     is_handed_to_none(&rt, &mut profiler, &handed)
 }

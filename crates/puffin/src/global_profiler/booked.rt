@@ -1,10 +1,9 @@
 //! The value that a shared profiler's lock protects.
-ghost use Rattle.std.specs.Prelude.{◌≡◌, ◌+◌, ◌-◌, ◌^◌, ◌<◌, ◌≤◌, ◌⊎◌, ◌↔◌, [], true, vec_len, Some, OnOk, OnErr, IfOk, IfErr, IfSome, IfNone, ⊤};
+ghost use Rattle.std.specs.Prelude.{◌≡◌, ◌+◌, ◌-◌, ◌^◌, ◌<◌, ◌≤◌, ◌⊎◌, ◌↔◌, [], vec_len, Some, OnOk, OnErr, IfOk, IfErr, IfSome, IfNone, ⊤, IsTrue};
 ghost use Rattle.std.specs.FinMap as map;
 ghost use Rattle.std.specs.List.{list_any};
 ghost use Rattle.std.specs.Arc.{arc_value};
-ghost use Rattle.puffin_data.specs.Forest.{Forest};
-ghost use Rattle.puffin_data.specs.Honesty.{IsHonestRef, facts_of_ref};
+ghost use Rattle.puffin_data.specs.Honesty.{IsHonestReport, facts_of_ref};
 ghost use Rattle.puffin_threads.specs.Thread.ThreadKey.{key_of};
 ghost use Rattle.puffin_threads.specs.Details.{details_seen, lacks_id};
 ghost use Rattle.puffin_frames.specs.Frame.Contents.{AreHonest, frame_details};
@@ -12,10 +11,11 @@ ghost use Rattle.puffin_frames.specs.Frame.Sums.{total_scopes};
 ghost use Rattle.puffin_collector.specs.Collector.State.{AcceptsReport, RefusesReport, after_learning, after_wanting};
 ghost use Rattle.puffin_collector.specs.Collector.Registering.{Adds, AddsSome};
 ghost use Rattle.puffin_collector.specs.Collector.Collecting.{Collects, TellsIds, KeepsPending, KnowsSome};
-ghost use Rattle.puffin.specs.Profiler.{collected_of, sinks_of, next_sink_of};
+ghost use Rattle.puffin.specs.Profiler.{collected_of, SameSinks};
 ghost use Rattle.puffin.specs.Sinks.{PutsIn, TakesOut, HasNone};
 ghost use Rattle.puffin.specs.Sinks.Handing.{HandsOn, HandsOnAny};
 ghost use Rattle.puffin.specs.Shares.{with_reported, CountsFrame, all_reported, all_handed};
+ghost use Rattle.puffin.specs.SharedCauses.{IsDetailsCause};
 
 use crate::global_profiler::profiler::GlobalProfiler;
 use crate::global_profiler::share::{Parts, Share};
@@ -40,8 +40,8 @@ pub struct Booked<L: Ledger, M: Ledger> {
     reported: Book<L>,
     handed: Book<M>,
     parts: Parts<L, M>,
-    ghost reported_is: { reported.total ≡ profiler.collector.reported },
-    ghost handed_is: { handed.total ≡ profiler.collector.emitted },
+    ghost reported_is: { reported.total ≡ (collected_of profiler).reported },
+    ghost handed_is: { handed.total ≡ (collected_of profiler).emitted },
 }
 
 /// The counts of all shares of a profiler together, and the number of pending scopes.
@@ -53,9 +53,12 @@ pub struct Settled {
     pub handed: u64,
     /// The number of reported scopes that weren't handed out.
     pub pending: u64,
+    ghost sum: { reported ≡ handed + pending },
 }
 
 impl<L: Ledger, M: Ledger> Booked<L, M> {
+    ghost use Rattle.puffin.specs.Booked.{profiler_of, collected_in, sinks_in, next_sink_in};
+
     /// Combines a profiler with its books. Their totals must be the profiler's own.
     pub(crate) fn new(
         profiler: GlobalProfiler,
@@ -65,7 +68,7 @@ impl<L: Ledger, M: Ledger> Booked<L, M> {
     ) -> Booked<L, M>
         requires { (reported.total ≡ (collected_of profiler).reported)
             × (handed.total ≡ (collected_of profiler).emitted) }
-        ensures { result.profiler ≡ profiler }
+        ensures { profiler_of result ≡ profiler }
     {
         Booked {
             apart: [0; 16],
@@ -78,7 +81,7 @@ impl<L: Ledger, M: Ledger> Booked<L, M> {
 
     /// Returns the profiler, and drops its books.
     pub(crate) fn into_profiler(self) -> GlobalProfiler
-        ensures { result ≡ self.profiler }
+        ensures { result ≡ profiler_of self }
     {
         let Booked {
             apart: _,
@@ -99,19 +102,19 @@ impl<L: Ledger, M: Ledger> Booked<L, M> {
         details: &[ScopeDetails],
         times: &StreamInfoRef,
     ) -> Result<()>
-        requires { (f : Forest) × IsHonestRef times.now f }
+        requires { IsHonestReport times.now }
         ensures ok { OnOk result (
-            AcceptsReport (collected_of self.old.profiler) (key_of info)
+            AcceptsReport (collected_in self.old) (key_of info)
             (details_seen details.now) (facts_of_ref times.now)
-            (collected_of self.new.profiler)) }
+            (collected_in self.new)) }
         ensures counted { OnOk result (
             share.new ≡ with_reported share.old times.now.num_scopes) }
         ensures err { IfErr result (λ e.
-            RefusesReport (collected_of self.old.profiler) (key_of info)
+            RefusesReport (collected_in self.old) (key_of info)
             (details_seen details.now) (facts_of_ref times.now) e
-            (collected_of self.new.profiler)) }
+            (collected_in self.new)) }
         ensures uncounted { OnErr result (share.new ≡ share.old) }
-        ensures sinks { self.new.profiler.sinks ≡ self.old.profiler.sinks }
+        ensures sinks { SameSinks (profiler_of self.old) (profiler_of self.new) }
     {
         self.profiler.report(info, details, times)?;
         self.reported
@@ -127,17 +130,17 @@ impl<L: Ledger, M: Ledger> Booked<L, M> {
         info: ThreadInfo,
         times: &StreamInfoRef,
     ) -> Result<()>
-        requires { (f : Forest) × IsHonestRef times.now f }
+        requires { IsHonestReport times.now }
         ensures ok { OnOk result (
-            AcceptsReport (collected_of self.old.profiler) (key_of info) []
-            (facts_of_ref times.now) (collected_of self.new.profiler)) }
+            AcceptsReport (collected_in self.old) (key_of info) []
+            (facts_of_ref times.now) (collected_in self.new)) }
         ensures counted { OnOk result (
             share.new ≡ with_reported share.old times.now.num_scopes) }
         ensures err { IfErr result (λ e.
-            RefusesReport (collected_of self.old.profiler) (key_of info) []
-            (facts_of_ref times.now) e (collected_of self.new.profiler)) }
+            RefusesReport (collected_in self.old) (key_of info) []
+            (facts_of_ref times.now) e (collected_in self.new)) }
         ensures uncounted { OnErr result (share.new ≡ share.old) }
-        ensures sinks { self.new.profiler.sinks ≡ self.old.profiler.sinks }
+        ensures sinks { SameSinks (profiler_of self.old) (profiler_of self.new) }
     {
         self.report(share, info, &[], times)
     }
@@ -150,12 +153,12 @@ impl<L: Ledger, M: Ledger> Booked<L, M> {
     ) -> Result<Vec<ScopeId>>
         requires boxed_sinks { ⊤ }
         ensures ok { IfOk result (λ scope_ids.
-            Adds (collected_of self.old.profiler) (details_seen details.now) scope_ids.items
-            (collected_of self.new.profiler)) }
+            Adds (collected_in self.old) (details_seen details.now) scope_ids.items
+            (collected_in self.new)) }
         ensures err { IfErr result (λ e.
-            AddsSome (collected_of self.old.profiler) (details_seen details.now) e
-            (collected_of self.new.profiler)) }
-        ensures sinks { self.new.profiler.sinks ≡ self.old.profiler.sinks }
+            AddsSome (collected_in self.old) (details_seen details.now) e
+            (collected_in self.new)) }
+        ensures sinks { SameSinks (profiler_of self.old) (profiler_of self.new) }
     {
         self.profiler.register_user_scopes(ids, details)
     }
@@ -163,9 +166,9 @@ impl<L: Ledger, M: Ledger> Booked<L, M> {
     /// Makes the next frame list every known scope, as [`GlobalProfiler::emit_scope_snapshot`] does.
     pub fn emit_scope_snapshot(&mut self)
         requires boxed_sinks { ⊤ }
-        ensures wants { collected_of self.new.profiler
-            ≡ after_wanting (collected_of self.old.profiler) }
-        ensures sinks { self.new.profiler.sinks ≡ self.old.profiler.sinks }
+        ensures wants { collected_in self.new
+            ≡ after_wanting (collected_in self.old) }
+        ensures sinks { SameSinks (profiler_of self.old) (profiler_of self.new) }
     {
         self.profiler.emit_scope_snapshot();
     }
@@ -174,25 +177,25 @@ impl<L: Ledger, M: Ledger> Booked<L, M> {
     pub fn new_frame<R: Wait>(&mut self, rt: &R, share: &mut Share<L, M>) -> Result<Emitted>
         requires boxed_sinks { ⊤ }
         ensures ok { IfOk result (λ emitted.
-            Collects (collected_of self.old.profiler) emitted.frame
-            (collected_of self.new.profiler)) }
+            Collects (collected_in self.old) emitted.frame
+            (collected_in self.new)) }
         ensures ids { IfOk result (λ emitted. TellsIds emitted.frame) }
         ensures handed { IfOk result (λ emitted.
-            HandsOnAny (λ b. (FrameSink-box b).accepts) emitted.frame (sinks_of self.old.profiler)
-            emitted.refused (sinks_of self.new.profiler)) }
+            HandsOnAny (λ b. (FrameSink-box b).accepts) emitted.frame (sinks_in self.old)
+            emitted.refused (sinks_in self.new)) }
         ensures counted { IfOk result (λ emitted.
             CountsFrame share.old emitted.frame share.new) }
-        ensures honest { AreHonest (collected_of self.old.profiler).streams }
-        ensures sum { (collected_of self.old.profiler).reported
-            ≡ (collected_of self.old.profiler).emitted
-            + total_scopes (map.values (collected_of self.old.profiler).streams) }
+        ensures honest { AreHonest (collected_in self.old).streams }
+        ensures sum { (collected_in self.old).reported
+            ≡ (collected_in self.old).emitted
+            + total_scopes (map.values (collected_in self.old).streams) }
         ensures exhausted { (result ≡ Err Error.IndexExhausted)
-            ↔ ((collected_of self.old.profiler).index ≡ 2 ^ 64 - 1) }
+            ↔ ((collected_in self.old).index ≡ 2 ^ 64 - 1) }
         ensures err { IfErr result (λ e.
-            KeepsPending (collected_of self.old.profiler) e (collected_of self.new.profiler)) }
-        ensures kept { OnErr result (sinks_of self.new.profiler ≡ sinks_of self.old.profiler) }
+            KeepsPending (collected_in self.old) e (collected_in self.new)) }
+        ensures kept { OnErr result (sinks_in self.new ≡ sinks_in self.old) }
         ensures uncounted { OnErr result (share.new ≡ share.old) }
-        ensures next { next_sink_of self.new.profiler ≡ next_sink_of self.old.profiler }
+        ensures next { next_sink_in self.new ≡ next_sink_in self.old }
     {
         let Emitted { frame, refused } = self.profiler.new_frame(rt)?;
         let Some(frame) = frame else {
@@ -213,21 +216,21 @@ impl<L: Ledger, M: Ledger> Booked<L, M> {
     pub fn add_frame<R: Wait>(&mut self, rt: &R, frame: Arc<FrameData>) -> Result<usize>
         requires boxed_sinks { ⊤ }
         ensures learnt { OnOk result (
-            collected_of self.new.profiler
-            ≡ after_learning (collected_of self.old.profiler) (frame_details (arc_value frame))) }
+            collected_in self.new
+            ≡ after_learning (collected_in self.old) (frame_details (arc_value frame))) }
         ensures handed { IfOk result (λ refused.
             HandsOn (λ b. (FrameSink-box b).accepts) (arc_value frame)
-            (sinks_of self.old.profiler) refused (sinks_of self.new.profiler)) }
+            (sinks_in self.old) refused (sinks_in self.new)) }
         ensures missing { (result ≡ Err Error.MissingId)
-            ↔ (list_any lacks_id (frame_details (arc_value frame)) ≡ true) }
+            ↔ IsTrue (list_any lacks_id (frame_details (arc_value frame))) }
         ensures unchanged { (result ≡ Err Error.MissingId) →
-            collected_of self.new.profiler ≡ collected_of self.old.profiler }
-        ensures cause { IfErr result (λ e. (e ≡ Error.MissingId) ⊎ (e ≡ Error.Memory)) }
+            collected_in self.new ≡ collected_in self.old }
+        ensures cause { IfErr result IsDetailsCause }
         ensures known { OnErr result (
-            KnowsSome (collected_of self.old.profiler) (frame_details (arc_value frame))
-            (collected_of self.new.profiler)) }
-        ensures kept { OnErr result (sinks_of self.new.profiler ≡ sinks_of self.old.profiler) }
-        ensures next { next_sink_of self.new.profiler ≡ next_sink_of self.old.profiler }
+            KnowsSome (collected_in self.old) (frame_details (arc_value frame))
+            (collected_in self.new)) }
+        ensures kept { OnErr result (sinks_in self.new ≡ sinks_in self.old) }
+        ensures next { next_sink_in self.new ≡ next_sink_in self.old }
     {
         self.profiler.add_frame(rt, frame)
     }
@@ -236,17 +239,17 @@ impl<L: Ledger, M: Ledger> Booked<L, M> {
     pub fn add_sink(&mut self, sink: Sink) -> std::result::Result<FrameSinkId, (Error, Sink)>
         requires boxed_sinks { ⊤ }
         ensures ok { IfOk result (λ id.
-            (id.0 ≡ next_sink_of self.old.profiler)
-            × (next_sink_of self.new.profiler ≡ next_sink_of self.old.profiler + 1)
-            × PutsIn id.0 sink (sinks_of self.old.profiler) (sinks_of self.new.profiler)) }
+            (id ≡ next_sink_in self.old)
+            × (next_sink_in self.new ≡ next_sink_in self.old + 1)
+            × PutsIn id sink (sinks_in self.old) (sinks_in self.new)) }
         ensures err { IfErr result (λ e.
             (e.1 ≡ sink)
-            × (sinks_of self.new.profiler ≡ sinks_of self.old.profiler)
-            × (next_sink_of self.new.profiler ≡ next_sink_of self.old.profiler)) }
+            × (sinks_in self.new ≡ sinks_in self.old)
+            × (next_sink_in self.new ≡ next_sink_in self.old)) }
         ensures cause { IfErr result (λ e.
-            ((e.0 ≡ Error.SinkIdsExhausted) × (next_sink_of self.old.profiler ≡ 2 ^ 64 - 1))
-            ⊎ ((e.0 ≡ Error.Memory) × (next_sink_of self.old.profiler < 2 ^ 64 - 1))) }
-        ensures rest { collected_of self.new.profiler ≡ collected_of self.old.profiler }
+            ((e.0 ≡ Error.SinkIdsExhausted) × (next_sink_in self.old ≡ 2 ^ 64 - 1))
+            ⊎ ((e.0 ≡ Error.Memory) × (next_sink_in self.old < 2 ^ 64 - 1))) }
+        ensures rest { collected_in self.new ≡ collected_in self.old }
     {
         self.profiler.add_sink(sink)
     }
@@ -255,12 +258,12 @@ impl<L: Ledger, M: Ledger> Booked<L, M> {
     pub fn remove_sink(&mut self, id: FrameSinkId) -> Option<Sink>
         requires boxed_sinks { ⊤ }
         ensures some { IfSome result (λ sink.
-            TakesOut id.0 sink (sinks_of self.old.profiler) (sinks_of self.new.profiler)) }
+            TakesOut id sink (sinks_in self.old) (sinks_in self.new)) }
         ensures none { IfNone result (
-            HasNone id.0 (sinks_of self.old.profiler)
-            × (sinks_of self.new.profiler ≡ sinks_of self.old.profiler)) }
-        ensures next { next_sink_of self.new.profiler ≡ next_sink_of self.old.profiler }
-        ensures rest { collected_of self.new.profiler ≡ collected_of self.old.profiler }
+            HasNone id (sinks_in self.old)
+            × (sinks_in self.new ≡ sinks_in self.old)) }
+        ensures next { next_sink_in self.new ≡ next_sink_in self.old }
+        ensures rest { collected_in self.new ≡ collected_in self.old }
     {
         self.profiler.remove_sink(id)
     }
@@ -269,15 +272,14 @@ impl<L: Ledger, M: Ledger> Booked<L, M> {
     /// counts of scopes reported and handed out. The share doesn't change.
     pub fn totals(&mut self, share: &mut Share<L, M>) -> Totals
         requires boxed_sinks { ⊤ }
-        ensures reported { result.reported ≡ (collected_of self.old.profiler).reported }
+        ensures reported { result.reported ≡ (collected_in self.old).reported }
         ensures pending { result.pending
-            ≡ total_scopes (map.values (collected_of self.old.profiler).streams) }
-        ensures emitted { result.emitted ≡ (collected_of self.old.profiler).emitted }
-        ensures sum { result.reported ≡ result.pending + result.emitted }
-        ensures honest { AreHonest (collected_of self.old.profiler).streams }
+            ≡ total_scopes (map.values (collected_in self.old).streams) }
+        ensures emitted { result.emitted ≡ (collected_in self.old).emitted }
+        ensures honest { AreHonest (collected_in self.old).streams }
         ensures own { (share.old.reported ≤ result.reported)
             × (share.old.handed ≤ result.emitted) }
-        ensures same { (self.new.profiler ≡ self.old.profiler) × (share.new ≡ share.old) }
+        ensures same { (profiler_of self.new ≡ profiler_of self.old) × (share.new ≡ share.old) }
     {
         // Both calls do nothing; their contracts tell the prover that no share counts more than its book.
         self.reported.audit(&mut share.reported);
@@ -299,10 +301,9 @@ impl<L: Ledger, M: Ledger> Booked<L, M> {
         ensures reported { IfOk result (λ s. s.reported ≡ all_reported shares.items) }
         ensures handed { IfOk result (λ s. s.handed ≡ all_handed shares.items) }
         ensures pending { IfOk result (λ s. s.pending
-            ≡ total_scopes (map.values (collected_of self.old.profiler).streams)) }
-        ensures sum { IfOk result (λ s. s.reported ≡ s.handed + s.pending) }
+            ≡ total_scopes (map.values (collected_in self.old).streams)) }
         ensures err { IfErr result (λ v. (v ≡ shares) × ¬ (vec_len shares ≡ L.parts)) }
-        ensures same { self.new.profiler ≡ self.old.profiler }
+        ensures same { profiler_of self.new ≡ profiler_of self.old }
     {
         if shares.len() as u64 != self.parts.n() {
             return Err(shares);

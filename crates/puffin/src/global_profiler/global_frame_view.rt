@@ -1,5 +1,7 @@
 //! A view of a shared profiler's frames.
-ghost use Rattle.std.specs.Prelude.{◌≡◌, ◌⊎◌, IfErr, ⊤};
+ghost use Rattle.std.specs.Prelude.{◌≡◌, IfErr, ⊤};
+ghost use Rattle.puffin.specs.Reporters.{sink_id_of};
+ghost use Rattle.puffin.specs.SharedCauses.{IsSinkCause};
 
 use crate::global_profiler::shared_profiler::SharedProfiler;
 use crate::global_profiler::sink::{FrameSinkId, Sink};
@@ -33,7 +35,7 @@ impl GlobalFrameView {
         profiler: &SharedProfiler<L, M>,
     ) -> Result<GlobalFrameView>
         requires boxed_sinks { ⊤ }
-        ensures cause { IfErr result (λ e. (e ≡ Error.SinkIdsExhausted) ⊎ (e ≡ Error.Memory)) }
+        ensures cause { IfErr result IsSinkCause }
     {
         let Ok(view) = Arc::new(alloc, Mutex::new(FrameView::new(alloc))) else {
             return Err(Error::Memory);
@@ -63,7 +65,7 @@ impl GlobalFrameView {
 
     /// Returns the view's number among the profiler's sinks.
     pub fn sink_id(&self) -> FrameSinkId
-        ensures { result ≡ self.now.sink_id }
+        ensures { result ≡ sink_id_of self.now }
     {
         self.sink_id
     }

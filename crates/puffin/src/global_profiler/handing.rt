@@ -23,7 +23,7 @@ pub enum Outcome {
 
 impl Outcome {
     /// Returns the outcome for what the sink returned.
-    fn of(taken: Result<()>) -> Outcome {
+    fn from_result(taken: Result<()>) -> Outcome {
         match taken {
             Ok(()) => Outcome::Accepted,
             Err(_) => Outcome::Refused,
@@ -72,7 +72,7 @@ fn hand<R: Wait>(rt: &R, sink: &mut Sink, frame: &Arc<FrameData>) -> Outcome
         return Outcome::NoCopy;
     };
     match sink {
-        Sink::View(view) => Outcome::of(hand_to_view(rt, view, copy)),
+        Sink::View(view) => Outcome::from_result(hand_to_view(rt, view, copy)),
         Sink::Boxed(boxed) => match hand_to_box(boxed, copy) {
             Ok(()) => Outcome::Accepted,
             Err(_) => Outcome::Refused,

@@ -11,7 +11,7 @@ use std::hash::Hash;
 /// Two sink ids are equal exactly when their numbers are, and an id hashes as its number does.
 pub fn sink_ids()
     ensures equality { (a b : FrameSinkId) →
-        ⟦<FrameSinkId as PartialEq>⟧.eq a b ≡ (a.0 == b.0) }
+        ⟦<FrameSinkId as PartialEq>⟧.eq a b ≡ (a == b) }
     ensures hash { (a : FrameSinkId) →
-        ⟦<FrameSinkId as Hash>⟧.hash_input a ≡ fed.u64 a.0 }
+        ⟦<FrameSinkId as Hash>⟧.hash_input a ≡ fed.u64 a }
 {}

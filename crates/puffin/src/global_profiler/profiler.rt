@@ -1,10 +1,9 @@
 //! A profiler that threads report to.
-ghost use Rattle.std.specs.Prelude.{◌≡◌, ◌+◌, ◌-◌, ◌^◌, ◌<◌, ◌⊎◌, ◌↔◌, [], true, OnOk, OnErr, IfOk, IfErr, IfSome, IfNone, ⊤};
+ghost use Rattle.std.specs.Prelude.{◌≡◌, ◌+◌, ◌-◌, ◌^◌, ◌<◌, ◌⊎◌, ◌↔◌, [], OnOk, OnErr, IfOk, IfErr, IfSome, IfNone, ⊤, IsTrue};
 ghost use Rattle.std.specs.FinMap as map;
 ghost use Rattle.std.specs.List.{list_any};
 ghost use Rattle.std.specs.Arc.{arc_value};
-ghost use Rattle.puffin_data.specs.Forest.{Forest};
-ghost use Rattle.puffin_data.specs.Honesty.{IsHonestRef, facts_of_ref};
+ghost use Rattle.puffin_data.specs.Honesty.{IsHonestReport, facts_of_ref};
 ghost use Rattle.puffin_threads.specs.Thread.ThreadKey.{key_of};
 ghost use Rattle.puffin_threads.specs.Details.{details_seen, shared_details, lacks_id};
 ghost use Rattle.puffin_frames.specs.Frame.Contents.{AreHonest, frame_details};
@@ -12,9 +11,10 @@ ghost use Rattle.puffin_frames.specs.Frame.Sums.{total_scopes};
 ghost use Rattle.puffin_collector.specs.Collector.State.{AcceptsReport, RefusesReport, after_learning, after_wanting};
 ghost use Rattle.puffin_collector.specs.Collector.Registering.{Adds, AddsSome};
 ghost use Rattle.puffin_collector.specs.Collector.Collecting.{Collects, TellsIds, KeepsPending, KnowsSome};
-ghost use Rattle.puffin.specs.Profiler.{collected_of, sinks_of, next_sink_of, IsNewProfiler};
+ghost use Rattle.puffin.specs.Profiler.{collected_of, sinks_of, next_sink_of, SameSinks, IsNewProfiler};
 ghost use Rattle.puffin.specs.Sinks.{PutsIn, TakesOut, HasNone};
 ghost use Rattle.puffin.specs.Sinks.Handing.{HandsOn, HandsOnAny};
+ghost use Rattle.puffin.specs.SharedCauses.{IsDetailsCause};
 
 use crate::global_profiler::sink::{FrameSink, FrameSinkId, Sink};
 use crate::global_profiler::sinks::{SinkEntry, Sinks};
@@ -67,7 +67,7 @@ impl GlobalProfiler {
     {
         GlobalProfiler {
             collector: Collector::new(alloc, frame_index),
-            sinks: Sinks::of_none(no_sinks),
+            sinks: Sinks::from_empty(no_sinks),
         }
     }
 
@@ -80,28 +80,28 @@ impl GlobalProfiler {
         details: &[ScopeDetails],
         times: &StreamInfoRef,
     ) -> Result<()>
-        requires { (f : Forest) × IsHonestRef times.now f }
+        requires { IsHonestReport times.now }
         ensures ok { OnOk result (
             AcceptsReport (collected_of self.old) (key_of info) (details_seen details.now)
             (facts_of_ref times.now) (collected_of self.new)) }
         ensures err { IfErr result (λ e.
             RefusesReport (collected_of self.old) (key_of info) (details_seen details.now)
             (facts_of_ref times.now) e (collected_of self.new)) }
-        ensures sinks { self.new.sinks ≡ self.old.sinks }
+        ensures sinks { SameSinks self.old self.new }
     {
         self.collector.report(info, details, times)
     }
 
     /// Appends the caller's own scopes to the pending ones, as [`Collector::report_user_scopes`] does. Fails in the same cases.
     pub fn report_user_scopes(&mut self, info: ThreadInfo, times: &StreamInfoRef) -> Result<()>
-        requires { (f : Forest) × IsHonestRef times.now f }
+        requires { IsHonestReport times.now }
         ensures ok { OnOk result (
             AcceptsReport (collected_of self.old) (key_of info) [] (facts_of_ref times.now)
             (collected_of self.new)) }
         ensures err { IfErr result (λ e.
             RefusesReport (collected_of self.old) (key_of info) [] (facts_of_ref times.now) e
             (collected_of self.new)) }
-        ensures sinks { self.new.sinks ≡ self.old.sinks }
+        ensures sinks { SameSinks self.old self.new }
     {
         self.collector.report_user_scopes(info, times)
     }
@@ -120,7 +120,7 @@ impl GlobalProfiler {
         ensures err { IfErr result (λ e.
             AddsSome (collected_of self.old) (details_seen details.now) e (
             collected_of self.new)) }
-        ensures sinks { self.new.sinks ≡ self.old.sinks }
+        ensures sinks { SameSinks self.old self.new }
     {
         self.collector.register_user_scopes(ids, details)
     }
@@ -129,7 +129,7 @@ impl GlobalProfiler {
     pub fn emit_scope_snapshot(&mut self)
         requires boxed_sinks { ⊤ }
         ensures wants { collected_of self.new ≡ after_wanting (collected_of self.old) }
-        ensures sinks { self.new.sinks ≡ self.old.sinks }
+        ensures sinks { SameSinks self.old self.new }
     {
         self.collector.emit_scope_snapshot();
     }
@@ -149,14 +149,14 @@ impl GlobalProfiler {
         ensures ok { OnOk result (collected_of self.new
             ≡ after_wanting (after_learning (collected_of self.old) (shared_details details.now))) }
         ensures missing { (result ≡ Err Error.MissingId)
-            ↔ (list_any lacks_id (shared_details details.now) ≡ true) }
+            ↔ IsTrue (list_any lacks_id (shared_details details.now)) }
         ensures unchanged { (result ≡ Err Error.MissingId) →
             collected_of self.new ≡ collected_of self.old }
         ensures err { OnErr result (
             KnowsSome (collected_of self.old) (shared_details details.now)
             (collected_of self.new)) }
-        ensures cause { IfErr result (λ e. (e ≡ Error.MissingId) ⊎ (e ≡ Error.Memory)) }
-        ensures sinks { self.new.sinks ≡ self.old.sinks }
+        ensures cause { IfErr result IsDetailsCause }
+        ensures sinks { SameSinks self.old self.new }
     {
         self.collector.learn(details)?;
         self.collector.emit_scope_snapshot();
@@ -185,7 +185,7 @@ impl GlobalProfiler {
             ↔ ((collected_of self.old).index ≡ 2 ^ 64 - 1) }
         ensures err { IfErr result (λ e.
             KeepsPending (collected_of self.old) e (collected_of self.new)) }
-        ensures sinks { self.new.sinks ≡ self.old.sinks }
+        ensures sinks { SameSinks self.old self.new }
     {
         self.collector.collect_frame()
     }
@@ -244,10 +244,10 @@ impl GlobalProfiler {
             HandsOn (λ b. (FrameSink-box b).accepts) (arc_value frame) (sinks_of self.old) refused
             (sinks_of self.new)) }
         ensures missing { (result ≡ Err Error.MissingId)
-            ↔ (list_any lacks_id (frame_details (arc_value frame)) ≡ true) }
+            ↔ IsTrue (list_any lacks_id (frame_details (arc_value frame))) }
         ensures unchanged { (result ≡ Err Error.MissingId) →
             collected_of self.new ≡ collected_of self.old }
-        ensures cause { IfErr result (λ e. (e ≡ Error.MissingId) ⊎ (e ≡ Error.Memory)) }
+        ensures cause { IfErr result IsDetailsCause }
         ensures known { OnErr result (
             KnowsSome (collected_of self.old) (frame_details (arc_value frame))
             (collected_of self.new)) }
@@ -270,9 +270,9 @@ impl GlobalProfiler {
     pub fn add_sink(&mut self, sink: Sink) -> std::result::Result<FrameSinkId, (Error, Sink)>
         requires boxed_sinks { ⊤ }
         ensures ok { IfOk result (λ id.
-            (id.0 ≡ next_sink_of self.old)
+            (id ≡ next_sink_of self.old)
             × (next_sink_of self.new ≡ next_sink_of self.old + 1)
-            × PutsIn id.0 sink (sinks_of self.old) (sinks_of self.new)) }
+            × PutsIn id sink (sinks_of self.old) (sinks_of self.new)) }
         ensures err { IfErr result (λ e.
             (e.1 ≡ sink)
             × (sinks_of self.new ≡ sinks_of self.old)
@@ -290,9 +290,9 @@ impl GlobalProfiler {
     pub fn remove_sink(&mut self, id: FrameSinkId) -> Option<Sink>
         requires boxed_sinks { ⊤ }
         ensures some { IfSome result (λ sink.
-            TakesOut id.0 sink (sinks_of self.old) (sinks_of self.new)) }
+            TakesOut id sink (sinks_of self.old) (sinks_of self.new)) }
         ensures none { IfNone result (
-            HasNone id.0 (sinks_of self.old) × (sinks_of self.new ≡ sinks_of self.old)) }
+            HasNone id (sinks_of self.old) × (sinks_of self.new ≡ sinks_of self.old)) }
         ensures next { next_sink_of self.new ≡ next_sink_of self.old }
         ensures rest { collected_of self.new ≡ collected_of self.old }
     {
@@ -305,7 +305,6 @@ impl GlobalProfiler {
         ensures pending { result.pending
             ≡ total_scopes (map.values (collected_of self.now).streams) }
         ensures emitted { result.emitted ≡ (collected_of self.now).emitted }
-        ensures sum { result.reported ≡ result.pending + result.emitted }
         // Pending scopes are always honest.
         ensures honest { AreHonest (collected_of self.now).streams }
     {

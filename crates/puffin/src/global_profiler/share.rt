@@ -1,5 +1,5 @@
 //! Shares of a shared profiler's counts.
-ghost use Rattle.std.specs.Prelude.{◌≡◌, ◌+◌, ◌<◌, vec_len, All, IfOk, IfErr};
+ghost use Rattle.std.specs.Prelude.{◌≡◌, ◌+◌, ◌<◌, vec_len, All, IfOk, IsOkUnless};
 ghost use Rattle.puffin_data.specs.declared.error.Error.{Error};
 ghost use Rattle.puffin.specs.Shares.{no_counts, all_reported, all_handed};
 
@@ -40,7 +40,7 @@ impl<L: Ledger, M: Ledger> Share<L, M> {
         requires handed { (handed.parts ≡ n) × (handed.amount ≡ 0) }
         ensures shares { IfOk result (λ shares.
             (vec_len shares ≡ n) × All (λ share. share ≡ no_counts) shares.items) }
-        ensures err { IfErr result (λ e. e ≡ Error.Memory) }
+        ensures err { IsOkUnless result Error.Memory }
     {
         let mut shares = Vec::with_capacity(alloc, n)?;
         for _i in 0..n {

@@ -1,14 +1,13 @@
 //! A profiler that several threads share.
-ghost use Rattle.std.specs.Prelude.{◌≡◌, ◌+◌, ◌<◌, ◌≤◌, ◌⊎◌, ◌↔◌, true, vec_len, All, OnOk, OnErr, IfOk, IfErr, ⊤};
+ghost use Rattle.std.specs.Prelude.{◌≡◌, ◌+◌, ◌<◌, ◌≤◌, ◌⊎◌, ◌↔◌, vec_len, All, OnOk, OnErr, IfOk, IfErr, ⊤, IsOkUnless, IsTrue};
 ghost use Rattle.std.specs.List.{list_any};
 ghost use Rattle.std.specs.Arc.{arc_value};
-ghost use Rattle.puffin_data.specs.Forest.{Forest};
-ghost use Rattle.puffin_data.specs.Honesty.{IsHonestRef};
+ghost use Rattle.puffin_data.specs.Honesty.{IsHonestReport};
 ghost use Rattle.puffin_threads.specs.Details.{details_seen, lacks_id, AllHaveIds};
 ghost use Rattle.puffin_frames.specs.Frame.Contents.{frame_details};
 ghost use Rattle.puffin.specs.Profiler.{collected_of};
 ghost use Rattle.puffin.specs.Shares.{no_counts, with_reported, CountsFrame, SpellsItsScopes, all_reported, all_handed};
-ghost use Rattle.puffin.specs.SharedCauses.{IsReportCause, IsScopesCause, IsFrameCause, IsAddingCause};
+ghost use Rattle.puffin.specs.SharedCauses.{IsReportCause, IsScopesCause, IsFrameCause, IsAddingCause, IsSinkCause, IsDetailsCause};
 
 use crate::global_profiler::booked::{Booked, Settled};
 use crate::global_profiler::profiler::GlobalProfiler;
@@ -105,7 +104,7 @@ impl<L: Ledger, M: Ledger> SharedProfiler<L, M> {
     /// Returns another handle to this profiler. Fails only with `Memory`.
     pub fn clone(&self) -> Result<SharedProfiler<L, M>>
         requires boxed_sinks { ⊤ }
-        ensures cause { IfErr result (λ e. e ≡ Error.Memory) }
+        ensures cause { IsOkUnless result Error.Memory }
     {
         Ok(SharedProfiler {
             booked: Arc::try_clone(&self.booked)?,
@@ -151,7 +150,7 @@ impl<L: Ledger, M: Ledger> SharedProfiler<L, M> {
         details: &[ScopeDetails],
         times: &StreamInfoRef,
     ) -> Result<()>
-        requires { (f : Forest) × IsHonestRef times.now f }
+        requires { IsHonestReport times.now }
         ensures counted { OnOk result (
             share.new ≡ with_reported share.old times.now.num_scopes) }
         ensures ids { OnOk result (AllHaveIds (details_seen details.now)) }
@@ -170,7 +169,7 @@ impl<L: Ledger, M: Ledger> SharedProfiler<L, M> {
         info: ThreadInfo,
         times: &StreamInfoRef,
     ) -> Result<()>
-        requires { (f : Forest) × IsHonestRef times.now f }
+        requires { IsHonestReport times.now }
         ensures counted { OnOk result (
             share.new ≡ with_reported share.old times.now.num_scopes) }
         ensures uncounted { OnErr result (share.new ≡ share.old) }
@@ -220,8 +219,8 @@ impl<L: Ledger, M: Ledger> SharedProfiler<L, M> {
     pub fn add_frame<R: Wait>(&self, rt: &R, frame: Arc<FrameData>) -> Result<usize>
         requires boxed_sinks { ⊤ }
         ensures missing { (result ≡ Err Error.MissingId)
-            ↔ (list_any lacks_id (frame_details (arc_value frame)) ≡ true) }
-        ensures cause { IfErr result (λ e. (e ≡ Error.MissingId) ⊎ (e ≡ Error.Memory)) }
+            ↔ IsTrue (list_any lacks_id (frame_details (arc_value frame))) }
+        ensures cause { IfErr result IsDetailsCause }
     {
         self.lock(rt).add_frame(rt, frame)
     }
@@ -234,7 +233,7 @@ impl<L: Ledger, M: Ledger> SharedProfiler<L, M> {
     ) -> std::result::Result<FrameSinkId, (Error, Sink)>
         requires boxed_sinks { ⊤ }
         ensures err { IfErr result (λ e.
-            (e.1 ≡ sink) × ((e.0 ≡ Error.SinkIdsExhausted) ⊎ (e.0 ≡ Error.Memory))) }
+            (e.1 ≡ sink) × IsSinkCause e.0) }
     {
         self.lock(rt).add_sink(sink)
     }
@@ -249,7 +248,6 @@ impl<L: Ledger, M: Ledger> SharedProfiler<L, M> {
     /// Calls [`Booked::totals`] under the lock.
     pub fn totals(&self, rt: &impl Wait, share: &mut Share<L, M>) -> Totals
         requires boxed_sinks { ⊤ }
-        ensures sum { result.reported ≡ result.pending + result.emitted }
         ensures own { (share.old.reported ≤ result.reported)
             × (share.old.handed ≤ result.emitted) }
         ensures same { share.new ≡ share.old }
@@ -274,7 +272,6 @@ impl<L: Ledger, M: Ledger> SharedProfiler<L, M> {
             (vec_len shares ≡ L.parts) × (vec_len shares ≡ M.parts)) }
         ensures reported { IfOk result (λ s. s.reported ≡ all_reported shares.items) }
         ensures handed { IfOk result (λ s. s.handed ≡ all_handed shares.items) }
-        ensures sum { IfOk result (λ s. s.reported ≡ s.handed + s.pending) }
         ensures err { IfErr result (λ v. (v ≡ shares) × ¬ (vec_len shares ≡ L.parts)) }
     {
         self.lock(rt).settle(shares)

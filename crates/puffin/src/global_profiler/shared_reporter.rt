@@ -5,6 +5,7 @@ ghost use Rattle.puffin_data.specs.Forest.{Forest};
 ghost use Rattle.puffin_data.specs.Honesty.{IsHonestRef};
 ghost use Rattle.puffin_threads.specs.Thread.Calls.{offsets_of};
 ghost use Rattle.puffin_threads.specs.Thread.Closing.{Closes, Reports};
+ghost use Rattle.puffin.specs.Reporters.{share_of};
 
 use crate::global_profiler::share::Share;
 use crate::global_profiler::shared_profiler::SharedProfiler;
@@ -36,7 +37,7 @@ impl<L: Ledger, M: Ledger, R: Wait> SharedReporter<L, M, R> {
     /// Makes a reporter to this profiler through this share.
     pub fn new(rt: R, profiler: SharedProfiler<L, M>, share: Share<L, M>) -> SharedReporter<L, M, R>
         requires boxed_sinks { ⊤ }
-        ensures { result.share ≡ share }
+        ensures { share_of result ≡ share }
     {
         SharedReporter {
             rt,
@@ -49,10 +50,9 @@ impl<L: Ledger, M: Ledger, R: Wait> SharedReporter<L, M, R> {
     /// out. Waits for the lock.
     pub fn totals(&mut self) -> Totals
         requires boxed_sinks { ⊤ }
-        ensures sum { result.reported ≡ result.pending + result.emitted }
-        ensures own { (self.old.share.reported ≤ result.reported)
-            × (self.old.share.handed ≤ result.emitted) }
-        ensures same { self.new.share ≡ self.old.share }
+        ensures own { ((share_of self.old).reported ≤ result.reported)
+            × ((share_of self.old).handed ≤ result.emitted) }
+        ensures same { share_of self.new ≡ share_of self.old }
     {
         self.profiler.totals(&self.rt, &mut self.share)
     }
@@ -107,7 +107,7 @@ impl<L: Ledger, M: Ledger, R: Wait + Drop> SharedReporter<L, M, R> {
     /// Returns the share.
     pub fn into_share(self) -> Share<L, M>
         requires boxed_sinks { ⊤ }
-        ensures { result ≡ self.share }
+        ensures { result ≡ share_of self }
     {
         let SharedReporter {
             rt: _,
@@ -125,9 +125,9 @@ impl<L: Ledger, M: Ledger, R: Wait> Reporter for SharedReporter<L, M, R> {
     ghost use Rattle.puffin.specs.SharedCauses.{IsReportCause};
 
     ghost accepts = { λ old i ds r new.
-        (new.share ≡ with_reported old.share r.num_scopes) × AllHaveIds ds };
+        (share_of new ≡ with_reported (share_of old) r.num_scopes) × AllHaveIds ds };
 
-    ghost refuses = { λ old i ds r e new. (new.share ≡ old.share) × IsReportCause ds e };
+    ghost refuses = { λ old i ds r e new. (share_of new ≡ share_of old) × IsReportCause ds e };
 
     #[inline]
     fn report(

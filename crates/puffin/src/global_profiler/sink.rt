@@ -4,6 +4,7 @@ ghost use Rattle.std.specs.Arc.{arc_value};
 use puffin_data::{Error, Result};
 use puffin_frames::frame_data::FrameData;
 use puffin_view::profile_view::FrameView;
+use std::marker::Model;
 use std::sync::{Arc, Mutex};
 
 /// Takes the frames of a profiler.
@@ -29,6 +30,38 @@ pub enum Sink {
     Boxed(Box<dyn FrameSink + Send>),
 }
 
-/// The number of a sink. A profiler's first sink has the number 1, and no number is used twice.
+/// The number of a sink, which the profiler gives it. A profiler's first sink has the number 1, and no number is used twice.
 #[derive(Clone, Copy, Debug, PartialEq, Eq, Hash)]
-pub struct FrameSinkId(pub u64);
+pub struct FrameSinkId {
+    number: u64,
+}
+
+impl Model for FrameSinkId {
+    ghost use Rattle.std.specs.Prelude.{ℕ, ◌<◌, ◌^◌};
+
+    ghost Value = { ℕ };
+
+    ghost view = { λ id. id.number };
+
+    ghost invariant = { λ id. id.number < 2 ^ 64 };
+
+    ghost inverse = { λ n. record { number = n } };
+}
+
+impl FrameSinkId {
+    ghost use Rattle.std.specs.Prelude.{◌≡◌};
+
+    /// Makes the id with this number.
+    pub(crate) fn new(number: u64) -> FrameSinkId
+        ensures { result ≡ number }
+    {
+        FrameSinkId { number }
+    }
+
+    /// Returns the number.
+    pub fn get(&self) -> u64
+        ensures { result ≡ self.now }
+    {
+        self.number
+    }
+}

