@@ -19,7 +19,7 @@ use Rattle.puffin_data.specs.Text.{cut_text}
 use Rattle.puffin_data.specs.Forest.Tour.{tour}
 use Rattle.puffin_data.specs.Forest.Words.{num_begun, open_after}
 use Rattle.puffin_threads.specs.Thread.ThreadKey.{ThreadKey, key_of}
-use Rattle.puffin_threads.specs.Thread.Calls.{Thread, after_begin, after_end, after_handing, after_registering, key_of_thread}
+use Rattle.puffin_threads.specs.Thread.Calls.{Thread, after_begin, after_end, after_handing, after_registering, key_of_thread, begun_place, clock_time}
 use Rattle.puffin_threads.specs.Details.{Details, with_id, AllHaveIds, shared_details}
 use Rattle.puffin_threads.specs.Details.Collection.{Collection, with_all_details, IsPrefix}
 use Rattle.puffin_frames.specs.Frame.Contents.{Streams}
@@ -41,10 +41,10 @@ use Rattle.puffin_session.specs.Session.History.{Word, Opening, begun, ended, Ac
 use Rattle.puffin_session.specs.Session.Deliveries.{Delivery, under, all_taken, deliveries_at}
 use Rattle.puffin_session.specs.Session.Due.{due, index_after, is_numbered}
 use Rattle.puffin_session.specs.Session.Notes.{notes_at, due_notes_at, details_learnt_at, due_details, known_after, is_wanted, wanted_at}
-use Rattle.puffin_session.specs.Session.{SessionState, word_in, thread_after, word_of_thread, begun_place, SpellsWord, TellsAfter}
+use Rattle.puffin_session.specs.Session.{SessionState, word_in, thread_after, word_of_thread, SpellsWord, TellsAfter}
 use Rattle.puffin_session.specs.Session.Actions.{details_given, user_details}
 use Rattle.puffin_session.specs.Session.Replies.{TellsScopes, ending_key, ending_word}
-use Rattle.puffin_session.specs.inner.Serving.{clock_time, session_thread, session_with_thread, session_with_collected, EndsInnermost, SumsTo, Continued, ContinuesBy, Continues}
+use Rattle.puffin_session.specs.inner.Serving.{session_thread, session_with_thread, session_with_collected, EndsInnermost, SumsTo, Continued, ContinuesBy, Continues}
 use Rattle.puffin_session.proofs.Histories.{due-same, due-more, due-anew}
 use Rattle.puffin_session.proofs.SessionCollects.{SpellsFrame-taken, NoneDue-untaken}
 use Rattle.puffin_session.proofs.Laws.{events_in-spelling}

@@ -13,7 +13,7 @@ use Rattle.std.proofs.lemmas.List.{get_or-set_same}
 use Rattle.puffin_session.specs.Session.History.{nobody}
 use Rattle.puffin_threads.specs.Thread.ThreadKey.{ThreadKey}
 use Rattle.puffin_threads.specs.Details.{Details, AllHaveIds}
-use Rattle.puffin_threads.specs.Thread.Calls.{Thread}
+use Rattle.puffin_threads.specs.Thread.Calls.{Thread, clock_time}
 use Rattle.puffin_threads.specs.Thread.Closing.{Closes}
 use Rattle.puffin_frames.specs.declared.frame_data.frame.FrameData.{FrameData}
 use Rattle.puffin_threads.specs.declared.thread_profiler.reporter.Closed.{Closed}
@@ -21,7 +21,7 @@ use Rattle.puffin_threads.specs.declared.thread_profiler.reporter.Closed.TheVari
 use Rattle.puffin_collector.specs.Collector.State.{Collected, AcceptsReport, RefusesReport, after_wanting, IsReportRefusal}
 use Rattle.puffin_collector.specs.Collector.Collecting.{Collects, KeepsPending}
 use Rattle.puffin_session.specs.Session.{SessionState}
-use Rattle.puffin_session.specs.inner.Serving.{clock_time, session_thread, session_with_thread, session_with_collected, EndsInnermost}
+use Rattle.puffin_session.specs.inner.Serving.{session_thread, session_with_thread, session_with_collected, EndsInnermost}
 
 abbrev session : List Thread → Collected → SessionState
 session threads collected = record { threads = threads; collected = collected }

@@ -12,9 +12,6 @@ use Rattle.std.specs.FinMap.{entries, get}
 use Rattle.puffin_data.specs.declared.data.form.Form.{Form}
 use Rattle.puffin_data.specs.Forest.{Forest}
 use Rattle.puffin_data.specs.Forest.Tour.{tour}
-use Rattle.puffin_data.specs.Forest.Spelling.{size_offset}
-use Rattle.puffin_data.specs.Forest.Words.{word_size}
-use Rattle.puffin_data.specs.Text.{cut_text}
 use Rattle.puffin_data.specs.Honesty.{StreamFacts, AreHonestFacts}
 use Rattle.puffin_threads.specs.Thread.ThreadKey.{ThreadKey}
 use Rattle.puffin_threads.specs.Thread.Calls.{Thread, new_thread}
@@ -85,11 +82,6 @@ thread_after o done t = record {
 -- a thread's unreported scopes, in its form
 abbrev pub word_of_thread : Thread → Word
 word_of_thread thread = record { form = thread.form; events = thread.word }
-
--- the offset of the size of a scope with this text that begins now
-abbrev pub begun_place : Thread → List ℕ → ℕ
-begun_place thread text =
-    word_size thread.form thread.word + size_offset thread.form (cut_text thread.form text)
 
 -- the known details, those new in the next frame, and whether that frame is to list all known ones
 pub record TellsAfter (o : Opening) (done : List Action) (now : Collected) : Type 0 where

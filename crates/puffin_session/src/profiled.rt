@@ -4,11 +4,10 @@ ghost use Rattle.std.specs.Prelude.{◌≡◌, ◌+◌, ◌-◌, ◌<◌, ◌⊎
 ghost use Rattle.std.specs.String.{string_bytes};
 ghost use Rattle.puffin_data.specs.Text.{cut_text};
 ghost use Rattle.puffin_data.specs.Forest.Words.{open_after};
-ghost use Rattle.puffin_threads.specs.Details.{with_id, AllHaveIds};
-ghost use Rattle.puffin_threads.specs.Thread.Calls.{new_thread, after_begin, after_registering};
-ghost use Rattle.puffin_session.specs.Session.{begun_place};
+ghost use Rattle.puffin_threads.specs.Details.{with_id, AllHaveIds, IsAddingCause};
+ghost use Rattle.puffin_threads.specs.Thread.Calls.{new_thread, after_begin, after_registering, begun_place, clock_time};
 ghost use Rattle.puffin_session.specs.Session.Actions.{details_given};
-ghost use Rattle.puffin_session.specs.inner.Serving.{clock_time, EndsInnermost};
+ghost use Rattle.puffin_session.specs.inner.Serving.{EndsInnermost};
 
 use puffin_collector::Collector;
 use puffin_data::data::{Form, ScopeId};
@@ -82,7 +81,7 @@ impl Profiled {
             (details_given (option_map string_bytes name.now) (string_bytes function.now)
             (string_bytes file.now) line) id)) }
         ensures err { OnErr result (self.new ≡ self.old) }
-        ensures cause { IfErr result (λ e. (e ≡ Error.IdsExhausted) ⊎ (e ≡ Error.Memory)) }
+        ensures cause { IfErr result IsAddingCause }
     {
         let function = CowStr::Owned(function.clone()?);
         let file = CowStr::Owned(file.clone()?);

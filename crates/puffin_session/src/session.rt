@@ -10,14 +10,14 @@ ghost use Rattle.puffin_data.specs.Walk.{IsFault};
 ghost use Rattle.puffin_data.specs.Forest.Words.{open_after};
 ghost use Rattle.puffin_threads.specs.Thread.ThreadKey.{key_of};
 ghost use Rattle.puffin_threads.specs.Details.{with_id, AllHaveIds, details_seen};
-ghost use Rattle.puffin_threads.specs.Thread.Calls.{after_begin, after_registering};
+ghost use Rattle.puffin_threads.specs.Thread.Calls.{after_begin, after_registering, begun_place, clock_time};
 ghost use Rattle.puffin_collector.specs.Collector.State.{AcceptsReport, IsReportRefusal, nothing_collected, after_wanting};
 ghost use Rattle.puffin_collector.specs.Collector.Collecting.{Collects, TellsIds, KeepsPending};
 ghost use Rattle.puffin_collector.specs.Collector.Registering.{Adds, AddsSome};
-ghost use Rattle.puffin_session.specs.Session.{new_session, begun_place};
+ghost use Rattle.puffin_session.specs.Session.{new_session};
 ghost use Rattle.puffin_session.specs.Session.Runs.{Records, HasIds};
 ghost use Rattle.puffin_session.specs.Session.Actions.{details_given, user_details};
-ghost use Rattle.puffin_session.specs.inner.Serving.{clock_time, session_thread, session_with_thread, session_with_collected, EndsInnermost, Continues};
+ghost use Rattle.puffin_session.specs.inner.Serving.{session_thread, session_with_thread, session_with_collected, EndsInnermost, Continues};
 
 use crate::command::{Command, Reply};
 use crate::profiled::Profiled;

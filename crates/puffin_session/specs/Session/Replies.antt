@@ -12,7 +12,7 @@ use Rattle.puffin_data.specs.Forest.Tour.{Event, tour}
 use Rattle.puffin_data.specs.Walk.{IsFault}
 use Rattle.puffin_data.specs.Forest.Words.{word_size, num_begun, open_after, least_open, greatest_close}
 use Rattle.std.specs.Int.{int_max}
-use Rattle.puffin_threads.specs.Thread.Calls.{after_end, key_of_thread}
+use Rattle.puffin_threads.specs.Thread.Calls.{after_end, key_of_thread, begun_place}
 use Rattle.puffin_threads.specs.Thread.ThreadKey.{ThreadKey, key_of}
 use Rattle.puffin_frames.specs.Frame.Sums.{meta_of}
 use Rattle.puffin_frames.specs.Frame.Contents.{Streams, holding_of, frame_meta}
@@ -33,7 +33,7 @@ use Rattle.puffin_session.specs.Session.History.{Word, Opening, Action}
 use Rattle.puffin_session.specs.Session.Deliveries.{Delivery, unreported}
 use Rattle.puffin_session.specs.Session.Due.{due, IsUnlikeDue, events_of, bytes_delivered, scopes_delivered, index_after, reported_after, NoneDue}
 use Rattle.puffin_session.specs.Session.Notes.{due_details, known_after, is_wanted}
-use Rattle.puffin_session.specs.Session.{thread_after, word_of_thread, begun_place, SpellsDue}
+use Rattle.puffin_session.specs.Session.{thread_after, word_of_thread, SpellsDue}
 use Rattle.puffin_session.specs.Session.Actions.{user_details}
 
 -- The frame with this index spells what was due, and its meta is that of its streams, which have at least one scope. It is held

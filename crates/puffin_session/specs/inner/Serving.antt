@@ -1,7 +1,6 @@
 -- What single commands do to a session, for the proof of a run.
-use Rattle.std.specs.Prelude.{◌≡◌, ℕ, ℤ, pos, List, [], ◌∷◌, ◌++◌, slice_set}
+use Rattle.std.specs.Prelude.{◌≡◌, ℕ, ℤ, List, [], ◌∷◌, ◌++◌, slice_set}
 use Rattle.std.specs.List.{slice_index_or, flat_map, sum_by}
-use Rattle.std.specs.Int.{int_max}
 use Rattle.std.specs.FinMap.{values}
 use Rattle.puffin_data.specs.Forest.Words.{least_open, greatest_close}
 use Rattle.puffin_threads.specs.Thread.Calls.{Thread}
@@ -22,10 +21,6 @@ use Rattle.puffin_session.specs.Session.Replies.{MayReply}
 use Rattle.puffin_session.specs.Session.Runs.{Records}
 
 -- ---- what single calls do
-
--- a negative time counts as 0
-abbrev pub clock_time : ℤ → ℤ
-clock_time at = int_max (pos 0) at
 
 abbrev pub session_thread : SessionState → ℕ → Thread
 session_thread s t = slice_index_or s.threads t nobody

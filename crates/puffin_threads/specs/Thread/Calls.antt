@@ -1,14 +1,15 @@
 -- What a thread has recorded, and how each call changes it.
-use Rattle.std.specs.Prelude.{◌≡◌, ℕ, ◌+◌, ◌⊎◌, ℤ, pos, List, [], ◌∷◌, ◌++◌, drop, fold, Option, Some, None, Result, Ok, Err}
+use Rattle.std.specs.Prelude.{◌≡◌, ℕ, ◌+◌, ℤ, pos, List, [], ◌∷◌, ◌++◌, drop, fold, Option, Some, None, Result, Ok, Err}
 use Rattle.std.specs.Int.{int_max}
 use Rattle.std.specs.Option.{option_or}
 use Rattle.puffin_data.specs.declared.error.Error.{Error}
-use Rattle.puffin_data.specs.declared.error.Error.TheVariants.{IdsExhausted, Memory}
 use Rattle.puffin_data.specs.declared.data.form.Form.{Form}
 use Rattle.puffin_data.specs.Forest.Spelling.{size_offset, head_size, end_size}
 use Rattle.puffin_data.specs.Forest.Tour.{Event, Open, Close}
+use Rattle.puffin_data.specs.Forest.Words.{word_size}
+use Rattle.puffin_data.specs.Text.{cut_text}
 use Rattle.puffin_threads.specs.Thread.ThreadKey.{ThreadKey}
-use Rattle.puffin_threads.specs.Details.{Details, with_id}
+use Rattle.puffin_threads.specs.Details.{Details, with_id, IsAddingCause}
 
 -- a thread: its name and form, the start of its first scope, its greatest time so far, and its events and registered details that no accepted report has handed over
 pub record Thread : Type 0 where
@@ -56,7 +57,7 @@ after_registering thread d = record thread { details = thread.details ++ (d ∷ 
 -- Registers a scope with these details and the id drawn for it, for the next accepted report; or nothing changes.
 abbrev pub RegistersScope : Thread → Details → Result ℕ Error → Thread → Type 0
 RegistersScope old d (Ok id) new = new ≡ after_registering old (with_id d id)
-RegistersScope old d (Err e) new = (new ≡ old) × ((e ≡ IdsExhausted) ⊎ (e ≡ Memory))
+RegistersScope old d (Err e) new = (new ≡ old) × IsAddingCause e
 
 -- after an accepted report, which hands over all of its events and details
 abbrev pub after_handing : Thread → Thread
@@ -84,3 +85,12 @@ open_offsets form word = (fold (opened_after form) (0, []) word).1
 -- the offsets of a thread's open scopes
 abbrev pub offsets_of : Thread → List ℕ
 offsets_of thread = open_offsets thread.form thread.word
+
+-- the time of a scripted clock that is set to this time: a negative one counts as 0
+abbrev pub clock_time : ℤ → ℤ
+clock_time at = int_max (pos 0) at
+
+-- the offset that a scope with this text gets if it begins now: where its size is stored
+abbrev pub begun_place : Thread → List ℕ → ℕ
+begun_place thread text =
+    word_size thread.form thread.word + size_offset thread.form (cut_text thread.form text)

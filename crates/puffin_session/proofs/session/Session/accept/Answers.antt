@@ -3,12 +3,11 @@ use Rattle.std.proofs.Common.{◌+◌, ℕ, List, length, ◌∙◌, ap, subst, 
 use Rattle.std.proofs.lemmas.Int.{to_z-of_z}
 use Rattle.std.proofs.lemmas.Result.{err_from_is_err_and}
 use Rattle.puffin_data.specs.Text.{cut_text}
-use Rattle.puffin_threads.specs.Thread.Calls.{after_begin}
+use Rattle.puffin_threads.specs.Thread.Calls.{after_begin, begun_place, clock_time}
 use Rattle.puffin_session.specs.declared.command.Command.TheVariants.{End}
-use Rattle.puffin_session.specs.inner.Serving.{clock_time, session_thread, session_with_thread, EndsInnermost}
+use Rattle.puffin_session.specs.inner.Serving.{session_thread, session_with_thread, EndsInnermost}
 use Rattle.puffin_session.proofs.Serving.{Continues-began, Continues-ended, Continues-handed, Continues-taken, Continues-registered, Continues-added, Continues-not_added, Continues-wanted, Continues-not_framed, same}
 use Rattle.puffin_session.proofs.Refusals.{Continues-not_registered, Continues-not_begun, Continues-not_ended, Continues-not_reported}
-use Rattle.puffin_session.specs.Session.{begun_place}
 use Rattle.puffin_session.specs.Session.Actions.{user_details}
 use Rattle.puffin_collector.specs.Collector.Registering.{Adds, AddsSome}
 use Rattle.puffin_session.proofs.SessionCloses.{wanted-from}

@@ -2,7 +2,8 @@
 use Rattle.std.proofs.Common.{◌<◌, length, rules, ℤ, w64, subst}
 use Rattle.std.specs.Prelude.{IfOk}
 use Rattle.std.proofs.lemmas.Int.{to_z-of_z}
-use Rattle.puffin_session.specs.inner.Serving.{clock_time, EndsInnermost}
+use Rattle.puffin_threads.specs.Thread.Calls.{clock_time}
+use Rattle.puffin_session.specs.inner.Serving.{EndsInnermost}
 use Rattle.puffin_session.proofs.SessionCloses.{Ends-there}
 use Rattle.puffin_session.proofs.session.Session.end.Goals as goal
 
