@@ -83,7 +83,6 @@ fn none_line(alloc: Global, cause: Error) -> Result<String, AllocError>
 }
 
 /// Makes frame 0 with an honest info as its one stream.
-#[tactic(auto, using(puffin_data::proofs::lemmas::ForestRanges::least_in_range, puffin_data::proofs::lemmas::ForestRanges::greatest_in_range, puffin_data::proofs::lemmas::ForestRanges::ordered))]
 fn frame_of(alloc: Global, info: StreamInfo) -> Result<UnpackedFrameData, Error>
     ensures { (f : Forest) → IsHonest info f →
         MatchResult result (λ frame. frame_of_forest info.stream.form f ≡ Ok frame.meta) (λ e.

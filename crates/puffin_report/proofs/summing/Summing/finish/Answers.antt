@@ -2,12 +2,16 @@ use Rattle.std.proofs.Common.{refl, inr, ap}
 use Rattle.std.proofs.lemmas.Result.{err_from_is_err_and}
 use Rattle.puffin_data.specs.Cause.{file_error_of}
 use Rattle.puffin_view.proofs.lemmas.ReadingViews.{kept_by_reading}
-use Rattle.puffin_report.proofs.Stepping.{kept_is_read, summed, refused_before, refused_at_end, no_io_before, refused_of}
+use Rattle.puffin_report.proofs.Stepping.{kept_is_read, summed, refused_before, not_unpacked_before, refused_at_end, no_io_before, refused_of}
 use Rattle.puffin_report.proofs.summing.Summing.finish.Goals as goal
 
 pub returns-in-Refused-clause-err : goal.returns-in-Refused-clause-err
 returns-in-Refused-clause-err c = λ info stored h few.
     inr (refused_before info stored c.args.self h (kept_is_read stored kept_by_reading few) c.in-Refused.cause c.in-Refused.is)
+
+pub returns-in-NotUnpacked-clause-err : goal.returns-in-NotUnpacked-clause-err
+returns-in-NotUnpacked-clause-err c = λ info stored h few.
+    inr (not_unpacked_before info stored c.args.self h (kept_is_read stored kept_by_reading few) c.in-NotUnpacked.fault c.in-NotUnpacked.is)
 
 pub returns-in-NotUnpacked-clause-cause : goal.returns-in-NotUnpacked-clause-cause
 returns-in-NotUnpacked-clause-cause c = no_io_before c.requires.0 c.requires.1 c.args.self c.in-NotUnpacked.fault c.requires.2 c.in-NotUnpacked.is
