@@ -5,7 +5,8 @@
  *
  * A program has to follow these rules. Nothing checks them, either here or in the library:
  *
- * - Pass no NULL, except for a text or for bytes that a call only reads (const uint8_t *), if their length is 0. A pointer must
+ * - Pass no NULL, except for a text or for bytes that a call only reads (const uint8_t *) and for the lists of puffin_scopes, if
+ *   their length is 0. A pointer must
  *   point to as many bytes as its length says. While a call runs, no other thread may write bytes that the call reads, or read
  *   or write bytes that the call may write. No two parameters of a call may overlap, unless both are only read.
  * - Fill a handle (PuffinIds, PuffinThread, PuffinProfiler) with zeros ({0}) before its first call. It isn't open then:
@@ -21,8 +22,12 @@
 #include <stdbool.h>
 #include <stddef.h>
 #include <stdint.h>
+#include <time.h>
 #ifdef __cplusplus
+#define PUFFIN_INLINE_ inline
 extern "C" {
+#else
+#define PUFFIN_INLINE_ static inline
 #endif
 
 /* ---- versions: of this header, and of the library that is linked */
@@ -105,6 +110,26 @@ uint32_t puffin_check_file(const uint8_t *file, size_t size, uint64_t *frames, u
 uint32_t puffin_report_file(const uint8_t *file, size_t file_size, bool has_start, int64_t start_ns, const uint8_t *name,
                             size_t name_size, uint8_t *out, size_t room, uint64_t *size);
 
+/* ---- the scopes of a stream, one after the other */
+
+/* How many rows and bytes a list has. */
+typedef struct PuffinLists {
+    uint64_t rows, bytes;
+} PuffinLists;
+
+/* A scope, nested in depth others. Its text is at text_at in the bytes of all texts. */
+typedef struct PuffinScope {
+    int64_t start_ns, stop_ns;
+    uint64_t depth, text_at, text_size;
+    uint32_t id;
+} PuffinScope;
+
+/* Lists the scopes of a stream, each before its children. Copies them to the front of scopes, at most room of them, and their
+ * texts, one behind the other, to the front of texts. Sets *sizes to how many scopes and bytes of texts there are: a program may
+ * ask with no room first. Fails like puffin_count. */
+uint32_t puffin_scopes(const uint8_t *bytes, size_t size, bool long_texts, PuffinScope *scopes, size_t room, uint8_t *texts,
+                       size_t texts_room, PuffinLists *sizes);
+
 /* ---- ids, which threads and profilers share */
 
 typedef struct PuffinIds {
@@ -120,13 +145,16 @@ uint32_t puffin_ids_close(PuffinIds *ids);
 
 typedef struct PuffinThread {
     void *at_;
-    bool is_open_;
+    bool is_open_, is_on_;
 } PuffinThread;
 
 /* The texts of the thread's scopes are cut to at most 127 bytes, or 16,383 if long_texts is set. */
 uint32_t puffin_thread_open(PuffinThread *thread, PuffinIds *ids, const uint8_t *name, size_t name_size, bool long_texts);
 /* Drops the scopes that weren't reported. */
 uint32_t puffin_thread_close(PuffinThread *thread);
+/* Gives up a thread's waiting scopes, for example those of a report that is refused again and again, and sets *scopes to how many
+ * there were. The names that were registered stay for the next report. Fails while a scope is open. */
+uint32_t puffin_thread_discard(PuffinThread *thread, uint64_t *scopes);
 
 /* Register a function, or a scope within a function under a name of its own, and set *id. Pass 0 if the line is unknown. If
  * the call fails, an id may be used up. */
@@ -139,8 +167,29 @@ uint32_t puffin_register_scope(PuffinThread *thread, const uint8_t *name, size_t
  * counts as 0, and a time before the thread's last one counts as the last one. */
 uint32_t puffin_begin(PuffinThread *thread, int64_t now_ns, uint32_t id, const uint8_t *text, size_t text_size,
                       uint64_t *scope);
-/* Ends this scope, which must be the innermost open one. */
+/* Ends this scope, which must be the innermost open one. Does nothing if scope is PUFFIN_NO_SCOPE. */
 uint32_t puffin_end(PuffinThread *thread, int64_t now_ns, uint64_t scope);
+
+/* Turns a thread's scopes on or off. They are on when the thread is opened. While they are off, puffin_begin begins no scope,
+ * whatever its id and text are, and sets *scope to PUFFIN_NO_SCOPE. A scope that is open already is ended as usual. */
+uint32_t puffin_set_scopes_on(PuffinThread *thread, bool is_on);
+/* Whether a scope would begin now. A program can ask this before it reads its clock or makes a text. */
+PUFFIN_INLINE_ bool puffin_scopes_on(const PuffinThread *thread) {
+    return thread->is_on_;
+}
+enum { PUFFIN_NO_SCOPE = 0 };
+
+/* ---- a clock for a program that has none of its own: the library itself reads no clock */
+
+#if defined(CLOCK_MONOTONIC) && !defined(PUFFIN_NO_CLOCK)
+/* The time in nanoseconds by the system's monotonic clock, which is one clock for all threads of a process. It is declared where
+ * <time.h> has that clock: in POSIX systems, if the program doesn't ask for ISO C alone (as -std=c99 does). */
+PUFFIN_INLINE_ int64_t puffin_now_ns(void) {
+    struct timespec now;
+    clock_gettime(CLOCK_MONOTONIC, &now);
+    return (int64_t)now.tv_sec * 1000000000 + now.tv_nsec;
+}
+#endif
 
 /* ---- collecting what threads report into frames, and a view of the frames */
 
@@ -209,19 +258,21 @@ enum {
 /* Copies the sizes to the front of sizes, at most room of them, and returns how many the library has. */
 size_t puffin_sizes(uint64_t *sizes, size_t room);
 
-/* ---- empty texts: the calls above get a pointer that isn't NULL */
-
-#ifdef __cplusplus
-#define PUFFIN_INLINE_ inline
-#else
-#define PUFFIN_INLINE_ static inline
-#endif
+/* ---- empty texts: the calls above get a pointer that isn't NULL. Scopes that are off: no call is made, and the answer is the
+ * library's own. */
 
 PUFFIN_INLINE_ const uint8_t *puffin_bytes_(const uint8_t *bytes) {
     return bytes ? bytes : (const uint8_t *)"";
 }
 PUFFIN_INLINE_ uint32_t puffin_count_(const uint8_t *bytes, size_t size, bool long_texts, PuffinCount *count) {
     return puffin_count(puffin_bytes_(bytes), size, long_texts, count);
+}
+PUFFIN_INLINE_ uint32_t puffin_scopes_(const uint8_t *bytes, size_t size, bool long_texts, PuffinScope *scopes, size_t room,
+                                       uint8_t *texts, size_t texts_room, PuffinLists *sizes) {
+    PuffinScope none;
+    uint8_t no_text;
+    return puffin_scopes(puffin_bytes_(bytes), size, long_texts, scopes ? scopes : &none, room, texts ? texts : &no_text,
+                         texts_room, sizes);
 }
 PUFFIN_INLINE_ uint32_t puffin_check_file_(const uint8_t *file, size_t size, uint64_t *frames, uint64_t *offset) {
     return puffin_check_file(puffin_bytes_(file), size, frames, offset);
@@ -248,7 +299,17 @@ PUFFIN_INLINE_ uint32_t puffin_register_scope_(PuffinThread *thread, const uint8
 }
 PUFFIN_INLINE_ uint32_t puffin_begin_(PuffinThread *thread, int64_t now_ns, uint32_t id, const uint8_t *text,
                                       size_t text_size, uint64_t *scope) {
+    if (!thread->is_on_ && thread->is_open_) {
+        *scope = PUFFIN_NO_SCOPE;
+        return PUFFIN_OK;
+    }
     return puffin_begin(thread, now_ns, id, puffin_bytes_(text), text_size, scope);
+}
+PUFFIN_INLINE_ uint32_t puffin_end_(PuffinThread *thread, int64_t now_ns, uint64_t scope) {
+    if (scope == PUFFIN_NO_SCOPE && thread->is_open_) {
+        return PUFFIN_OK;
+    }
+    return puffin_end(thread, now_ns, scope);
 }
 PUFFIN_INLINE_ uint32_t puffin_user_scopes_(PuffinProfiler *profiler, bool has_start, int64_t start_ns, const uint8_t *name,
                                             size_t name_size, const uint8_t *bytes, size_t size, bool long_texts) {
@@ -256,12 +317,14 @@ PUFFIN_INLINE_ uint32_t puffin_user_scopes_(PuffinProfiler *profiler, bool has_s
                               long_texts);
 }
 #define puffin_count puffin_count_
+#define puffin_scopes puffin_scopes_
 #define puffin_check_file puffin_check_file_
 #define puffin_report_file puffin_report_file_
 #define puffin_thread_open puffin_thread_open_
 #define puffin_register_function puffin_register_function_
 #define puffin_register_scope puffin_register_scope_
 #define puffin_begin puffin_begin_
+#define puffin_end puffin_end_
 #define puffin_user_scopes puffin_user_scopes_
 
 #ifdef __cplusplus

@@ -19,7 +19,7 @@
 mod global;
 mod raw;
 
-pub use global::{file, new_frame, refused, set_limits, snapshot, Place, ScopeGuard};
+pub use global::{are_scopes_on, file, new_frame, refused, set_limits, set_scopes_on, snapshot, Place, ScopeGuard};
 pub use raw::Version;
 
 use raw::{Handle, RawFrame};
@@ -154,15 +154,42 @@ impl Thread {
         Ok(id)
     }
 
+    /// Begins a scope. While scopes are off, none begins, and this returns at once.
+    #[inline]
     pub fn begin(&mut self, now_ns: i64, id: u32, text: &str) -> Result<Scope, Fault> {
-        let mut scope = 0;
+        let mut scope = raw::NO_SCOPE;
+        if !self.0.is_on() {
+            return Ok(Scope(scope));
+        }
         told(unsafe { raw::puffin_begin(&mut self.0, now_ns, id, text.as_ptr(), text.len(), &mut scope) })?;
         Ok(Scope(scope))
     }
 
     /// Ends the innermost open scope, which must be this one.
+    #[inline]
     pub fn end(&mut self, now_ns: i64, scope: Scope) -> Result<(), Fault> {
+        if scope.0 == raw::NO_SCOPE {
+            return Ok(());
+        }
         told(unsafe { raw::puffin_end(&mut self.0, now_ns, scope.0) })
+    }
+
+    /// Turns scopes on or off. They are on at first. A scope that is open already is ended as usual.
+    pub fn set_scopes_on(&mut self, is_on: bool) -> Result<(), Fault> {
+        told(unsafe { raw::puffin_set_scopes_on(&mut self.0, is_on) })
+    }
+
+    /// Returns whether a scope would begin now.
+    pub fn are_scopes_on(&self) -> bool {
+        self.0.is_on()
+    }
+
+    /// Gives up the closed scopes that weren't reported, for example because a report is refused again and again, and returns
+    /// how many there were. The names that were registered stay for the next report. Fails while a scope is open.
+    pub fn discard(&mut self) -> Result<u64, Fault> {
+        let mut scopes = 0;
+        told(unsafe { raw::puffin_thread_discard(&mut self.0, &mut scopes) })?;
+        Ok(scopes)
     }
 }
 

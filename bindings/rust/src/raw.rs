@@ -2,17 +2,45 @@
 
 use std::ffi::c_void;
 
-/// A handle. It isn't open when it is filled with zeros.
+/// A handle. It isn't open when it is filled with zeros. Only that of a thread has scopes to turn on.
 #[repr(C)]
 pub struct Handle {
     at: *mut c_void,
     is_open: bool,
+    is_on: bool,
 }
 
 impl Handle {
     pub const fn new() -> Handle {
-        Handle { at: std::ptr::null_mut(), is_open: false }
+        Handle { at: std::ptr::null_mut(), is_open: false, is_on: false }
     }
+
+    pub fn is_on(&self) -> bool {
+        self.is_on
+    }
+}
+
+/// The offset that stands for no scope.
+pub const NO_SCOPE: u64 = 0;
+
+/// How many rows and bytes a list has.
+#[repr(C)]
+#[derive(Default, Clone, Copy)]
+pub struct Lists {
+    pub rows: u64,
+    pub bytes: u64,
+}
+
+/// A scope of a stream.
+#[repr(C)]
+#[derive(Default, Clone, Copy)]
+pub struct RawScope {
+    pub start_ns: i64,
+    pub stop_ns: i64,
+    pub depth: u64,
+    pub text_at: u64,
+    pub text_size: u64,
+    pub id: u32,
 }
 
 /// Describes a frame.
@@ -67,6 +95,18 @@ extern "C" {
     ) -> u32;
     pub fn puffin_begin(thread: *mut Handle, now_ns: i64, id: u32, text: *const u8, size: usize, scope: *mut u64) -> u32;
     pub fn puffin_end(thread: *mut Handle, now_ns: i64, scope: u64) -> u32;
+    pub fn puffin_set_scopes_on(thread: *mut Handle, is_on: bool) -> u32;
+    pub fn puffin_thread_discard(thread: *mut Handle, scopes: *mut u64) -> u32;
+    pub fn puffin_scopes(
+        bytes: *const u8,
+        size: usize,
+        long_texts: bool,
+        scopes: *mut RawScope,
+        room: usize,
+        texts: *mut u8,
+        texts_room: usize,
+        sizes: *mut Lists,
+    ) -> u32;
     pub fn puffin_profiler_open(profiler: *mut Handle, ids: *mut Handle) -> u32;
     pub fn puffin_profiler_close(profiler: *mut Handle) -> u32;
     pub fn puffin_report(thread: *mut Handle, profiler: *mut Handle) -> u32;

@@ -3,9 +3,11 @@ pub mod FaultNames
 pub mod Faults
 pub mod Handles
 pub mod Layout
+pub mod Lists
 pub mod Owning
 pub mod Profiling
 pub mod Recording
 pub mod Reporting
+pub mod ScopeLists
 pub mod Times
 pub mod Version

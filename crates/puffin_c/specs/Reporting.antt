@@ -67,10 +67,10 @@ HasLines bytes info lines =
 abbrev pub LacksLines : List ℕ → ThreadKey → FileError → Type 0
 LacksLines bytes info e = (left : Option (List ℕ)) × FailsToSumUp info (Some bytes) left e
 
--- `old` after as many of `bytes` as fit were copied over its beginning
-abbrev pub laid_over : List ℕ → List ℕ → List ℕ
-laid_over old bytes =
-    take (min (length bytes) (length old)) bytes ++ drop (min (length bytes) (length old)) old
+-- `old` after as many of `items` as fit were copied over its beginning
+abbrev pub laid_over : {X : Type 0} → List X → List X → List X
+laid_over old items =
+    take (min (length items) (length old)) items ++ drop (min (length items) (length old)) old
 
 -- Either the name is UTF-8, the report is copied over the beginning of `old`, and `size` is its length; or nothing is changed.
 -- A name that isn't UTF-8 is reported before any fault in the file.

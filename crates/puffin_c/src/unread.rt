@@ -1,4 +1,4 @@
-//! Bytes that a program reads in pieces.
+//! Bytes that a program reads in pieces, and lists that it gets as far as they fit.
 
 ghost use Rattle.std.specs.Prelude.{◌≡◌, ◌≤◌, [], drop, length, min};
 ghost use Rattle.puffin_c.specs.Reporting.{laid_over};
@@ -7,13 +7,13 @@ use std::alloc::Global;
 use std::io::Read;
 use std::marker::Model;
 
-/// Copies the bytes to the front of `out`, as many as fit, and returns how many were copied.
-pub(crate) fn lay_over(bytes: &[u8], out: &mut [u8]) -> usize
-    ensures out { out.new ≡ laid_over out.old bytes.now }
-    ensures number { result ≡ min (length bytes.now) (length out.old) }
+/// Copies the items to the front of `out`, as many as fit, and returns how many were copied.
+pub(crate) fn lay_over<T: Copy>(items: &[T], out: &mut [T]) -> usize
+    ensures out { out.new ≡ laid_over out.old items.now }
+    ensures number { result ≡ min (length items.now) (length out.old) }
 {
-    let number = bytes.len().min(out.len());
-    out[..number].copy_from_slice(&bytes[..number]);
+    let number = items.len().min(out.len());
+    out[..number].copy_from_slice(&items[..number]);
     number
 }
 
