@@ -344,6 +344,9 @@ static void names(void) {
     is("a name's beginning", strcmp(few, "PUFF") == 0, true);
 }
 
+static uint8_t file_bytes[4096];
+static uint64_t file_size;
+
 static size_t read_file(uint8_t *file, uint64_t size) {
     uint64_t got = 1, all = 0;
     while (got) {
@@ -389,30 +392,99 @@ static void views(void) {
     is("a file of one frame", size, packet_size + 4);
 }
 
+/* A fault in the meta of the second frame is found when the meta was read: behind its letters and its length. */
+static void is_found(uint8_t *file, uint64_t size) {
+    uint64_t frames = 0, end = 0, got = 0;
+    uint8_t meta_size = file[size + 4], first = file[size + 8];
+    file[size + 8] = 0xff;
+    is("a frame without an index", puffin_check_file(file, 2 * size - 4, &frames, &end, &got), PUFFIN_FILE_BAD_META);
+    is("frames before it", frames, 1);
+    is("where it begins", end, size);
+    is("where its meta ends", got, size + 8 + meta_size);
+    file[size + 8] = first;
+}
+
+/* The threads of the file, and the streams of its frame. */
+static void viewing(const uint8_t *file, uint64_t size) {
+    static PuffinFileThread threads[4];
+    static PuffinStream streams[4];
+    static PuffinScope scopes[8];
+    static uint8_t names[64], bytes[1024], texts[64];
+    PuffinLists sizes = {0, 0};
+    PuffinFrame frame = {0};
+    uint64_t next = 7;
+    CALL(puffin_file_threads(file, size, threads, 4, names, sizeof names, &sizes));
+    is("threads", sizes.rows, 3);
+    is("bytes of names", sizes.bytes, 13);
+    is("names", memcmp(names, "gpumainworker", 14) == 0, true);
+    is("start", (uint64_t)threads[0].start_ns, 5);
+    is("start", (uint64_t)threads[1].start_ns, 1000);
+    is("start", (uint64_t)threads[2].start_ns, 1500);
+    for (int i = 0; i < 3; i++) {
+        is("has a start", threads[i].has_start, true);
+        is("frames", threads[i].frames, 1);
+        is("scopes", threads[i].scopes, i == 0 ? 1 : 6);
+    }
+    is("place of a name", threads[2].name_at, 7);
+    is("size of a name", threads[2].name_size, 6);
+    CALL(puffin_frame_streams(file, size, 0, &frame, &next, streams, 4, bytes, sizeof bytes, &sizes));
+    is("scopes", frame.scopes, 13);
+    is("the frame's end", next, size);
+    is("streams", sizes.rows, 3);
+    is("a short stream", streams[1].long_texts, false);
+    is("a long stream", streams[2].long_texts, true);
+    is("scopes", streams[2].scopes, 6);
+    is("depth", streams[2].depth, 2);
+    is("start", (uint64_t)streams[2].start_ns, 1500);
+    is("name", memcmp(bytes + streams[2].name_at, TEXT("worker")) == 0, true);
+    is("size of the name", streams[2].name_size, 6);
+    is("bytes", streams[2].stream_at + streams[2].stream_size, sizes.bytes);
+    CALL(puffin_scopes(bytes + streams[2].stream_at, streams[2].stream_size, true, scopes, 8, texts, sizeof texts, &sizes));
+    is("scopes", sizes.rows, 6);
+    is_scope(&scopes[1], scopes[1].id, 1600, 1650, 1, 0, 4);
+    is("texts", memcmp(texts, "stepstepstepstep", 17) == 0, true);
+    CALL(puffin_frame_streams(file, size, next, &frame, &next, streams, 4, bytes, sizeof bytes, &sizes));
+    is("no frame", frame.is_some, false);
+    is("no streams", sizes.rows + sizes.bytes, 0);
+    is("the file's end", next, size);
+    REFUSED("past the end", puffin_frame_streams(file, size, size + 1, &frame, &next, streams, 4, bytes, 1, &sizes),
+            PUFFIN_INVALID_OFFSET);
+    REFUSED("a cut file", puffin_frame_streams(file, size - 1, 4, &frame, &next, streams, 4, bytes, 1, &sizes),
+            PUFFIN_FILE_TRUNCATED);
+    REFUSED("a cut file", puffin_file_threads(file, size - 1, threads, 4, names, 1, &sizes), PUFFIN_FILE_TRUNCATED);
+    REFUSED("no file", puffin_frame_streams(TEXT("XUF0"), 0, &frame, &next, streams, 4, bytes, 1, &sizes), PUFFIN_FILE_NO_MAGIC);
+}
+
 static void reading(const char *path) {
-    uint64_t size = 0, frames = 0, lines = 0, end = 7;
-    static uint8_t file[4096], out[2000];
+    uint64_t size = 0, frames = 0, lines = 0, end = 7, got = 7;
+    static uint8_t out[2000];
+    uint8_t *file = file_bytes;
     CALL(puffin_file_begin(&profiler, &size));
     is("bytes of the file", read_file(file, size), size);
+    file_size = size;
     packets(file, size);
     FILE *written = fopen(path, "wb");
     fwrite(file, 1, size, written);
     fclose(written);
-    CALL(puffin_check_file(file, size, &frames, &end));
+    CALL(puffin_check_file(file, size, &frames, &end, &got));
     is("frames", frames, 1);
     is("the frame's end", end, size);
+    is("how far the file is read", got, size);
     /* the same packet once more, which is then cut */
     memcpy(file + size, file + 4, size - 4);
-    CALL(puffin_check_file(file, 2 * size - 4, &frames, &end));
+    CALL(puffin_check_file(file, 2 * size - 4, &frames, &end, &got));
     is("frames", frames, 2);
     is("the last frame's end", end, 2 * size - 4);
-    is("a cut file", puffin_check_file(file, 2 * size - 5, &frames, &end), PUFFIN_FILE_TRUNCATED);
+    is("a cut file", puffin_check_file(file, 2 * size - 5, &frames, &end, &got), PUFFIN_FILE_TRUNCATED);
     is("frames before the cut", frames, 1);
     is("where the cut frame begins", end, size);
-    is("no file", puffin_check_file(TEXT("XUF0"), &frames, &end), PUFFIN_FILE_NO_MAGIC);
+    is("how far a cut file is read", got, 2 * size - 5);
+    is_found(file, size);
+    is("no file", puffin_check_file(TEXT("XUF0"), &frames, &end, &got), PUFFIN_FILE_NO_MAGIC);
     is("frames of no file", frames, 0);
     is("where no file begins", end, 0);
-    is("no bytes", puffin_check_file(NULL, 0, &frames, &end), PUFFIN_FILE_NO_MAGIC);
+    is("how far no file is read", got, 4);
+    is("no bytes", puffin_check_file(NULL, 0, &frames, &end, &got), PUFFIN_FILE_NO_MAGIC);
     CALL(puffin_report_file(file, size, true, 1000, TEXT("main"), out, sizeof out, &lines));
     fwrite(out, 1, lines, stdout);
     CALL(puffin_report_file(file, size, true, 5, TEXT("gpu"), out, sizeof out, &lines));
@@ -461,6 +533,7 @@ int main(int argc, char **argv) {
     counts = false;
     reading(argv[1]);
     counts = true;
+    viewing(file_bytes, file_size);
     views();
     CALL(puffin_ids_close(&ids));
     CALL(puffin_profiler_close(&profiler));

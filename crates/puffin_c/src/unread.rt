@@ -34,11 +34,45 @@ impl Model for Unread {
     ghost invariant = { λ u. u.read ≤ length u.bytes.items };
 }
 
-/// What a program reads in pieces: the file of the view, and the packet of one frame.
+/// What a program reads in pieces: the file of the view, or the packet of its newest frame.
+#[derive(Clone, Copy)]
+pub(crate) enum Piece {
+    File,
+    Packet,
+}
+
+/// The unread bytes of the file, and of the packet.
 #[derive(Drop)]
 pub(crate) struct Pieces {
     pub(crate) file: Unread,
     pub(crate) packet: Unread,
+}
+
+impl Pieces {
+    ghost use Rattle.puffin_c.specs.Pieces.{unread_in, pieces_with};
+
+    /// Replaces the unread bytes.
+    pub(crate) fn put(&mut self, piece: Piece, bytes: Vec<u8>)
+        ensures { self.new ≡ pieces_with piece self.old bytes.items }
+    {
+        match piece {
+            Piece::File => self.file = Unread::of(bytes),
+            Piece::Packet => self.packet = Unread::of(bytes),
+        }
+    }
+
+    /// Reads as many bytes as fit into `out`, and returns how many.
+    pub(crate) fn read(&mut self, piece: Piece, out: &mut [u8]) -> usize
+        ensures out { out.new ≡ laid_over out.old (unread_in piece self.old) }
+        ensures number { result ≡ min (length (unread_in piece self.old)) (length out.old) }
+        ensures left { self.new
+            ≡ pieces_with piece self.old (drop result (unread_in piece self.old)) }
+    {
+        match piece {
+            Piece::File => self.file.read(out),
+            Piece::Packet => self.packet.read(out),
+        }
+    }
 }
 
 impl Unread {
