@@ -5,7 +5,8 @@
  *
  * A program has to follow these rules. Nothing checks them, either here or in the library:
  *
- * - Pass no NULL, except for a text or for bytes that a call only reads (const uint8_t *), if their length is 0. A pointer must
+ * - Pass no NULL, except for a text or for bytes that a call only reads (const uint8_t *) and for the lists of puffin_scopes,
+ *   puffin_frame_streams and puffin_file_threads, if their length is 0. A pointer must
  *   point to as many bytes as its length says. While a call runs, no other thread may write bytes that the call reads, or read
  *   or write bytes that the call may write. No two parameters of a call may overlap, unless both are only read.
  * - Fill a handle (PuffinIds, PuffinThread, PuffinProfiler) with zeros ({0}) before its first call. It isn't open then:
@@ -21,8 +22,12 @@
 #include <stdbool.h>
 #include <stddef.h>
 #include <stdint.h>
+#include <time.h>
 #ifdef __cplusplus
+#define PUFFIN_INLINE_ inline
 extern "C" {
+#else
+#define PUFFIN_INLINE_ static inline
 #endif
 
 /* ---- versions: of this header, and of the library that is linked */
@@ -44,6 +49,7 @@ enum {
     PUFFIN_PREMATURE_END = 1,     /* the bytes end within a scope, or an id in them is 0 */
     PUFFIN_INVALID_STREAM = 2,    /* the bytes aren't scopes */
     PUFFIN_SCOPE_NEVER_ENDED = 3, /* a scope in the bytes was begun and not ended */
+    PUFFIN_INVALID_OFFSET = 4,    /* the offset is past the file's end */
     PUFFIN_TOO_LARGE = 6,         /* a count doesn't fit 64 bits */
     PUFFIN_RANGE_TOO_LONG = 7,    /* the frame's duration wouldn't fit int64_t */
     PUFFIN_MISMATCHED_END = 8,    /* the scope isn't the innermost open one */
@@ -93,10 +99,11 @@ typedef struct PuffinCount {
  * PUFFIN_MEMORY; only count->tries is set then. */
 uint32_t puffin_count(const uint8_t *bytes, size_t size, bool long_texts, PuffinCount *count);
 
-/* Reads a file, and sets *frames to the number of its frames, and *offset to the offset at which the last of them ends. Fails
- * with the first fault in the file; *frames is then the number of frames that were read before the fault, or before memory ran
- * out. The fault is in the next frame, which begins at *offset, or at the file's beginning if *offset is 0. */
-uint32_t puffin_check_file(const uint8_t *file, size_t size, uint64_t *frames, uint64_t *offset);
+/* Reads a file, and sets *frames to the number of its frames, *offset to the offset at which the last of them ends, and *read to
+ * how many bytes were read. Fails with the first fault in the file; *frames is then the number of frames that were read before
+ * the fault, or before memory ran out. The fault is in the next frame, which begins at *offset, or at the file's beginning if
+ * *offset is 0: in the last part that was read, which ends at *read. */
+uint32_t puffin_check_file(const uint8_t *file, size_t size, uint64_t *frames, uint64_t *offset, uint64_t *read);
 
 /* Reports on a file for the thread with this name and this start, or with this name and no start if has_start isn't set.
  * Copies the report to the front of out, as much of it as fits, and sets *size to the size of the whole report in bytes.
@@ -104,6 +111,65 @@ uint32_t puffin_check_file(const uint8_t *file, size_t size, uint64_t *frames, u
  * file. */
 uint32_t puffin_report_file(const uint8_t *file, size_t file_size, bool has_start, int64_t start_ns, const uint8_t *name,
                             size_t name_size, uint8_t *out, size_t room, uint64_t *size);
+
+/* ---- the scopes of a stream, one after the other */
+
+/* How many rows and bytes a list has. */
+typedef struct PuffinLists {
+    uint64_t rows, bytes;
+} PuffinLists;
+
+/* A scope, nested in depth others. Its text is at text_at in the bytes of all texts. */
+typedef struct PuffinScope {
+    int64_t start_ns, stop_ns;
+    uint64_t depth, text_at, text_size;
+    uint32_t id;
+} PuffinScope;
+
+/* Lists the scopes of a stream, each before its children. Copies them to the front of scopes, at most room of them, and their
+ * texts, one behind the other, to the front of texts. Sets *sizes to how many scopes and bytes of texts there are: a program may
+ * ask with no room first. Fails like puffin_count. */
+uint32_t puffin_scopes(const uint8_t *bytes, size_t size, bool long_texts, PuffinScope *scopes, size_t room, uint8_t *texts,
+                       size_t texts_room, PuffinLists *sizes);
+
+/* ---- the frames of a file, one after the other */
+
+/* Describes a frame. */
+typedef struct PuffinFrame {
+    uint64_t index, scopes, bytes;
+    int64_t start_ns, stop_ns;
+    bool is_some; /* whether there is a frame: none is made if no scope was reported, and none is at the end of a file */
+} PuffinFrame;
+
+/* A thread's scopes in a frame. The name of the thread and its stream are at name_at and stream_at in the bytes of all streams.
+ * has_start tells whether it is known when the thread's first scope began; start_ns is 0 otherwise. */
+typedef struct PuffinStream {
+    int64_t start_ns;
+    uint64_t scopes, depth, name_at, name_size, stream_at, stream_size;
+    bool has_start, long_texts;
+} PuffinStream;
+
+/* Reads the frame at an offset of a file, fills in *frame, and sets *next to the offset at which the frame ends and the next one
+ * begins. The first frame is at offset 0. Lists the frame's streams, ordered by start and name: copies them to the front of
+ * streams, at most room of them, and the name of each thread, followed by its stream, to the front of bytes. Sets *sizes to how
+ * many streams and bytes there are. puffin_scopes lists the scopes of a stream. At the file's end, only frame->is_some is set, to
+ * false, *sizes to 0, and *next. Fails with PUFFIN_INVALID_OFFSET past the file's end, or with the frame's fault. */
+uint32_t puffin_frame_streams(const uint8_t *file, size_t size, uint64_t offset, PuffinFrame *frame, uint64_t *next,
+                              PuffinStream *streams, size_t room, uint8_t *bytes, size_t bytes_room, PuffinLists *sizes);
+
+/* What the frames of a file have of one thread. Its name is at name_at in the bytes of all names. has_start tells whether it is
+ * known when the thread's first scope began; start_ns is 0 otherwise. */
+typedef struct PuffinFileThread {
+    int64_t start_ns;
+    uint64_t frames, scopes, name_at, name_size;
+    bool has_start;
+} PuffinFileThread;
+
+/* Lists the threads of a file, ordered by start and name. Copies them to the front of threads, at most room of them, and their
+ * names, one behind the other, to the front of names. Sets *sizes to how many threads and bytes of names there are. Fails with the
+ * first fault in the file. */
+uint32_t puffin_file_threads(const uint8_t *file, size_t size, PuffinFileThread *threads, size_t room, uint8_t *names,
+                             size_t names_room, PuffinLists *sizes);
 
 /* ---- ids, which threads and profilers share */
 
@@ -120,13 +186,16 @@ uint32_t puffin_ids_close(PuffinIds *ids);
 
 typedef struct PuffinThread {
     void *at_;
-    bool is_open_;
+    bool is_open_, is_on_;
 } PuffinThread;
 
 /* The texts of the thread's scopes are cut to at most 127 bytes, or 16,383 if long_texts is set. */
 uint32_t puffin_thread_open(PuffinThread *thread, PuffinIds *ids, const uint8_t *name, size_t name_size, bool long_texts);
 /* Drops the scopes that weren't reported. */
 uint32_t puffin_thread_close(PuffinThread *thread);
+/* Gives up a thread's waiting scopes, for example those of a report that is refused again and again, and sets *scopes to how many
+ * there were. The names that were registered stay for the next report. Fails while a scope is open. */
+uint32_t puffin_thread_discard(PuffinThread *thread, uint64_t *scopes);
 
 /* Register a function, or a scope within a function under a name of its own, and set *id. Pass 0 if the line is unknown. If
  * the call fails, an id may be used up. */
@@ -139,8 +208,29 @@ uint32_t puffin_register_scope(PuffinThread *thread, const uint8_t *name, size_t
  * counts as 0, and a time before the thread's last one counts as the last one. */
 uint32_t puffin_begin(PuffinThread *thread, int64_t now_ns, uint32_t id, const uint8_t *text, size_t text_size,
                       uint64_t *scope);
-/* Ends this scope, which must be the innermost open one. */
+/* Ends this scope, which must be the innermost open one. Does nothing if scope is PUFFIN_NO_SCOPE. */
 uint32_t puffin_end(PuffinThread *thread, int64_t now_ns, uint64_t scope);
+
+/* Turns a thread's scopes on or off. They are on when the thread is opened. While they are off, puffin_begin begins no scope,
+ * whatever its id and text are, and sets *scope to PUFFIN_NO_SCOPE. A scope that is open already is ended as usual. */
+uint32_t puffin_set_scopes_on(PuffinThread *thread, bool is_on);
+/* Whether a scope would begin now. A program can ask this before it reads its clock or makes a text. */
+PUFFIN_INLINE_ bool puffin_scopes_on(const PuffinThread *thread) {
+    return thread->is_on_;
+}
+enum { PUFFIN_NO_SCOPE = 0 };
+
+/* ---- a clock for a program that has none of its own: the library itself reads no clock */
+
+#if defined(CLOCK_MONOTONIC) && !defined(PUFFIN_NO_CLOCK)
+/* The time in nanoseconds by the system's monotonic clock, which is one clock for all threads of a process. It is declared where
+ * <time.h> has that clock: in POSIX systems, if the program doesn't ask for ISO C alone (as -std=c99 does). */
+PUFFIN_INLINE_ int64_t puffin_now_ns(void) {
+    struct timespec now;
+    clock_gettime(CLOCK_MONOTONIC, &now);
+    return (int64_t)now.tv_sec * 1000000000 + now.tv_nsec;
+}
+#endif
 
 /* ---- collecting what threads report into frames, and a view of the frames */
 
@@ -148,13 +238,6 @@ typedef struct PuffinProfiler {
     void *at_;
     bool is_open_;
 } PuffinProfiler;
-
-/* Describes a frame. */
-typedef struct PuffinFrame {
-    uint64_t index, scopes, bytes;
-    int64_t start_ns, stop_ns;
-    bool is_some; /* whether there is a frame: none is made if no scope was reported */
-} PuffinFrame;
 
 /* The view keeps the last 1,000 frames and the 256 slowest ones, unless puffin_set_limits sets other limits. */
 uint32_t puffin_profiler_open(PuffinProfiler *profiler, PuffinIds *ids);
@@ -204,18 +287,17 @@ enum {
     PUFFIN_SIZE_OF_IDS,
     PUFFIN_SIZE_OF_THREAD,
     PUFFIN_SIZE_OF_PROFILER,
+    PUFFIN_SIZE_OF_LISTS,
+    PUFFIN_SIZE_OF_SCOPE,
+    PUFFIN_SIZE_OF_STREAM,
+    PUFFIN_SIZE_OF_FILE_THREAD,
     PUFFIN_SIZES /* how many sizes this header knows */
 };
 /* Copies the sizes to the front of sizes, at most room of them, and returns how many the library has. */
 size_t puffin_sizes(uint64_t *sizes, size_t room);
 
-/* ---- empty texts: the calls above get a pointer that isn't NULL */
-
-#ifdef __cplusplus
-#define PUFFIN_INLINE_ inline
-#else
-#define PUFFIN_INLINE_ static inline
-#endif
+/* ---- empty texts: the calls above get a pointer that isn't NULL. Scopes that are off: no call is made, and the answer is the
+ * library's own. */
 
 PUFFIN_INLINE_ const uint8_t *puffin_bytes_(const uint8_t *bytes) {
     return bytes ? bytes : (const uint8_t *)"";
@@ -223,8 +305,31 @@ PUFFIN_INLINE_ const uint8_t *puffin_bytes_(const uint8_t *bytes) {
 PUFFIN_INLINE_ uint32_t puffin_count_(const uint8_t *bytes, size_t size, bool long_texts, PuffinCount *count) {
     return puffin_count(puffin_bytes_(bytes), size, long_texts, count);
 }
-PUFFIN_INLINE_ uint32_t puffin_check_file_(const uint8_t *file, size_t size, uint64_t *frames, uint64_t *offset) {
-    return puffin_check_file(puffin_bytes_(file), size, frames, offset);
+PUFFIN_INLINE_ uint32_t puffin_scopes_(const uint8_t *bytes, size_t size, bool long_texts, PuffinScope *scopes, size_t room,
+                                       uint8_t *texts, size_t texts_room, PuffinLists *sizes) {
+    PuffinScope none;
+    uint8_t no_text;
+    return puffin_scopes(puffin_bytes_(bytes), size, long_texts, scopes ? scopes : &none, room, texts ? texts : &no_text,
+                         texts_room, sizes);
+}
+PUFFIN_INLINE_ uint32_t puffin_frame_streams_(const uint8_t *file, size_t size, uint64_t offset, PuffinFrame *frame,
+                                              uint64_t *next, PuffinStream *streams, size_t room, uint8_t *bytes,
+                                              size_t bytes_room, PuffinLists *sizes) {
+    PuffinStream none;
+    uint8_t no_byte;
+    return puffin_frame_streams(puffin_bytes_(file), size, offset, frame, next, streams ? streams : &none, room,
+                                bytes ? bytes : &no_byte, bytes_room, sizes);
+}
+PUFFIN_INLINE_ uint32_t puffin_file_threads_(const uint8_t *file, size_t size, PuffinFileThread *threads, size_t room,
+                                             uint8_t *names, size_t names_room, PuffinLists *sizes) {
+    PuffinFileThread none;
+    uint8_t no_name;
+    return puffin_file_threads(puffin_bytes_(file), size, threads ? threads : &none, room, names ? names : &no_name,
+                               names_room, sizes);
+}
+PUFFIN_INLINE_ uint32_t puffin_check_file_(const uint8_t *file, size_t size, uint64_t *frames, uint64_t *offset,
+                                           uint64_t *read) {
+    return puffin_check_file(puffin_bytes_(file), size, frames, offset, read);
 }
 PUFFIN_INLINE_ uint32_t puffin_report_file_(const uint8_t *file, size_t file_size, bool has_start, int64_t start_ns,
                                             const uint8_t *name, size_t name_size, uint8_t *out, size_t room,
@@ -248,7 +353,17 @@ PUFFIN_INLINE_ uint32_t puffin_register_scope_(PuffinThread *thread, const uint8
 }
 PUFFIN_INLINE_ uint32_t puffin_begin_(PuffinThread *thread, int64_t now_ns, uint32_t id, const uint8_t *text,
                                       size_t text_size, uint64_t *scope) {
+    if (!thread->is_on_ && thread->is_open_) {
+        *scope = PUFFIN_NO_SCOPE;
+        return PUFFIN_OK;
+    }
     return puffin_begin(thread, now_ns, id, puffin_bytes_(text), text_size, scope);
+}
+PUFFIN_INLINE_ uint32_t puffin_end_(PuffinThread *thread, int64_t now_ns, uint64_t scope) {
+    if (scope == PUFFIN_NO_SCOPE && thread->is_open_) {
+        return PUFFIN_OK;
+    }
+    return puffin_end(thread, now_ns, scope);
 }
 PUFFIN_INLINE_ uint32_t puffin_user_scopes_(PuffinProfiler *profiler, bool has_start, int64_t start_ns, const uint8_t *name,
                                             size_t name_size, const uint8_t *bytes, size_t size, bool long_texts) {
@@ -256,12 +371,16 @@ PUFFIN_INLINE_ uint32_t puffin_user_scopes_(PuffinProfiler *profiler, bool has_s
                               long_texts);
 }
 #define puffin_count puffin_count_
+#define puffin_scopes puffin_scopes_
+#define puffin_frame_streams puffin_frame_streams_
+#define puffin_file_threads puffin_file_threads_
 #define puffin_check_file puffin_check_file_
 #define puffin_report_file puffin_report_file_
 #define puffin_thread_open puffin_thread_open_
 #define puffin_register_function puffin_register_function_
 #define puffin_register_scope puffin_register_scope_
 #define puffin_begin puffin_begin_
+#define puffin_end puffin_end_
 #define puffin_user_scopes puffin_user_scopes_
 
 #ifdef __cplusplus

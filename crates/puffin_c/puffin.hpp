@@ -79,21 +79,26 @@ class Thread {
         return puffin_begin(&handle, now_ns, id, bytes_of(text), text.size(), &scope);
     }
     std::uint32_t end(std::int64_t now_ns, std::uint64_t scope) noexcept { return puffin_end(&handle, now_ns, scope); }
+    /* While scopes are off, none begins, and a Scope reads no clock. */
+    std::uint32_t set_scopes_on(bool is_on) noexcept { return puffin_set_scopes_on(&handle, is_on); }
+    bool are_scopes_on() const noexcept { return puffin_scopes_on(&handle); }
+    /* Gives up the waiting scopes, and counts them. */
+    std::uint32_t discard(std::uint64_t &scopes) noexcept { return puffin_thread_discard(&handle, &scopes); }
     PuffinThread *get() noexcept { return &handle; }
 
   private:
     PuffinThread handle = {};
 };
 
-/* A scope that lasts as long as this object, by now_ns. A scope whose beginning is refused isn't ended. */
+/* A scope that lasts as long as this object, by now_ns. A scope that is off or whose beginning is refused isn't ended. */
 class Scope {
   public:
     Scope(Thread &thread, std::uint32_t id, std::string_view text = {}) noexcept
-        : thread(thread), fault(thread.begin(now_ns(), id, text, place)) {}
+        : thread(thread), fault(thread.begin(thread.are_scopes_on() ? now_ns() : 0, id, text, place)) {}
     Scope(const Scope &) = delete;
     Scope &operator=(const Scope &) = delete;
     ~Scope() {
-        if (fault == PUFFIN_OK) {
+        if (fault == PUFFIN_OK && place != PUFFIN_NO_SCOPE) {
             thread.end(now_ns(), place);
         }
     }
@@ -102,7 +107,7 @@ class Scope {
 
   private:
     Thread &thread;
-    std::uint64_t place = 0;
+    std::uint64_t place = PUFFIN_NO_SCOPE;
     std::uint32_t fault;
 };
 

@@ -115,6 +115,10 @@ static void refusals(void) {
     is("close", puffin_profiler_close(&nothing), PUFFIN_NOT_OPEN);
     is("begin", puffin_begin(&none, 0, 0, TEXT("\xff"), &number), PUFFIN_NOT_OPEN);
     is("end", puffin_end(&none, 0, 0), PUFFIN_NOT_OPEN);
+    is("end", puffin_end(&none, 0, 1), PUFFIN_NOT_OPEN);
+    is("discard", puffin_thread_discard(&none, &number), PUFFIN_NOT_OPEN);
+    is("switch", puffin_set_scopes_on(&none, true), PUFFIN_NOT_OPEN);
+    is("what is closed is off", puffin_scopes_on(&none), false);
     is("register", puffin_register_function(&none, TEXT("\xff"), TEXT(""), 0, &id), PUFFIN_NOT_OPEN);
     is("register", puffin_register_scope(&none, TEXT("\xff"), TEXT(""), TEXT(""), 0, &id), PUFFIN_NOT_OPEN);
     is("report", puffin_report(&none, &profiler), PUFFIN_NOT_OPEN);
@@ -135,9 +139,57 @@ static void refusals(void) {
     is("no text", puffin_begin(&thread, 0, 1, TEXT("\xff"), &number), PUFFIN_NOT_TEXT);
     REFUSED("no text", puffin_register_function(&thread, TEXT("f"), TEXT("\xff"), 0, &id), PUFFIN_NOT_TEXT);
     REFUSED("no text", puffin_register_scope(&thread, TEXT("s"), TEXT("\xff"), TEXT(""), 0, &id), PUFFIN_NOT_TEXT);
-    is("end of nothing", puffin_end(&thread, 0, 0), PUFFIN_MISMATCHED_END);
+    is("end of nothing", puffin_end(&thread, 0, 1), PUFFIN_MISMATCHED_END);
+    is("end of no scope", puffin_end(&thread, 0, PUFFIN_NO_SCOPE), PUFFIN_OK);
     CALL(puffin_thread_close(&thread));
     is("what a refusal leaves", number + id + out[0] + frame.index, 28);
+}
+
+/* A report that is refused again and again is given up: its scope is gone, and the name of its function stays. */
+static void discarding(void) {
+    PuffinThread thread = {0};
+    uint64_t scope = 0, scopes = 7;
+    uint32_t id = 0;
+    CALL(puffin_thread_open(&thread, &ids, TEXT("main"), true));
+    CALL(puffin_register_function(&thread, TEXT("kept name"), TEXT("calls.c"), 7, &id));
+    CALL(puffin_begin(&thread, 1000, id, TEXT("given up"), &scope));
+    is("discard", puffin_thread_discard(&thread, &scopes), PUFFIN_SCOPES_OPEN);
+    is("what a refusal leaves", scopes, 7);
+    is("end", puffin_end(&thread, 1001, scope), PUFFIN_OK);
+    for (int i = 0; i < 2; i++) {
+        REFUSED("long texts", puffin_report(&thread, &profiler), PUFFIN_UNLIKE_FORMS);
+    }
+    is("discard", puffin_thread_discard(&thread, &scopes), PUFFIN_OK);
+    is("scopes that were given up", scopes, 1);
+    CALL(puffin_report(&thread, &profiler));
+    is("discard", puffin_thread_discard(&thread, &scopes), PUFFIN_OK);
+    is("scopes that were given up", scopes, 0);
+    CALL(puffin_thread_close(&thread));
+}
+
+/* Scopes that are off begin nothing, and what is open is ended. */
+static void switching(void) {
+    PuffinThread thread = {0};
+    uint64_t outer = 0, inner = 7, scopes = 0;
+    CALL(puffin_thread_open(&thread, &ids, TEXT("switched"), false));
+    is("scopes are on at first", puffin_scopes_on(&thread), true);
+    CALL(puffin_begin(&thread, 1, 1, TEXT(""), &outer));
+    is("off", puffin_set_scopes_on(&thread, false), PUFFIN_OK);
+    is("scopes are off", puffin_scopes_on(&thread), false);
+    is("begin", puffin_begin(&thread, 2, 1, TEXT("off"), &inner), PUFFIN_OK);
+    is("no scope", inner, PUFFIN_NO_SCOPE);
+    is("end of no scope", puffin_end(&thread, 3, inner), PUFFIN_OK);
+    is("end", puffin_end(&thread, 4, outer), PUFFIN_OK);
+    is("nothing is open", puffin_thread_discard(&thread, &scopes), PUFFIN_OK);
+    is("scopes", scopes, 1);
+    is("still off", puffin_scopes_on(&thread), false);
+    is("on", puffin_set_scopes_on(&thread, true), PUFFIN_OK);
+    CALL(puffin_begin(&thread, 5, 1, TEXT(""), &outer));
+    is("end", puffin_end(&thread, 6, outer), PUFFIN_OK);
+    is("discard", puffin_thread_discard(&thread, &scopes), PUFFIN_OK);
+    is("scopes", scopes, 1);
+    CALL(puffin_thread_close(&thread));
+    is("what is closed is off", puffin_scopes_on(&thread), false);
 }
 
 /* The bytes of one scope: id 1, from 5 to 9, without a text. */
@@ -157,6 +209,72 @@ static void counting(void) {
     is("tries", count.tries, 1);
     is("cut bytes", puffin_count(one_scope, 30, false, &count), PUFFIN_PREMATURE_END);
     is("what a refusal leaves", count.scopes, 1);
+}
+
+/* Appends the beginning of a scope, and its end. */
+static size_t begin_at(uint8_t *at, uint8_t id, uint8_t start, const char *text, uint8_t children) {
+    size_t size = strlen(text);
+    at[0] = '(';
+    at[1] = id;
+    at[5] = start;
+    at[13] = (uint8_t)size;
+    memcpy(at + 14, text, size);
+    at[14 + size] = children;
+    return 22 + size;
+}
+static size_t end_at(uint8_t *at, uint8_t stop) {
+    at[0] = ')';
+    at[1] = stop;
+    return 9;
+}
+static void is_scope(const PuffinScope *scope, uint32_t id, int64_t start, int64_t stop, uint64_t depth, uint64_t text_at,
+                     uint64_t text_size) {
+    is("id", scope->id, id);
+    is("start", (uint64_t)scope->start_ns, (uint64_t)start);
+    is("stop", (uint64_t)scope->stop_ns, (uint64_t)stop);
+    is("depth", scope->depth, depth);
+    is("place of the text", scope->text_at, text_at);
+    is("size of the text", scope->text_size, text_size);
+}
+
+/* A scope with two scopes in it, the first of which has one more, and a scope behind it. */
+static void listing(void) {
+    static uint8_t bytes[200], texts[9];
+    static PuffinScope scopes[6];
+    PuffinLists sizes = {7, 7};
+    size_t size = 0;
+    size += begin_at(bytes + size, 1, 5, "ab", 32 + 34 + 31);
+    size += begin_at(bytes + size, 2, 6, "c", 34);
+    size += begin_at(bytes + size, 3, 6, "def", 0);
+    size += end_at(bytes + size, 7);
+    size += end_at(bytes + size, 7);
+    size += begin_at(bytes + size, 2, 8, "", 0);
+    size += end_at(bytes + size, 8);
+    size += end_at(bytes + size, 9);
+    size += begin_at(bytes + size, 4, 9, "g", 0);
+    size += end_at(bytes + size, 9);
+    CALL(puffin_scopes(bytes, size, false, NULL, 0, NULL, 0, &sizes));
+    is("scopes", sizes.rows, 5);
+    is("bytes of texts", sizes.bytes, 7);
+    CALL(puffin_scopes(bytes, size, false, scopes, 6, texts, sizeof texts, &sizes));
+    is_scope(&scopes[0], 1, 5, 9, 0, 0, 2);
+    is_scope(&scopes[1], 2, 6, 7, 1, 2, 1);
+    is_scope(&scopes[2], 3, 6, 7, 2, 3, 3);
+    is_scope(&scopes[3], 2, 8, 8, 1, 6, 0);
+    is_scope(&scopes[4], 4, 9, 9, 0, 6, 1);
+    is_scope(&scopes[5], 0, 0, 0, 0, 0, 0);
+    is("texts", memcmp(texts, "abcdefg\0", 9) == 0, true);
+    memset(scopes, 0, sizeof scopes);
+    memset(texts, 0, sizeof texts);
+    CALL(puffin_scopes(bytes, size, false, scopes, 1, texts, 3, &sizes));
+    is("scopes", sizes.rows, 5);
+    is_scope(&scopes[0], 1, 5, 9, 0, 0, 2);
+    is_scope(&scopes[1], 0, 0, 0, 0, 0, 0);
+    is("texts", memcmp(texts, "abc\0", 5) == 0, true);
+    REFUSED("cut bytes", puffin_scopes(bytes, size - 1, false, scopes, 6, texts, 9, &sizes), PUFFIN_PREMATURE_END);
+    is("what a refusal leaves", sizes.rows + scopes[1].id + texts[3], 5);
+    CALL(puffin_scopes(NULL, 0, true, scopes, 6, texts, 9, &sizes));
+    is("no scopes", sizes.rows + sizes.bytes, 0);
 }
 
 /* Scopes of the program's own, under a name that no thread has. */
@@ -226,6 +344,9 @@ static void names(void) {
     is("a name's beginning", strcmp(few, "PUFF") == 0, true);
 }
 
+static uint8_t file_bytes[4096];
+static uint64_t file_size;
+
 static size_t read_file(uint8_t *file, uint64_t size) {
     uint64_t got = 1, all = 0;
     while (got) {
@@ -271,30 +392,99 @@ static void views(void) {
     is("a file of one frame", size, packet_size + 4);
 }
 
+/* A fault in the meta of the second frame is found when the meta was read: behind its letters and its length. */
+static void is_found(uint8_t *file, uint64_t size) {
+    uint64_t frames = 0, end = 0, got = 0;
+    uint8_t meta_size = file[size + 4], first = file[size + 8];
+    file[size + 8] = 0xff;
+    is("a frame without an index", puffin_check_file(file, 2 * size - 4, &frames, &end, &got), PUFFIN_FILE_BAD_META);
+    is("frames before it", frames, 1);
+    is("where it begins", end, size);
+    is("where its meta ends", got, size + 8 + meta_size);
+    file[size + 8] = first;
+}
+
+/* The threads of the file, and the streams of its frame. */
+static void viewing(const uint8_t *file, uint64_t size) {
+    static PuffinFileThread threads[4];
+    static PuffinStream streams[4];
+    static PuffinScope scopes[8];
+    static uint8_t names[64], bytes[1024], texts[64];
+    PuffinLists sizes = {0, 0};
+    PuffinFrame frame = {0};
+    uint64_t next = 7;
+    CALL(puffin_file_threads(file, size, threads, 4, names, sizeof names, &sizes));
+    is("threads", sizes.rows, 3);
+    is("bytes of names", sizes.bytes, 13);
+    is("names", memcmp(names, "gpumainworker", 14) == 0, true);
+    is("start", (uint64_t)threads[0].start_ns, 5);
+    is("start", (uint64_t)threads[1].start_ns, 1000);
+    is("start", (uint64_t)threads[2].start_ns, 1500);
+    for (int i = 0; i < 3; i++) {
+        is("has a start", threads[i].has_start, true);
+        is("frames", threads[i].frames, 1);
+        is("scopes", threads[i].scopes, i == 0 ? 1 : 6);
+    }
+    is("place of a name", threads[2].name_at, 7);
+    is("size of a name", threads[2].name_size, 6);
+    CALL(puffin_frame_streams(file, size, 0, &frame, &next, streams, 4, bytes, sizeof bytes, &sizes));
+    is("scopes", frame.scopes, 13);
+    is("the frame's end", next, size);
+    is("streams", sizes.rows, 3);
+    is("a short stream", streams[1].long_texts, false);
+    is("a long stream", streams[2].long_texts, true);
+    is("scopes", streams[2].scopes, 6);
+    is("depth", streams[2].depth, 2);
+    is("start", (uint64_t)streams[2].start_ns, 1500);
+    is("name", memcmp(bytes + streams[2].name_at, TEXT("worker")) == 0, true);
+    is("size of the name", streams[2].name_size, 6);
+    is("bytes", streams[2].stream_at + streams[2].stream_size, sizes.bytes);
+    CALL(puffin_scopes(bytes + streams[2].stream_at, streams[2].stream_size, true, scopes, 8, texts, sizeof texts, &sizes));
+    is("scopes", sizes.rows, 6);
+    is_scope(&scopes[1], scopes[1].id, 1600, 1650, 1, 0, 4);
+    is("texts", memcmp(texts, "stepstepstepstep", 17) == 0, true);
+    CALL(puffin_frame_streams(file, size, next, &frame, &next, streams, 4, bytes, sizeof bytes, &sizes));
+    is("no frame", frame.is_some, false);
+    is("no streams", sizes.rows + sizes.bytes, 0);
+    is("the file's end", next, size);
+    REFUSED("past the end", puffin_frame_streams(file, size, size + 1, &frame, &next, streams, 4, bytes, 1, &sizes),
+            PUFFIN_INVALID_OFFSET);
+    REFUSED("a cut file", puffin_frame_streams(file, size - 1, 4, &frame, &next, streams, 4, bytes, 1, &sizes),
+            PUFFIN_FILE_TRUNCATED);
+    REFUSED("a cut file", puffin_file_threads(file, size - 1, threads, 4, names, 1, &sizes), PUFFIN_FILE_TRUNCATED);
+    REFUSED("no file", puffin_frame_streams(TEXT("XUF0"), 0, &frame, &next, streams, 4, bytes, 1, &sizes), PUFFIN_FILE_NO_MAGIC);
+}
+
 static void reading(const char *path) {
-    uint64_t size = 0, frames = 0, lines = 0, end = 7;
-    static uint8_t file[4096], out[2000];
+    uint64_t size = 0, frames = 0, lines = 0, end = 7, got = 7;
+    static uint8_t out[2000];
+    uint8_t *file = file_bytes;
     CALL(puffin_file_begin(&profiler, &size));
     is("bytes of the file", read_file(file, size), size);
+    file_size = size;
     packets(file, size);
     FILE *written = fopen(path, "wb");
     fwrite(file, 1, size, written);
     fclose(written);
-    CALL(puffin_check_file(file, size, &frames, &end));
+    CALL(puffin_check_file(file, size, &frames, &end, &got));
     is("frames", frames, 1);
     is("the frame's end", end, size);
+    is("how far the file is read", got, size);
     /* the same packet once more, which is then cut */
     memcpy(file + size, file + 4, size - 4);
-    CALL(puffin_check_file(file, 2 * size - 4, &frames, &end));
+    CALL(puffin_check_file(file, 2 * size - 4, &frames, &end, &got));
     is("frames", frames, 2);
     is("the last frame's end", end, 2 * size - 4);
-    is("a cut file", puffin_check_file(file, 2 * size - 5, &frames, &end), PUFFIN_FILE_TRUNCATED);
+    is("a cut file", puffin_check_file(file, 2 * size - 5, &frames, &end, &got), PUFFIN_FILE_TRUNCATED);
     is("frames before the cut", frames, 1);
     is("where the cut frame begins", end, size);
-    is("no file", puffin_check_file(TEXT("XUF0"), &frames, &end), PUFFIN_FILE_NO_MAGIC);
+    is("how far a cut file is read", got, 2 * size - 5);
+    is_found(file, size);
+    is("no file", puffin_check_file(TEXT("XUF0"), &frames, &end, &got), PUFFIN_FILE_NO_MAGIC);
     is("frames of no file", frames, 0);
     is("where no file begins", end, 0);
-    is("no bytes", puffin_check_file(NULL, 0, &frames, &end), PUFFIN_FILE_NO_MAGIC);
+    is("how far no file is read", got, 4);
+    is("no bytes", puffin_check_file(NULL, 0, &frames, &end, &got), PUFFIN_FILE_NO_MAGIC);
     CALL(puffin_report_file(file, size, true, 1000, TEXT("main"), out, sizeof out, &lines));
     fwrite(out, 1, lines, stdout);
     CALL(puffin_report_file(file, size, true, 5, TEXT("gpu"), out, sizeof out, &lines));
@@ -318,6 +508,8 @@ int main(int argc, char **argv) {
     refusals();
     names();
     counting();
+    listing();
+    switching();
     for (int i = 0; i < 2; i++) {
         pthread_create(&threads[i], NULL, record, &works[i]);
         if (!at_once) {
@@ -327,6 +519,7 @@ int main(int argc, char **argv) {
     for (int i = 0; at_once && i < 2; i++) {
         pthread_join(threads[i], NULL);
     }
+    discarding();
     user_scopes();
     CALL(puffin_snapshot(&profiler));
     CALL(puffin_new_frame(&profiler, &frame));
@@ -340,6 +533,7 @@ int main(int argc, char **argv) {
     counts = false;
     reading(argv[1]);
     counts = true;
+    viewing(file_bytes, file_size);
     views();
     CALL(puffin_ids_close(&ids));
     CALL(puffin_profiler_close(&profiler));

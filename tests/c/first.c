@@ -1,13 +1,6 @@
 /* The program of docs/C.md: one scope, written to the file that the first argument names. */
 #include "puffin.h"
 #include <stdio.h>
-#include <time.h>
-
-static int64_t now_ns(void) {
-    struct timespec now;
-    clock_gettime(CLOCK_MONOTONIC, &now);
-    return (int64_t)now.tv_sec * 1000000000 + now.tv_nsec;
-}
 
 int main(int argc, char **argv) {
     FILE *file = argc > 1 ? fopen(argv[1], "wb") : NULL;
@@ -28,8 +21,8 @@ int main(int argc, char **argv) {
     puffin_thread_open(&thread, &ids, TEXT("main"), false);
     puffin_profiler_open(&profiler, &ids);
     puffin_register_function(&thread, TEXT("load"), TEXT("load.c"), 12, &id);
-    puffin_begin(&thread, now_ns(), id, TEXT("image-12.png"), &scope);
-    puffin_end(&thread, now_ns(), scope);
+    puffin_begin(&thread, puffin_now_ns(), id, TEXT("image-12.png"), &scope);
+    puffin_end(&thread, puffin_now_ns(), scope);
     puffin_report(&thread, &profiler);   /* the closed scopes go to the profiler */
     puffin_new_frame(&profiler, &frame); /* everything reported becomes a frame, which the profiler's view keeps */
     puffin_file_begin(&profiler, &size); /* the size of the view's .puffin file */

@@ -67,11 +67,11 @@ static void write_packet(FILE *file) {
 /* Reads a whole file, and returns its size. */
 static uint64_t check(const char *path, uint64_t wanted) {
     static uint8_t bytes[4 << 20];
-    uint64_t frames, offset;
+    uint64_t frames, offset, read;
     FILE *file = fopen(path, "rb");
     size_t size = fread(bytes, 1, sizeof bytes, file);
     fclose(file);
-    CALL(puffin_check_file(bytes, size, &frames, &offset));
+    CALL(puffin_check_file(bytes, size, &frames, &offset, &read));
     if (frames != wanted || offset != size) {
         fail("frames in the file", frames);
     }

@@ -1,8 +1,9 @@
 """Builds programs over the C interface, runs them, and reads the files that they write.
 
-    python3 -m tests.c.run LIBRARY KIT_LIBRARY [TOOL]
+    python3 -m tests.c.run LIBRARY KIT_LIBRARY [TOOL [SECOND]]
 
-LIBRARY is libpuffin_c.a, KIT_LIBRARY the kit's c/liblibc_c.a, and TOOL puffin-tool, which reports the files. A C compiler is
+LIBRARY is libpuffin_c.a, KIT_LIBRARY the kit's c/liblibc_c.a, TOOL puffin-tool, which reports the files, and SECOND the library as
+Rattle's own compiler makes it: the C programs run over both, and what they write and print has to be the same. A C compiler is
 needed: `cc`, or what CC names. What else isn't there (a C++ compiler, cargo, valgrind, the thread sanitizer, pkg-config, cmake)
 is left out and named, and so is puffin-tool without TOOL. The last line is 'N passed, M failed'.
 """
@@ -25,12 +26,32 @@ STRICT = ["-Wall", "-Wextra", "-Werror", "-I", HEADER]
 WRAPPED = ["-Wl,--wrap=malloc", "-Wl,--wrap=realloc"]
 # frames of the long session
 FRAMES = 100_000
+# readings of the clock by each of two threads
+READINGS = 20_000
+# the most instructions that the beginning and the end of a scope may take, with the loop that makes the calls
+INSTRUCTIONS = {"on": 188, "text": 216, "off": 10}
 CALLS_REPORT = (
     b"frames 1\n",
     b"record pieces 2 total 800 per_frame 800 max 400 ",
     b"  part (step) pieces 4 total 200 per_frame 200 max 50 ",
     b"allocations ",
 )
+
+
+def viewed_thread(start, name):
+    """What viewer.c prints of a thread of calls.c: two rounds of a scope with two scopes in it."""
+    lines = [f"  {start}:{name} scopes 6 depth 2"]
+    for begin in (start, start + 400):
+        lines += [f"    {begin} 400", f"      {begin + 100} 50 step", f"      {begin + 250} 50 step"]
+    return lines
+
+
+def viewed():
+    """What viewer.c prints of the file of calls.c."""
+    threads = ["5:gpu frames 1 scopes 1", "1000:main frames 1 scopes 6", "1500:worker frames 1 scopes 6"]
+    frame = ["frame 0 scopes 13", "  5:gpu scopes 1 depth 1", "    5 4"]
+    lines = threads + frame + viewed_thread(1000, "main") + viewed_thread(1500, "worker")
+    return "".join(f"{line}\n" for line in lines).encode()
 
 
 def run(*words, cwd=None, **variables):
@@ -109,6 +130,45 @@ class Programs:
         for refused in (0, number // 3, number - 2):
             got = run("valgrind", "--error-exitcode=9", "--leak-check=full", "-q", program, self.place / "file", refused)
             self.check(f"valgrind, allocation {refused} refused", got.returncode == 0, got.stderr)
+
+    def viewer(self):
+        """The threads, frames and scopes of the file that calls.c wrote."""
+        words = ["-std=c11", *STRICT, HERE / "viewer.c", self.library, self.kit]
+        program = self.place / "viewer"
+        if not self.built("viewer.c", C_COMPILER, *words, "-o", program):
+            return
+        got = run(program, self.place / "file")
+        self.check("viewer.c", got.returncode == 0 and got.stdout == viewed(), got.stderr + got.stdout)
+        if is_there("valgrind"):
+            got = run("valgrind", "--error-exitcode=9", "--leak-check=full", "-q", program, self.place / "file")
+            self.check("viewer.c by valgrind", got.returncode == 0, got.stderr)
+
+    def clock(self):
+        """Two threads read the clock of puffin.h in turn."""
+        words = ["-std=gnu11", *STRICT, HERE / "clock.c", "-lpthread"]
+        if self.built("clock.c", C_COMPILER, *words, "-o", self.place / "clock"):
+            got = run(self.place / "clock", READINGS)
+            self.check("clock.c", got.returncode == 0 and got.stdout == b"readings %d\n" % (2 * READINGS), got.stderr)
+
+    def cost(self):
+        """The instructions of scopes that are on, without and with a text, and of scopes that are off."""
+        words = ["-std=c11", *STRICT, "-O2", HERE / "cost.c", self.library, self.kit]
+        if not self.built("cost.c", C_COMPILER, *words, "-o", self.place / "cost") or not is_there("valgrind"):
+            return
+        for kind, most in INSTRUCTIONS.items():
+            few, many = (self.instructions(kind, number) for number in (1280, 12800))
+            each = (many - few) / (12800 - 1280)
+            print(f"instructions of a scope, {kind}: {each:.1f}")
+            self.check(f"a scope, {kind}, takes at most {most} instructions", 0 < each < most + 0.5, str(each).encode())
+
+    def instructions(self, kind, number):
+        """How many instructions cost.c takes for so many scopes."""
+        words = ["--tool=callgrind", f"--callgrind-out-file={self.place / 'callgrind'}", self.place / "cost", kind, number]
+        got = run("valgrind", *words)
+        reported = 0 if kind == "off" else number
+        self.check(f"cost.c {kind} {number}", got.returncode == 0 and got.stdout == b"%d\n" % reported, got.stderr)
+        found = re.search(rb"Collected : (\d+)", got.stderr)
+        return int(found[1]) if found else 0
 
     def first(self):
         """The program that docs/C.md shows."""
@@ -220,8 +280,8 @@ class Programs:
 
 
 def main():
-    library, kit, *rest = (pathlib.Path(word).resolve() for word in sys.argv[1:4])
-    tool = rest[0] if rest else None
+    library, kit, *rest = (pathlib.Path(word).resolve() for word in sys.argv[1:5])
+    tool, second = (*rest, None, None)[:2]
     with tempfile.TemporaryDirectory() as folder:
         programs = Programs(pathlib.Path(folder), library, kit, tool)
         if not shutil.which(C_COMPILER) or (tool and not tool.is_file()):
@@ -231,6 +291,9 @@ def main():
             print("left out: puffin-tool")
         programs.headers()
         programs.calls()
+        programs.viewer()
+        programs.clock()
+        programs.cost()
         programs.first()
         programs.sizes(C_COMPILER, [])
         programs.sizes("c++", ["-x", "c++"])
@@ -238,6 +301,13 @@ def main():
         programs.long()
         programs.installed()
         programs.bindings()
+        if second:
+            programs.library = second
+            programs.calls()
+            programs.viewer()
+            programs.first()
+            programs.sizes(C_COMPILER, [])
+            programs.long()
     return programs.count.end()
 
 

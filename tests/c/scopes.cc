@@ -4,6 +4,7 @@
 #include <cstdlib>
 #include <mutex>
 #include <thread>
+#include <vector>
 
 static puffin::Ids ids;
 static puffin::Profiler profiler;
@@ -36,6 +37,31 @@ static void work(const char *name) {
     CALL(profiler.report(thread));
 }
 
+/* Scopes that are off begin nothing. */
+static bool are_off() {
+    puffin::Thread thread;
+    std::uint64_t scopes = 7;
+    CALL(thread.open(ids, "off"));
+    CALL(thread.set_scopes_on(false));
+    {
+        PUFFIN_SCOPE(thread, 1, "off");
+    }
+    CALL(thread.discard(scopes));
+    return !thread.are_scopes_on() && scopes == 0;
+}
+
+/* The packet of the frame behind the letters of a file is a file, which has both threads. */
+static bool is_seen() {
+    std::vector<std::uint8_t> file(PUFFIN_FILE_START, PUFFIN_FILE_START + 4);
+    auto append = [&file](const std::uint8_t *bytes, std::size_t size) { file.insert(file.end(), bytes, bytes + size); };
+    CALL(profiler.packet(append));
+    PuffinFileThread threads[3];
+    std::uint8_t names[20];
+    PuffinLists sizes;
+    CALL(puffin_file_threads(file.data(), file.size(), threads, 3, names, sizeof names, &sizes));
+    return sizes.rows == 2 && sizes.bytes == 10 && threads[0].scopes == 4 && threads[1].scopes == 4;
+}
+
 int main(int argc, char **argv) {
     PuffinFrame frame;
     CALL(ids.open());
@@ -62,5 +88,8 @@ int main(int argc, char **argv) {
     }
     auto write = [file](const std::uint8_t *bytes, std::size_t size) { std::fwrite(bytes, 1, size, file); };
     CALL(profiler.file(write));
-    return std::fclose(file) ? 1 : 0;
+    if (std::fclose(file) || !are_off() || !is_seen()) {
+        return 1;
+    }
+    return 0;
 }

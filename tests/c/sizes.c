@@ -40,6 +40,10 @@ int main(void) {
     is("PuffinIds", sizes[PUFFIN_SIZE_OF_IDS], sizeof(PuffinIds));
     is("PuffinThread", sizes[PUFFIN_SIZE_OF_THREAD], sizeof(PuffinThread));
     is("PuffinProfiler", sizes[PUFFIN_SIZE_OF_PROFILER], sizeof(PuffinProfiler));
+    is("PuffinLists", sizes[PUFFIN_SIZE_OF_LISTS], sizeof(PuffinLists));
+    is("PuffinScope", sizes[PUFFIN_SIZE_OF_SCOPE], sizeof(PuffinScope));
+    is("PuffinStream", sizes[PUFFIN_SIZE_OF_STREAM], sizeof(PuffinStream));
+    is("PuffinFileThread", sizes[PUFFIN_SIZE_OF_FILE_THREAD], sizeof(PuffinFileThread));
     is("past the sizes", sizes[PUFFIN_SIZES], 0);
     is("sizes", puffin_sizes(few, 1), PUFFIN_SIZES);
     is("one size", few[0] == sizeof(PuffinCount) && few[1] == 0, 1);

@@ -3,7 +3,7 @@
 use crate::{now_ns, Fault, Frame, Ids, Profiler, Scope, Thread};
 use std::cell::RefCell;
 use std::marker::PhantomData;
-use std::sync::atomic::{AtomicU32, AtomicU64, Ordering};
+use std::sync::atomic::{AtomicBool, AtomicU32, AtomicU64, Ordering};
 use std::sync::{Mutex, MutexGuard, PoisonError};
 
 struct Shared {
@@ -19,6 +19,7 @@ struct Local {
 
 static SHARED: Mutex<Option<Shared>> = Mutex::new(None);
 static REFUSED: AtomicU64 = AtomicU64::new(0);
+static IS_ON: AtomicBool = AtomicBool::new(true);
 
 thread_local! {
     static LOCAL: RefCell<Option<Local>> = const { RefCell::new(None) };
@@ -63,6 +64,17 @@ pub fn refused() -> u64 {
     REFUSED.load(Ordering::Relaxed)
 }
 
+/// Turns the macros' scopes on or off, on all threads. They are on at first. A scope that is open already is ended as usual.
+pub fn set_scopes_on(is_on: bool) {
+    IS_ON.store(is_on, Ordering::Relaxed);
+}
+
+/// Returns whether the macros' scopes are on.
+#[inline]
+pub fn are_scopes_on() -> bool {
+    IS_ON.load(Ordering::Relaxed)
+}
+
 /// Makes a frame of everything that was reported since the last one, or none if no scope was reported. A thread reports its
 /// scopes whenever its outermost one ends.
 pub fn new_frame() -> Result<Option<Frame>, Fault> {
@@ -95,9 +107,18 @@ impl Place {
         Place { id: AtomicU32::new(0) }
     }
 
-    /// Begins a scope here. `name` is `None` for a whole function. Two threads that come here first at once may register the
-    /// place twice, under two ids.
+    /// Begins a scope here, unless scopes are off. `name` is `None` for a whole function. Two threads that come here first at
+    /// once may register the place twice, under two ids.
+    #[inline]
     pub fn begin(&self, name: Option<&str>, function: &str, file: &str, line: u32, text: &str) -> ScopeGuard {
+        if are_scopes_on() {
+            self.begin_on(name, function, file, line, text)
+        } else {
+            ScopeGuard { scope: None, here: PhantomData }
+        }
+    }
+
+    fn begin_on(&self, name: Option<&str>, function: &str, file: &str, line: u32, text: &str) -> ScopeGuard {
         let begun = with_local(|local| {
             let mut id = self.id.load(Ordering::Relaxed);
             if id == 0 {

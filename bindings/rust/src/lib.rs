@@ -18,9 +18,11 @@
 
 mod global;
 mod raw;
+mod view;
 
-pub use global::{file, new_frame, refused, set_limits, snapshot, Place, ScopeGuard};
+pub use global::{are_scopes_on, file, new_frame, refused, set_limits, set_scopes_on, snapshot, Place, ScopeGuard};
 pub use raw::Version;
+pub use view::{file_threads, FileFrames, FileScope, FileStream, FileThread};
 
 use raw::{Handle, RawFrame};
 use std::{error, fmt, num::NonZeroU32, sync::OnceLock, time::Instant};
@@ -64,20 +66,22 @@ fn told(answer: u32) -> Result<(), Fault> {
     NonZeroU32::new(answer).map_or(Ok(()), |number| Err(Fault(number)))
 }
 
-/// A file with a fault: how many frames are before it, and where the frame with the fault begins.
+/// A file with a fault: how many frames are before it, where the frame with the fault begins, and where the part of it ends that was
+/// read last, and that has the fault.
 #[derive(Debug, Clone, Copy, PartialEq, Eq)]
 pub struct FileFault {
     pub fault: Fault,
     pub frames: u64,
     pub offset: u64,
+    pub read: u64,
 }
 
 /// Returns the number of a file's frames.
 pub fn check_file(file: &[u8]) -> Result<u64, FileFault> {
-    let (mut frames, mut offset) = (0, 0);
-    told(unsafe { raw::puffin_check_file(file.as_ptr(), file.len(), &mut frames, &mut offset) })
+    let (mut frames, mut offset, mut read) = (0, 0, 0);
+    told(unsafe { raw::puffin_check_file(file.as_ptr(), file.len(), &mut frames, &mut offset, &mut read) })
         .map(|()| frames)
-        .map_err(|fault| FileFault { fault, frames, offset })
+        .map_err(|fault| FileFault { fault, frames, offset, read })
 }
 
 /// A set of ids, which threads and profilers share.
@@ -154,15 +158,42 @@ impl Thread {
         Ok(id)
     }
 
+    /// Begins a scope. While scopes are off, none begins, and this returns at once.
+    #[inline]
     pub fn begin(&mut self, now_ns: i64, id: u32, text: &str) -> Result<Scope, Fault> {
-        let mut scope = 0;
+        let mut scope = raw::NO_SCOPE;
+        if !self.0.is_on() {
+            return Ok(Scope(scope));
+        }
         told(unsafe { raw::puffin_begin(&mut self.0, now_ns, id, text.as_ptr(), text.len(), &mut scope) })?;
         Ok(Scope(scope))
     }
 
     /// Ends the innermost open scope, which must be this one.
+    #[inline]
     pub fn end(&mut self, now_ns: i64, scope: Scope) -> Result<(), Fault> {
+        if scope.0 == raw::NO_SCOPE {
+            return Ok(());
+        }
         told(unsafe { raw::puffin_end(&mut self.0, now_ns, scope.0) })
+    }
+
+    /// Turns scopes on or off. They are on at first. A scope that is open already is ended as usual.
+    pub fn set_scopes_on(&mut self, is_on: bool) -> Result<(), Fault> {
+        told(unsafe { raw::puffin_set_scopes_on(&mut self.0, is_on) })
+    }
+
+    /// Returns whether a scope would begin now.
+    pub fn are_scopes_on(&self) -> bool {
+        self.0.is_on()
+    }
+
+    /// Gives up the closed scopes that weren't reported, for example because a report is refused again and again, and returns
+    /// how many there were. The names that were registered stay for the next report. Fails while a scope is open.
+    pub fn discard(&mut self) -> Result<u64, Fault> {
+        let mut scopes = 0;
+        told(unsafe { raw::puffin_thread_discard(&mut self.0, &mut scopes) })?;
+        Ok(scopes)
     }
 }
 
@@ -211,8 +242,7 @@ impl Profiler {
     pub fn new_frame(&mut self) -> Result<Option<Frame>, Fault> {
         let mut frame = RawFrame::default();
         told(unsafe { raw::puffin_new_frame(&mut self.0, &mut frame) })?;
-        let RawFrame { index, scopes, bytes, start_ns, stop_ns, is_some } = frame;
-        Ok(is_some.then_some(Frame { index, scopes, bytes, start_ns, stop_ns }))
+        Ok(frame.told())
     }
 
     /// Makes the next frame list every known scope, for a file that begins with it.
@@ -262,10 +292,14 @@ mod tests {
 
     #[test]
     fn structs_have_the_library_s_sizes() {
-        let mut sizes = [0; 5];
+        let mut sizes = [0; 9];
         assert_eq!(unsafe { raw::puffin_sizes(sizes.as_mut_ptr(), sizes.len()) }, sizes.len());
         assert_eq!(sizes[1], size_of::<RawFrame>() as u64);
-        assert_eq!(sizes[2..], [size_of::<Handle>() as u64; 3]);
+        assert_eq!(sizes[2..5], [size_of::<Handle>() as u64; 3]);
+        assert_eq!(sizes[5], size_of::<raw::Lists>() as u64);
+        assert_eq!(sizes[6], size_of::<raw::RawScope>() as u64);
+        assert_eq!(sizes[7], size_of::<raw::RawStream>() as u64);
+        assert_eq!(sizes[8], size_of::<raw::RawFileThread>() as u64);
     }
 
     #[test]

@@ -1,18 +1,47 @@
 //! The calls of `puffin.h`. The tests compare the sizes of these structs with the library's.
 
+use crate::Frame;
 use std::ffi::c_void;
 
-/// A handle. It isn't open when it is filled with zeros.
+/// A handle. It isn't open when it is filled with zeros. Only that of a thread has scopes to turn on.
 #[repr(C)]
 pub struct Handle {
     at: *mut c_void,
     is_open: bool,
+    is_on: bool,
 }
 
 impl Handle {
     pub const fn new() -> Handle {
-        Handle { at: std::ptr::null_mut(), is_open: false }
+        Handle { at: std::ptr::null_mut(), is_open: false, is_on: false }
     }
+
+    pub fn is_on(&self) -> bool {
+        self.is_on
+    }
+}
+
+/// The offset that stands for no scope.
+pub const NO_SCOPE: u64 = 0;
+
+/// How many rows and bytes a list has.
+#[repr(C)]
+#[derive(Default, Clone, Copy)]
+pub struct Lists {
+    pub rows: u64,
+    pub bytes: u64,
+}
+
+/// A scope of a stream.
+#[repr(C)]
+#[derive(Default, Clone, Copy)]
+pub struct RawScope {
+    pub start_ns: i64,
+    pub stop_ns: i64,
+    pub depth: u64,
+    pub text_at: u64,
+    pub text_size: u64,
+    pub id: u32,
 }
 
 /// Describes a frame.
@@ -25,6 +54,41 @@ pub struct RawFrame {
     pub start_ns: i64,
     pub stop_ns: i64,
     pub is_some: bool,
+}
+
+impl RawFrame {
+    /// The frame, if there is one.
+    pub fn told(self) -> Option<Frame> {
+        let RawFrame { index, scopes, bytes, start_ns, stop_ns, is_some } = self;
+        is_some.then_some(Frame { index, scopes, bytes, start_ns, stop_ns })
+    }
+}
+
+/// A thread's scopes in a frame.
+#[repr(C)]
+#[derive(Default, Clone, Copy)]
+pub struct RawStream {
+    pub start_ns: i64,
+    pub scopes: u64,
+    pub depth: u64,
+    pub name_at: u64,
+    pub name_size: u64,
+    pub stream_at: u64,
+    pub stream_size: u64,
+    pub has_start: bool,
+    pub long_texts: bool,
+}
+
+/// What the frames of a file have of one thread.
+#[repr(C)]
+#[derive(Default, Clone, Copy)]
+pub struct RawFileThread {
+    pub start_ns: i64,
+    pub frames: u64,
+    pub scopes: u64,
+    pub name_at: u64,
+    pub name_size: u64,
+    pub has_start: bool,
 }
 
 #[repr(C)]
@@ -40,7 +104,7 @@ extern "C" {
     #[cfg_attr(not(test), allow(dead_code))]
     pub fn puffin_sizes(sizes: *mut u64, room: usize) -> usize;
     pub fn puffin_fault_name(fault: u32, name: *mut u8, room: usize) -> usize;
-    pub fn puffin_check_file(file: *const u8, size: usize, frames: *mut u64, offset: *mut u64) -> u32;
+    pub fn puffin_check_file(file: *const u8, size: usize, frames: *mut u64, offset: *mut u64, read: *mut u64) -> u32;
     pub fn puffin_ids_open(ids: *mut Handle) -> u32;
     pub fn puffin_ids_close(ids: *mut Handle) -> u32;
     pub fn puffin_thread_open(thread: *mut Handle, ids: *mut Handle, name: *const u8, size: usize, long_texts: bool) -> u32;
@@ -67,6 +131,39 @@ extern "C" {
     ) -> u32;
     pub fn puffin_begin(thread: *mut Handle, now_ns: i64, id: u32, text: *const u8, size: usize, scope: *mut u64) -> u32;
     pub fn puffin_end(thread: *mut Handle, now_ns: i64, scope: u64) -> u32;
+    pub fn puffin_set_scopes_on(thread: *mut Handle, is_on: bool) -> u32;
+    pub fn puffin_thread_discard(thread: *mut Handle, scopes: *mut u64) -> u32;
+    pub fn puffin_scopes(
+        bytes: *const u8,
+        size: usize,
+        long_texts: bool,
+        scopes: *mut RawScope,
+        room: usize,
+        texts: *mut u8,
+        texts_room: usize,
+        sizes: *mut Lists,
+    ) -> u32;
+    pub fn puffin_frame_streams(
+        file: *const u8,
+        size: usize,
+        offset: u64,
+        frame: *mut RawFrame,
+        next: *mut u64,
+        streams: *mut RawStream,
+        room: usize,
+        bytes: *mut u8,
+        bytes_room: usize,
+        sizes: *mut Lists,
+    ) -> u32;
+    pub fn puffin_file_threads(
+        file: *const u8,
+        size: usize,
+        threads: *mut RawFileThread,
+        room: usize,
+        names: *mut u8,
+        names_room: usize,
+        sizes: *mut Lists,
+    ) -> u32;
     pub fn puffin_profiler_open(profiler: *mut Handle, ids: *mut Handle) -> u32;
     pub fn puffin_profiler_close(profiler: *mut Handle) -> u32;
     pub fn puffin_report(thread: *mut Handle, profiler: *mut Handle) -> u32;

@@ -1,6 +1,6 @@
 //! The library's handles, on two threads.
 
-use puffin_c::{check_file, Ids, Profiler, Thread, FILE_START};
+use puffin_c::{check_file, file_threads, now_ns, FileFrames, Ids, Profiler, Thread, FILE_START};
 use std::sync::Mutex;
 
 /// A function with two scopes in it.
@@ -37,6 +37,68 @@ fn two_threads_report_to_one_profiler() {
     assert_eq!([&FILE_START[..], &profiler.packet().unwrap()].concat(), file);
     let fault = check_file(&file[..file.len() - 1]).unwrap_err();
     assert_eq!((fault.fault.to_string().as_str(), fault.frames, fault.offset), ("PUFFIN_FILE_TRUNCATED", 0, 4));
+    assert_eq!(fault.read, file.len() as u64 - 1);
+}
+
+#[test]
+fn a_file_is_seen_frame_by_frame() {
+    let mut ids = Ids::new().unwrap();
+    let mut profiler = Profiler::new(&mut ids).unwrap();
+    let mut thread = Thread::new(&mut ids, "main", true).unwrap();
+    let id = thread.register_function("work", "handles.rs", 7).unwrap();
+    for start in [1000, 2000] {
+        work(&mut thread, id, start);
+        profiler.report(&mut thread).unwrap();
+        profiler.new_frame().unwrap().unwrap();
+    }
+    let file = profiler.file().unwrap();
+    let threads = file_threads(&file).unwrap();
+    assert_eq!(threads.len(), 1);
+    assert_eq!((threads[0].name.as_str(), threads[0].start_ns), ("main", Some(1000)));
+    assert_eq!((threads[0].frames, threads[0].scopes), (2, 6));
+    let frames: Vec<_> = FileFrames::new(&file).map(Result::unwrap).collect();
+    assert_eq!(frames.len(), 2);
+    let (frame, streams) = &frames[1];
+    assert_eq!((frame.index, frame.scopes, streams.len()), (1, 3, 1));
+    let scopes: Vec<_> = streams[0].scopes.iter().map(|scope| (scope.depth, scope.start_ns, scope.text.as_str())).collect();
+    assert_eq!(scopes, [(0, 2000, ""), (1, 2000, "step"), (1, 2010, "step")]);
+    let cut: Vec<_> = FileFrames::new(&file[..file.len() - 1]).collect();
+    assert_eq!(cut.len(), 2);
+    assert_eq!(cut[1].as_ref().unwrap_err().to_string(), "PUFFIN_FILE_TRUNCATED");
+}
+
+#[test]
+fn scopes_that_are_off_begin_nothing() {
+    let mut ids = Ids::new().unwrap();
+    let mut thread = Thread::new(&mut ids, "main", false).unwrap();
+    let outer = thread.begin(1, 1, "").unwrap();
+    thread.set_scopes_on(false).unwrap();
+    assert!(!thread.are_scopes_on());
+    let none = thread.begin(2, 0, "").unwrap();
+    thread.end(3, none).unwrap();
+    assert_eq!(thread.discard().unwrap_err().to_string(), "PUFFIN_SCOPES_OPEN");
+    thread.end(4, outer).unwrap();
+    assert_eq!(thread.discard(), Ok(1));
+    assert_eq!(thread.discard(), Ok(0));
+    thread.set_scopes_on(true).unwrap();
+    assert_eq!(thread.begin(2, 0, "").unwrap_err().to_string(), "PUFFIN_NO_ID");
+}
+
+#[test]
+fn all_threads_read_one_clock() {
+    let latest = Mutex::new(now_ns());
+    std::thread::scope(|scope| {
+        for _ in 0..2 {
+            scope.spawn(|| {
+                for _ in 0..10_000 {
+                    let mut latest = latest.lock().unwrap();
+                    let now = now_ns();
+                    assert!(now >= *latest);
+                    *latest = now;
+                }
+            });
+        }
+    });
 }
 
 #[test]

@@ -2,7 +2,6 @@
 use Rattle.std.proofs.Common.{◌≡◌, ◌⊎◌, ℕ, List, [], ◌∷◌, refl, sym, ap, ◌∙◌, subst, inl, inr}
 use mathlib.Core.Bool.{Bool, true, false, true≢false}
 use Rattle.std.specs.Prelude.{Option, Some, None, is_some, Result, Ok, Err, OnErr}
-use Rattle.std.specs.List.{Any}
 use Rattle.std.specs.Str.{IsUtf8}
 use Rattle.puffin_data.specs.declared.error.Error.{Error}
 use Rattle.puffin_data.specs.declared.error.Error.TheVariants as error
@@ -13,16 +12,14 @@ use Rattle.puffin_data.specs.Walk.{IsFault}
 use Rattle.puffin_threads.specs.Thread.ThreadKey.{ThreadKey}
 use Rattle.puffin_threads.specs.Thread.Calls.{Thread}
 use Rattle.puffin_threads.specs.Thread.Closing.{Reports}
-use Rattle.puffin_frames.specs.Packet.Writing.{HasLongPart}
 use Rattle.puffin_collector.specs.Collector.State.{Collected, AcceptsReport, RefusesReport}
-use Rattle.puffin_view.specs.View.Known.{view_of}
-use Rattle.puffin_view.specs.View.File.{fields_in}
 use Rattle.puffin_c.specs.declared.fault.Fault.{Fault}
 use Rattle.puffin_c.specs.declared.fault.Fault.TheVariants as fault
 use Rattle.puffin_c.specs.declared.profiler.Profiler.{Profiler}
 use Rattle.puffin_c.specs.Faults.{file_fault}
 use Rattle.puffin_c.specs.Recording.{IsNoText}
-use Rattle.puffin_c.specs.Profiling.{TakesOwn, HasLongNewest}
+use Rattle.puffin_c.specs.declared.unread.Piece.{Piece}
+use Rattle.puffin_c.specs.Profiling.{TakesOwn, HasLong}
 
 pub nothing_held : {X : Type 0} (o : Option X) (is_open : Bool) → is_open ≡ is_some o → is_open ≡ false → o ≡ None
 nothing_held None is_open e f = refl
@@ -61,20 +58,13 @@ refused_so t now new q here after e s f h =
     (subst (λ (c : Collected). Reports AcceptsReport RefusesReport now new here.collector c (Err e))
     (keeps.1 ∙ ap (λ (p : Profiler). p.collector) f) h))
 
-pub file_refusal : (here q : Profiler) (e : FileError) (f : Fault) → here ≡ q → f ≡ file_fault e →
-    (((e ≡ file.PartTooLong) × Any HasLongPart (fields_in (view_of here.view))) ⊎ (e ≡ file.Memory) ⊎ (e ≡ file.Io)) →
-    (f ≡ fault.Refused error.Memory) ⊎ ((f ≡ fault.File file.PartTooLong) × Any HasLongPart (fields_in (view_of q.view)))
-file_refusal here q e f same is (inl (long, any)) =
-    inr (is ∙ ap file_fault long, subst (λ (p : Profiler). Any HasLongPart (fields_in (view_of p.view))) same any)
-file_refusal here q e f same is (inr (inl memory)) = inl (is ∙ ap file_fault memory)
-file_refusal here q e f same is (inr (inr io)) = inl (is ∙ ap file_fault io)
-
-pub packet_refusal : (here q : Profiler) (e : FileError) (f : Fault) → here ≡ q → f ≡ file_fault e →
-    (((e ≡ file.PartTooLong) × HasLongNewest here) ⊎ (e ≡ file.Memory) ⊎ (e ≡ file.Io)) →
-    (f ≡ fault.Refused error.Memory) ⊎ ((f ≡ fault.File file.PartTooLong) × HasLongNewest q)
-packet_refusal here q e f same is (inl (long, any)) = inr (is ∙ ap file_fault long, subst HasLongNewest same any)
-packet_refusal here q e f same is (inr (inl memory)) = inl (is ∙ ap file_fault memory)
-packet_refusal here q e f same is (inr (inr io)) = inl (is ∙ ap file_fault io)
+-- why a file or a packet isn't made
+pub piece_refusal : (piece : Piece) (here q : Profiler) (e : FileError) (f : Fault) → here ≡ q → f ≡ file_fault e →
+    (((e ≡ file.PartTooLong) × HasLong piece here) ⊎ (e ≡ file.Memory) ⊎ (e ≡ file.Io)) →
+    (f ≡ fault.Refused error.Memory) ⊎ ((f ≡ fault.File file.PartTooLong) × HasLong piece q)
+piece_refusal piece here q e f same is (inl (long, any)) = inr (is ∙ ap file_fault long, subst (HasLong piece) same any)
+piece_refusal piece here q e f same is (inr (inl memory)) = inl (is ∙ ap file_fault memory)
+piece_refusal piece here q e f same is (inr (inr io)) = inl (is ∙ ap file_fault io)
 
 -- scopes of the program's own whose name is refused, and whose bytes are
 pub name_refused : (p : Option Profiler) (held : (q : Profiler) × (p ≡ Some q)) (key : ThreadKey) (form : Form) (bytes : List ℕ) (f e : Fault) →

@@ -9,4 +9,6 @@ pub mod ProfilerSlots
 pub mod RawBoxes
 pub mod Reports
 pub mod Sending
+pub mod StreamLists
 pub mod ThreadSlots
+pub mod ThreadsCounted

@@ -1,5 +1,5 @@
 -- What a handle holds: a value if it is open, nothing if it isn't.
-use Rattle.std.specs.Prelude.{Option}
+use Rattle.std.specs.Prelude.{Option, Bool}
 use Rattle.puffin_threads.specs.Thread.Calls.{Thread}
 use Rattle.puffin_c.specs.declared.handles.PuffinIds.{PuffinIds}
 use Rattle.puffin_c.specs.declared.handles.PuffinThread.{PuffinThread}
@@ -12,6 +12,10 @@ ids_in handle = handle.slot.held
 
 abbrev pub thread_in : PuffinThread → Option Thread
 thread_in handle = handle.slot.held
+
+-- whether the thread's scopes are on
+abbrev pub scopes_on : PuffinThread → Bool
+scopes_on handle = handle.is_on
 
 abbrev pub profiler_in : PuffinProfiler → Option Profiler
 profiler_in handle = handle.slot.held

@@ -3,9 +3,13 @@ pub mod FaultNames
 pub mod Faults
 pub mod Handles
 pub mod Layout
+pub mod Lists
 pub mod Owning
+pub mod Pieces
 pub mod Profiling
 pub mod Recording
 pub mod Reporting
+pub mod ScopeLists
+pub mod Threads
 pub mod Times
 pub mod Version

@@ -34,7 +34,10 @@ use Rattle.puffin_c.specs.declared.fault.Fault.{Fault}
 use Rattle.puffin_c.specs.declared.fault.Fault.TheVariants as fault
 use Rattle.puffin_c.specs.declared.frame.PuffinFrame.{PuffinFrame}
 use Rattle.puffin_c.specs.declared.profiler.Profiler.{Profiler}
+use Rattle.puffin_c.specs.declared.unread.Piece.{Piece}
+use Rattle.puffin_c.specs.declared.unread.Piece.TheVariants.{File, Packet}
 use Rattle.puffin_c.specs.Reporting.{laid_over}
+use Rattle.puffin_c.specs.Pieces.{unread_in, pieces_with}
 
 -- ---- a profiler
 
@@ -83,11 +86,8 @@ abbrev pub with_collected : Profiler → Collected → Profiler
 with_collected p c = record p { collector = c }
 
 -- the profiler with these unread bytes of the view's file, or of a packet
-abbrev pub with_file : Profiler → List ℕ → Profiler
-with_file p bytes = record p { unread = record p.unread { file = bytes } }
-
-abbrev pub with_packet : Profiler → List ℕ → Profiler
-with_packet p bytes = record p { unread = record p.unread { packet = bytes } }
+abbrev pub with_unread : Piece → Profiler → List ℕ → Profiler
+with_unread piece p bytes = record p { unread = pieces_with piece p.unread bytes }
 
 -- the profiler whose view keeps at most so many recent and slow frames
 abbrev pub with_limits : Profiler → ℕ → ℕ → Profiler
@@ -253,65 +253,44 @@ WantsAll p p' (Ok _) =
     (q : Profiler) × (p ≡ Some q) × (p' ≡ Some (with_collected q (after_wanting q.collector)))
 WantsAll p p' (Err f) = (f ≡ fault.NotOpen) × (p ≡ None) × (p' ≡ None)
 
--- ---- the view's file
+-- ---- what a program reads in pieces
 
--- The view's file is made, and its bytes replace any unread ones of an earlier file; or nothing is changed.
-abbrev pub MakesFile : Option Profiler → Option Profiler → ℕ → ℕ → Result (Unit {0}) Fault → Type 0
-MakesFile p p' before size (Ok _) =
+-- the view's file, or the packet of its newest frame
+abbrev pub bytes_of : Piece → Profiler → List ℕ
+bytes_of File p = view_file p
+bytes_of Packet p = newest_packet p
+
+-- it has a part whose length can't be written
+abbrev pub HasLong : Piece → Profiler → Type 0
+HasLong File p = Any HasLongPart (fields_in (view_of p.view))
+HasLong Packet p = HasLongNewest p
+
+-- It is made, and its bytes replace any unread ones of an earlier call; or nothing is changed.
+abbrev pub Makes : Piece → Option Profiler → Option Profiler → ℕ → ℕ → Result (Unit {0}) Fault → Type 0
+Makes piece p p' before size (Ok _) =
     (q : Profiler)
     × (p ≡ Some q)
-    × (p' ≡ Some (with_file q (view_file q)))
-    × (size ≡ length (view_file q))
-MakesFile p p' before size (Err f) =
+    × (p' ≡ Some (with_unread piece q (bytes_of piece q)))
+    × (size ≡ length (bytes_of piece q))
+Makes piece p p' before size (Err f) =
     (p' ≡ p)
     × (size ≡ before)
     × (((f ≡ fault.NotOpen) × (p ≡ None))
     ⊎ ((q : Profiler)
     × (p ≡ Some q)
     × ((f ≡ fault.Refused error.Memory)
-    ⊎ ((f ≡ fault.File file.PartTooLong) × Any HasLongPart (fields_in (view_of q.view))))))
+    ⊎ ((f ≡ fault.File file.PartTooLong) × HasLong piece q))))
 
 -- The unread bytes, as many as fit, are copied over the beginning of the caller's bytes, and then count as read.
-abbrev pub ReadsFile : Option Profiler → Option Profiler → List ℕ → List ℕ → ℕ → ℕ →
+abbrev pub Reads : Piece → Option Profiler → Option Profiler → List ℕ → List ℕ → ℕ → ℕ →
     Result (Unit {0}) Fault → Type 0
-ReadsFile p p' old new before size (Ok _) =
+Reads piece p p' old new before size (Ok _) =
     (q : Profiler)
     × (p ≡ Some q)
-    × (size ≡ min (length q.unread.file) (length old))
-    × (p' ≡ Some (with_file q (drop size q.unread.file)))
-    × (new ≡ laid_over old q.unread.file)
-ReadsFile p p' old new before size (Err f) =
-    (f ≡ fault.NotOpen) × (p ≡ None) × (p' ≡ None) × (new ≡ old) × (size ≡ before)
-
--- ---- the packet of the newest frame
-
--- The packet of the view's newest frame is made, and its bytes replace any unread ones of an earlier packet; or nothing is
--- changed.
-abbrev pub MakesPacket : Option Profiler → Option Profiler → ℕ → ℕ → Result (Unit {0}) Fault → Type 0
-MakesPacket p p' before size (Ok _) =
-    (q : Profiler)
-    × (p ≡ Some q)
-    × (p' ≡ Some (with_packet q (newest_packet q)))
-    × (size ≡ length (newest_packet q))
-MakesPacket p p' before size (Err f) =
-    (p' ≡ p)
-    × (size ≡ before)
-    × (((f ≡ fault.NotOpen) × (p ≡ None))
-    ⊎ ((q : Profiler)
-    × (p ≡ Some q)
-    × ((f ≡ fault.Refused error.Memory)
-    ⊎ ((f ≡ fault.File file.PartTooLong) × HasLongNewest q))))
-
--- The same for a packet as for the view's file.
-abbrev pub ReadsPacket : Option Profiler → Option Profiler → List ℕ → List ℕ → ℕ → ℕ →
-    Result (Unit {0}) Fault → Type 0
-ReadsPacket p p' old new before size (Ok _) =
-    (q : Profiler)
-    × (p ≡ Some q)
-    × (size ≡ min (length q.unread.packet) (length old))
-    × (p' ≡ Some (with_packet q (drop size q.unread.packet)))
-    × (new ≡ laid_over old q.unread.packet)
-ReadsPacket p p' old new before size (Err f) =
+    × (size ≡ min (length (unread_in piece q.unread)) (length old))
+    × (p' ≡ Some (with_unread piece q (drop size (unread_in piece q.unread))))
+    × (new ≡ laid_over old (unread_in piece q.unread))
+Reads piece p p' old new before size (Err f) =
     (f ≡ fault.NotOpen) × (p ≡ None) × (p' ≡ None) × (new ≡ old) × (size ≡ before)
 
 -- ---- the view

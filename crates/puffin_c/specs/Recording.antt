@@ -5,7 +5,9 @@ use Rattle.puffin_data.specs.declared.data.form.Form.{Form}
 use Rattle.puffin_data.specs.declared.error.Error.TheVariants as error
 use Rattle.puffin_data.specs.Text.{cut_text}
 use Rattle.puffin_threads.specs.Details.{Details, default_details, with_id}
-use Rattle.puffin_threads.specs.Thread.Calls.{Thread, new_thread, after_begin, after_end, after_registering, offsets_of}
+use Rattle.puffin_data.specs.Forest.Words.{open_after}
+use Rattle.puffin_threads.specs.Thread.Calls.{Thread, new_thread, after_begin, after_end, after_registering, offsets_of, num_ended}
+use Rattle.puffin_threads.specs.Thread.Discarding.{after_discarding}
 use Rattle.puffin_c.specs.declared.fault.Fault.{Fault}
 use Rattle.puffin_c.specs.declared.fault.Fault.TheVariants as fault
 use Rattle.puffin_c.specs.Times.{clock_time, begun_place}
@@ -74,20 +76,60 @@ Begins old at id text new before place (Err f) =
     ⊎ ((is_some old ≡ true)
     × (((f ≡ fault.NoId) × (id ≡ 0)) ⊎ ((0 < id) × IsNoText text f))))
 
--- the innermost scope, which has this offset, was ended; or nothing is changed
+-- the offset that stands for no scope; no scope has it
+abbrev pub no_scope : ℕ
+no_scope = 0
+
+-- scopes are off: nothing is begun, and the offset is that of no scope; or the handle isn't open
+abbrev pub Skips : Option Thread → Option Thread → ℕ → ℕ → Result (Unit {0}) Fault → Type 0
+Skips old new before place (Ok _) = (new ≡ old) × (is_some old ≡ true) × (place ≡ no_scope)
+Skips old new before place (Err f) =
+    (new ≡ old) × (place ≡ before) × (f ≡ fault.NotOpen) × (old ≡ None)
+
+-- begins a scope if scopes are on
+abbrev pub BeginsIf : Bool → Option Thread → ℤ → ℕ → List ℕ → Option Thread → ℕ → ℕ →
+    Result (Unit {0}) Fault → Type 0
+BeginsIf true old at id text new before place answer =
+    Begins old at id text new before place answer
+BeginsIf false old at id text new before place answer = Skips old new before place answer
+
+-- The innermost scope, which has this offset, was ended; or the offset is that of no scope; or nothing is changed.
 abbrev pub Ends : Option Thread → ℤ → ℕ → Option Thread → Result (Unit {0}) Fault → Type 0
 Ends old at place new (Ok _) =
     (t : Thread)
     × (old ≡ Some t)
-    × (slice_get (offsets_of t) 0 ≡ Some place)
-    × (new ≡ Some (after_end t (clock_time at)))
+    × (((slice_get (offsets_of t) 0 ≡ Some place) × (new ≡ Some (after_end t (clock_time at))))
+    ⊎ ((slice_get (offsets_of t) 0 ≢ Some place) × (place ≡ no_scope) × (new ≡ old)))
 Ends old at place new (Err f) =
     (new ≡ old)
     × (((f ≡ fault.NotOpen) × (old ≡ None))
     ⊎ ((f ≡ fault.Refused error.MismatchedEnd)
+    × (place ≢ no_scope)
     × (t : Thread)
     × (old ≡ Some t)
     × (slice_get (offsets_of t) 0 ≢ Some place)))
+
+-- the closed scopes were given up, and counted; or nothing is changed
+abbrev pub Discards : Option Thread → Option Thread → ℕ → ℕ → Result (Unit {0}) Fault → Type 0
+Discards old new before number (Ok _) =
+    (t : Thread)
+    × (old ≡ Some t)
+    × (open_after 0 t.word ≡ 0)
+    × (new ≡ Some (after_discarding t))
+    × (number ≡ num_ended t.word)
+Discards old new before number (Err f) =
+    (new ≡ old)
+    × (number ≡ before)
+    × (((f ≡ fault.NotOpen) × (old ≡ None))
+    ⊎ ((f ≡ fault.Refused error.ScopesOpen)
+    × (t : Thread)
+    × (old ≡ Some t)
+    × (0 < open_after 0 t.word)))
+
+-- an open handle's scopes are on or off, as was asked; or the handle isn't open
+abbrev pub Switches : Option Thread → Option Thread → Result (Unit {0}) Fault → Type 0
+Switches old new (Ok _) = (new ≡ old) × (is_some old ≡ true)
+Switches old new (Err f) = (new ≡ old) × (f ≡ fault.NotOpen) × (old ≡ None)
 
 -- the details of a function, and of a scope with a name of its own
 abbrev pub function_details : List ℕ → List ℕ → ℕ → Details

@@ -1,5 +1,5 @@
 -- The results of checking a file and of reporting on it.
-use Rattle.std.specs.Prelude.{◌≡◌, ◌≢◌, ◌⊎◌, ℕ, ℤ, Bool, true, false, List, [], ◌∷◌, ◌++◌, ◌+◌, length, take, drop, min, Option, Some, None, Result, Ok, Err}
+use Rattle.std.specs.Prelude.{◌≡◌, ◌≢◌, ◌⊎◌, ℕ, ℤ, Bool, true, false, List, [], ◌∷◌, ◌++◌, ◌+◌, ◌-◌, length, take, drop, min, Option, Some, None, Result, Ok, Err}
 use Rattle.std.specs.Str.{IsUtf8}
 use Rattle.puffin_data.specs.declared.file_error.FileError.{FileError}
 use Rattle.puffin_data.specs.declared.file_error.FileError.TheVariants as file
@@ -33,22 +33,24 @@ StandBefore bytes left e n offset =
     × FailsAt e (Some rest) left frame_at)
 
 -- The bytes begin with a file of `n` frames, the last of which ends at the offset; or, after `n` frames, there is this fault or
--- memory ran out.
-abbrev pub IsChecked : List ℕ → ℕ → ℕ → Result (Unit {0}) Fault → Type 0
-IsChecked bytes n offset (Ok _) =
-    (left : Option (List ℕ))
+-- memory ran out. No more than the first `read` bytes decide this.
+abbrev pub IsChecked : List ℕ → ℕ → ℕ → ℕ → Result (Unit {0}) Fault → Type 0
+IsChecked bytes n offset read (Ok _) =
+    (left : List ℕ)
     × (stored : List Stored)
     × (rest : List ℕ)
-    × TookFrames file_at (Some bytes) left stored
+    × TookFrames file_at (Some bytes) (Some left) stored
     × EndAt bytes stored offset rest
     × (n ≡ length stored)
-IsChecked bytes n offset (Err f) =
-    (left : Option (List ℕ))
+    × (read ≡ length bytes - length left)
+IsChecked bytes n offset read (Err f) =
+    (left : List ℕ)
     × (e : FileError)
     × (f ≡ file_fault e)
     × (e ≢ file.Io)
-    × FailsToRead file_at (Some bytes) left e
-    × StandBefore bytes left e n offset
+    × FailsToRead file_at (Some bytes) (Some left) e
+    × StandBefore bytes (Some left) e n offset
+    × (read ≡ length bytes - length left)
 
 -- the key of the thread whose scopes are meant
 abbrev pub key_given : Bool → ℤ → List ℕ → ThreadKey
@@ -67,10 +69,10 @@ HasLines bytes info lines =
 abbrev pub LacksLines : List ℕ → ThreadKey → FileError → Type 0
 LacksLines bytes info e = (left : Option (List ℕ)) × FailsToSumUp info (Some bytes) left e
 
--- `old` after as many of `bytes` as fit were copied over its beginning
-abbrev pub laid_over : List ℕ → List ℕ → List ℕ
-laid_over old bytes =
-    take (min (length bytes) (length old)) bytes ++ drop (min (length bytes) (length old)) old
+-- `old` after as many of `items` as fit were copied over its beginning
+abbrev pub laid_over : {X : Type 0} → List X → List X → List X
+laid_over old items =
+    take (min (length items) (length old)) items ++ drop (min (length items) (length old)) old
 
 -- Either the name is UTF-8, the report is copied over the beginning of `old`, and `size` is its length; or nothing is changed.
 -- A name that isn't UTF-8 is reported before any fault in the file.

@@ -5,6 +5,7 @@ ghost use Rattle.puffin_c.specs.declared.fault.Fault.{Fault};
 ghost use Rattle.puffin_c.specs.Faults.{code_of, file_code, answer_code};
 
 use puffin_data::{Error, FileError};
+use std::alloc::AllocError;
 
 /// The reason why a call failed.
 #[derive(Clone, Copy, Debug, PartialEq, Eq)]
@@ -31,6 +32,18 @@ impl From<Error> for Fault {
 
     fn from(e: Error) -> Fault {
         Fault::Refused(e)
+    }
+}
+
+impl From<AllocError> for Fault {
+    ghost use Rattle.std.specs.Prelude.{◌≡◌};
+    ghost use Rattle.puffin_data.specs.declared.error.Error.TheVariants.{Memory};
+    ghost use Rattle.puffin_c.specs.declared.fault.Fault.TheVariants.{Refused};
+
+    ghost from_gives = { λ e f. f ≡ Refused Memory };
+
+    fn from(_: AllocError) -> Fault {
+        Fault::Refused(Error::Memory)
     }
 }
 

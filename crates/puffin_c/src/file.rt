@@ -19,44 +19,56 @@ use puffin_threads::thread_profiler::ThreadInfo;
 use puffin_view::profile_view::{next_frame, read_magic};
 use std::alloc::Global;
 
-/// Reads a file frame by frame, counts the frames, and sets `offset` to where the last of them ends.
-fn checked(alloc: Global, file: &[u8], frames: &mut u64, offset: &mut u64) -> Result<(), Fault>
-    ensures { IsChecked file.now frames.new offset.new result }
+/// Reads a file frame by frame, counts the frames, and sets `offset` to where the last of them ends, and `read` to how far the file
+/// was read.
+fn checked(
+    alloc: Global,
+    file: &[u8],
+    frames: &mut u64,
+    offset: &mut u64,
+    read: &mut u64,
+) -> Result<(), Fault>
+    ensures { IsChecked file.now frames.new offset.new read.new result }
 {
     *frames = 0;
     *offset = 0;
     let mut source = MemorySource::new(file);
-    read_magic(&mut source)?;
-    *offset = source.offset_in(file);
+    let begun = read_magic(&mut source);
+    *read = source.offset_in(file);
+    begun?;
+    *offset = *read;
     'frames: for _ in 0..u64::MAX {
-        let Some(_frame) = next_frame(alloc, &mut source)? else {
+        let next = next_frame(alloc, &mut source);
+        *read = source.offset_in(file);
+        let Some(_frame) = next? else {
             return Ok(());
         };
         *frames += 1;
-        *offset = source.offset_in(file);
+        *offset = *read;
     }
     // Not reached: a file has fewer frames than bytes.
     Err(Fault::from(FileError::Truncated))
 }
 
-/// Reads a file of any origin frame by frame, and sets `frames` to the number of its frames, and `offset` to the offset at which
-/// the last of them ends.
+/// Reads a file of any origin frame by frame. Sets `frames` to the number of its frames, `offset` to the offset at which the last of
+/// them ends, and `read` to how many bytes of the file were read.
 ///
 /// Fails with the first fault in the file, or with `Memory`. `frames` is then the number of frames that were read before the
 /// fault, or before memory ran out. The fault is in the next frame, which begins at `offset`; it is at the file's beginning if
-/// `offset` is 0.
+/// `offset` is 0. It is in the bytes before `read`, in the last part of the frame that was read, whatever follows them.
 #[unsafe(no_mangle)]
 pub extern "C" fn puffin_check_file(
     alloc: Global,
     file: &[u8],
     frames: &mut u64,
     offset: &mut u64,
+    read: &mut u64,
 ) -> u32
     ensures { (answer : Result (Unit {0}) Fault)
         × (result ≡ answer_code answer)
-        × IsChecked file.now frames.new offset.new answer }
+        × IsChecked file.now frames.new offset.new read.new answer }
 {
-    let answer = checked(alloc, file, frames, offset);
+    let answer = checked(alloc, file, frames, offset, read);
     answer_code(answer)
 }
 

@@ -45,12 +45,15 @@ impl PuffinIds {
     }
 }
 
-/// A handle to a thread's profiler. A C program initializes it with zeros, and it isn't open at that point.
+/// A handle to a thread's profiler. A C program initializes it with zeros, and it isn't open at that point. While its scopes
+/// are off, none begins.
 #[repr(C)]
 pub struct PuffinThread {
     pub(crate) slot: ThreadSlot,
     pub(crate) is_open: bool,
+    pub(crate) is_on: bool,
     ghost tied: { is_open ≡ is_some slot.held },
+    ghost on_is_open: { is_on ≡ true → is_open ≡ true },
 }
 
 impl PuffinThread {
@@ -63,17 +66,20 @@ impl PuffinThread {
     {
         let slot = mem::replace(&mut self.slot, ThreadSlot::empty(alloc));
         self.is_open = false;
+        self.is_on = false;
         slot.into_raw().restore()
     }
 
-    /// Opens the handle with this recorder.
+    /// Opens the handle with this recorder, and with scopes on or off.
     #[inline(always)]
-    pub(crate) fn put(&mut self, held: Box<Recorder>)
+    pub(crate) fn put(&mut self, held: Box<Recorder>, is_on: bool)
         requires { self.old.slot.held ≡ None }
-        ensures { self.new.slot.held ≡ Some held.value }
+        ensures held { self.new.slot.held ≡ Some held.value }
+        ensures on { self.new.is_on ≡ is_on }
     {
         self.slot = ThreadSlot::of(RawBox::take(held));
         self.is_open = true;
+        self.is_on = is_on;
     }
 }
 

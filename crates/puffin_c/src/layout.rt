@@ -8,11 +8,16 @@ ghost use Rattle.puffin_c.specs.Reporting.{laid_over};
 use crate::count::PuffinCount;
 use crate::frame::PuffinFrame;
 use crate::handles::{PuffinIds, PuffinProfiler, PuffinThread};
+use crate::lists::PuffinLists;
+use crate::scopes::PuffinScope;
+use crate::streams::PuffinStream;
+use crate::threads::PuffinFileThread;
+use crate::unread::lay_over;
 use std::mem::size_of;
 
 /// Copies the sizes of the interface's structs, in bytes, to the front of `sizes`, as many as fit, and returns how many there are:
-/// those of [`PuffinCount`], [`PuffinFrame`], [`PuffinIds`], [`PuffinThread`] and [`PuffinProfiler`], in this order. A later version
-/// may add more.
+/// those of [`PuffinCount`], [`PuffinFrame`], [`PuffinIds`], [`PuffinThread`], [`PuffinProfiler`], [`PuffinLists`], [`PuffinScope`],
+/// [`PuffinStream`] and [`PuffinFileThread`], in this order. A later version may add more.
 #[unsafe(no_mangle)]
 pub extern "C" fn puffin_sizes(sizes: &mut [u64]) -> usize
     ensures sizes { sizes.new ≡ laid_over sizes.old struct_sizes }
@@ -24,9 +29,12 @@ pub extern "C" fn puffin_sizes(sizes: &mut [u64]) -> usize
         size_of::<PuffinIds>() as u64,
         size_of::<PuffinThread>() as u64,
         size_of::<PuffinProfiler>() as u64,
+        size_of::<PuffinLists>() as u64,
+        size_of::<PuffinScope>() as u64,
+        size_of::<PuffinStream>() as u64,
+        size_of::<PuffinFileThread>() as u64,
     ];
-    let number = all.len().min(sizes.len());
-    sizes[..number].copy_from_slice(&all[..number]);
+    lay_over(&all, sizes);
     all.len()
 }
 

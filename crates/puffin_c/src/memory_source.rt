@@ -1,6 +1,6 @@
 //! A reader of bytes in memory.
 
-ghost use Rattle.std.specs.Prelude.{◌≡◌, ◌≤◌, ◌+◌, Some, length};
+ghost use Rattle.std.specs.Prelude.{◌≡◌, ◌-◌, Some, length};
 
 use puffin_data::FileError;
 use puffin_data::data::Source;
@@ -23,10 +23,9 @@ impl<'a> MemorySource<'a> {
 
     /// Returns how much of `file` was read, if the source reads it and nothing else.
     pub(crate) fn offset_in(&self, file: &[u8]) -> u64
-        requires { length self.now.unread.now ≤ length file.now }
-        ensures { result + length self.now.unread.now ≡ length file.now }
+        ensures { result ≡ length file.now - length self.now.unread.now }
     {
-        (file.len() - self.unread.len()) as u64
+        file.len().saturating_sub(self.unread.len()) as u64
     }
 }
 

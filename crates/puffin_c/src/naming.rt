@@ -27,9 +27,10 @@ fn function_registered(
         return Err(Fault::NotOpen);
     }
     let place = FunctionAndFile::of(alloc, function, file)?;
+    let is_on = thread.is_on;
     let mut recorder = thread.take(alloc);
     let answer = recorder.register_function(place.function, place.file, line);
-    thread.put(recorder);
+    thread.put(recorder, is_on);
     *id = answer?.get();
     Ok(())
 }
@@ -80,9 +81,10 @@ fn scope_registered(
     let name = text(name)?;
     let place = FunctionAndFile::of(alloc, function, file)?;
     let name = copied(alloc, name)?;
+    let is_on = thread.is_on;
     let mut recorder = thread.take(alloc);
     let answer = recorder.register_scope(name, place.function, place.file, line);
-    thread.put(recorder);
+    thread.put(recorder, is_on);
     *id = answer?.get();
     Ok(())
 }

@@ -15,7 +15,7 @@ ghost use Rattle.puffin_view.specs.View.Known.{view_of};
 ghost use Rattle.puffin_view.specs.View.File.{fields_in};
 
 use crate::shared_ids::SharedIds;
-use crate::unread::{Pieces, Unread};
+use crate::unread::{Piece, Pieces, Unread};
 use puffin_collector::Collector;
 use puffin_data::data::Counted;
 use puffin_data::{FileError, Result as Answer};
@@ -58,7 +58,7 @@ pub(crate) struct Profiler {
 }
 
 impl Profiler {
-    ghost use Rattle.puffin_c.specs.Profiling.{waiting_frame, IsNew, IsCollected, IsTaken, IsLeft, view_file, newest_packet, HasLongNewest, with_file, with_packet, with_limits, without_view};
+    ghost use Rattle.puffin_c.specs.Profiling.{waiting_frame, IsNew, IsCollected, IsTaken, IsLeft, view_file, newest_packet, HasLongNewest, bytes_of, HasLong, with_unread, with_limits, without_view};
 
     /// Makes a profiler without scopes or frames.
     pub(crate) fn new(alloc: Global, shared: SharedIds) -> Profiler
@@ -139,28 +139,6 @@ impl Profiler {
         }
     }
 
-    /// Makes the view's file, to be read from its beginning, and returns its size in bytes. Fails like [`Profiler::file`];
-    /// nothing changes then.
-    pub(crate) fn begin_file(&mut self, alloc: Global) -> Result<usize, FileError>
-        ensures size { IfOk result (λ size. size ≡ length (view_file self.old)) }
-        ensures made { OnOk result (
-            self.new ≡ with_file self.old (view_file self.old)) }
-        ensures unchanged { OnErr result (self.new ≡ self.old) }
-        ensures err { IfErr result (λ e.
-            ((e ≡ file.PartTooLong) × Any HasLongPart (fields_in (view_of self.old.view)))
-            ⊎ (e ≡ file.Memory)
-            ⊎ (e ≡ file.Io)) }
-    {
-        match self.file(alloc) {
-            Ok(file) => {
-                let size = file.len();
-                self.unread.file = Unread::of(file);
-                Ok(size)
-            }
-            Err(fault) => Err(fault),
-        }
-    }
-
     /// Returns the packet of the view's newest frame, or no bytes if the view has no recent frame. Fails like
     /// [`Profiler::file`].
     fn packet(&self, alloc: Global) -> Result<Vec<u8>, FileError>
@@ -176,22 +154,36 @@ impl Profiler {
         }
     }
 
-    /// Makes the packet of the view's newest frame, to be read from its beginning, and returns its size in bytes. Fails like
-    /// [`Profiler::file`]; nothing changes then.
-    pub(crate) fn begin_packet(&mut self, alloc: Global) -> Result<usize, FileError>
-        ensures size { IfOk result (λ size. size ≡ length (newest_packet self.old)) }
-        ensures made { OnOk result (
-            self.new ≡ with_packet self.old (newest_packet self.old)) }
-        ensures unchanged { OnErr result (self.new ≡ self.old) }
+    /// Returns the view's file, or the packet of its newest frame. Fails with `PartTooLong`, or if memory runs out.
+    fn bytes(&self, alloc: Global, piece: Piece) -> Result<Vec<u8>, FileError>
+        ensures ok { IfOk result (λ written. written.items ≡ bytes_of piece self.now) }
         ensures err { IfErr result (λ e.
-            ((e ≡ file.PartTooLong) × HasLongNewest self.old)
+            ((e ≡ file.PartTooLong) × HasLong piece self.now)
             ⊎ (e ≡ file.Memory)
             ⊎ (e ≡ file.Io)) }
     {
-        match self.packet(alloc) {
-            Ok(packet) => {
-                let size = packet.len();
-                self.unread.packet = Unread::of(packet);
+        match piece {
+            Piece::File => self.file(alloc),
+            Piece::Packet => self.packet(alloc),
+        }
+    }
+
+    /// Makes the view's file, or the packet of its newest frame, to be read from its beginning, and returns its size in bytes.
+    /// Fails like [`Profiler::bytes`]; nothing changes then.
+    pub(crate) fn begin(&mut self, alloc: Global, piece: Piece) -> Result<usize, FileError>
+        ensures size { IfOk result (λ size. size ≡ length (bytes_of piece self.old)) }
+        ensures made { OnOk result (
+            self.new ≡ with_unread piece self.old (bytes_of piece self.old)) }
+        ensures unchanged { OnErr result (self.new ≡ self.old) }
+        ensures err { IfErr result (λ e.
+            ((e ≡ file.PartTooLong) × HasLong piece self.old)
+            ⊎ (e ≡ file.Memory)
+            ⊎ (e ≡ file.Io)) }
+    {
+        match self.bytes(alloc, piece) {
+            Ok(bytes) => {
+                let size = bytes.len();
+                self.unread.put(piece, bytes);
                 Ok(size)
             }
             Err(fault) => Err(fault),

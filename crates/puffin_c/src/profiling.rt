@@ -87,10 +87,11 @@ fn reported(
     if !thread.is_open || !profiler.is_open {
         return Err(Fault::NotOpen);
     }
+    let is_on = thread.is_on;
     let mut recorder = thread.take(alloc);
     let mut whole = profiler.take(alloc);
     let answer = recorder.report(&mut whole.collector);
-    thread.put(recorder);
+    thread.put(recorder, is_on);
     profiler.put(whole);
     match answer {
         Ok(_some) => Ok(()),

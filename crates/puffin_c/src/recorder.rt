@@ -1,11 +1,13 @@
 //! A thread's profiler that takes its times from the caller.
 
-ghost use Rattle.std.specs.Prelude.{◌≡◌, ◌≢◌, Some, OnOk, OnErr, IfOk, IfErr, string_bytes, slice_get};
-ghost use Rattle.puffin_data.specs.declared.error.Error.TheVariants.{Memory, MismatchedEnd};
+ghost use Rattle.std.specs.Prelude.{◌≡◌, ◌≢◌, ◌<◌, Some, OnOk, OnErr, IfOk, IfErr, string_bytes, slice_get};
+ghost use Rattle.puffin_data.specs.declared.error.Error.TheVariants.{Memory, MismatchedEnd, ScopesOpen};
 ghost use Rattle.puffin_data.specs.Text.{cut_text};
-ghost use Rattle.puffin_threads.specs.Thread.Calls.{new_thread, after_begin, after_end, offsets_of};
+ghost use Rattle.puffin_data.specs.Forest.Words.{open_after};
+ghost use Rattle.puffin_threads.specs.Thread.Calls.{new_thread, after_begin, after_end, offsets_of, num_ended};
 ghost use Rattle.puffin_threads.specs.Thread.Calls.{RegistersScope};
 ghost use Rattle.puffin_threads.specs.Thread.Closing.{Reports};
+ghost use Rattle.puffin_threads.specs.Thread.Discarding.{after_discarding};
 ghost use Rattle.puffin_threads.specs.Details.{default_details};
 ghost use Rattle.puffin_collector.specs.Collector.State.{AcceptsReport, RefusesReport};
 ghost use Rattle.puffin_c.specs.Times.{clock_time, begun_place};
@@ -80,6 +82,18 @@ impl Recorder {
             result }
     {
         self.profiler.report_closed(collector)
+    }
+
+    /// Gives up the closed scopes that are waiting, and returns how many there were. The registered details stay for the next
+    /// report. Fails only with `ScopesOpen`; nothing changes then.
+    pub(crate) fn discard(&mut self) -> Result<usize>
+        ensures number { IfOk result (λ number. number ≡ num_ended self.old.word) }
+        ensures none_open { OnOk result (open_after 0 self.old.word ≡ 0) }
+        ensures discarded { OnOk result (self.new ≡ after_discarding self.old) }
+        ensures open { IfErr result (λ e. (e ≡ ScopesOpen) × (0 < open_after 0 self.old.word)) }
+        ensures unchanged { OnErr result (self.new ≡ self.old) }
+    {
+        self.profiler.discard_closed()
     }
 
     /// Registers a function as a scope, under a newly drawn id. Fails with `IdsExhausted` or `Memory`.

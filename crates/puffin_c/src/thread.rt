@@ -1,20 +1,24 @@
 //! Records the scopes of one thread.
 
-ghost use Rattle.std.specs.Prelude.{◌≡◌, None, Some, Result, is_some, true};
+ghost use Rattle.std.specs.Prelude.{◌≡◌, ◌≢◌, None, Some, Result, is_some, true, OnOk, OnErr, IfErr};
 ghost use Rattle.puffin_c.specs.declared.fault.Fault.{Fault};
+ghost use Rattle.puffin_c.specs.declared.fault.Fault.TheVariants as fault;
 ghost use Rattle.puffin_c.specs.Faults.{answer_code};
-ghost use Rattle.puffin_c.specs.Handles.{ids_in, thread_in};
+ghost use Rattle.puffin_c.specs.Handles.{ids_in, thread_in, scopes_on};
 ghost use Rattle.puffin_c.specs.Counting.{form_given};
-ghost use Rattle.puffin_c.specs.Recording.{Opens, Closes, Begins, Ends};
+ghost use Rattle.puffin_c.specs.Recording.{Opens, Closes, no_scope, Skips, BeginsIf, Ends, Discards, Switches};
 
 use crate::fault::{Fault, answer_code};
 use crate::handles::{PuffinIds, PuffinThread};
+use crate::raw_box::RawBox;
 use crate::recorder::Recorder;
 use crate::stream::form_of;
 use crate::texts::{copied, text};
+use crate::thread_slot::ThreadSlot;
 use puffin_data::Error;
 use puffin_data::data::{Form, ScopeId};
 use std::alloc::Global;
+use std::mem;
 
 fn opened(
     alloc: Global,
@@ -25,6 +29,7 @@ fn opened(
 ) -> Result<(), Fault>
     ensures opens { Opens (thread_in thread.old) (is_some (ids_in ids.old)) name.now form
         (thread_in thread.new) result }
+    ensures on { OnOk result (scopes_on thread.new ≡ true) }
     ensures same_ids { ids_in ids.new ≡ ids_in ids.old }
 {
     if thread.is_open {
@@ -38,7 +43,7 @@ fn opened(
     let name = copied(alloc, name)?;
     match Box::new(alloc, Recorder::new(alloc, shared, name, form)) {
         Ok(held) => {
-            thread.put(held);
+            thread.put(held, true);
             Ok(())
         }
         Err(_) => Err(Fault::Refused(Error::Memory)),
@@ -61,7 +66,8 @@ pub extern "C" fn puffin_thread_open(
     ensures opens { (answer : Result (Unit {0}) Fault)
         × (result ≡ answer_code answer)
         × Opens (thread_in thread.old) (is_some (ids_in ids.old)) name.now (form_given long_texts)
-        (thread_in thread.new) answer }
+        (thread_in thread.new) answer
+        × OnOk answer (scopes_on thread.new ≡ true) }
     ensures same_ids { ids_in ids.new ≡ ids_in ids.old }
 {
     let answer = opened(alloc, thread, ids, name, form_of(long_texts));
@@ -91,6 +97,85 @@ pub extern "C" fn puffin_thread_close(alloc: Global, thread: &mut PuffinThread) 
     answer_code(answer)
 }
 
+fn discarded(alloc: Global, thread: &mut PuffinThread, scopes: &mut u64) -> Result<(), Fault>
+    ensures discards { Discards (thread_in thread.old) (thread_in thread.new) scopes.old scopes.new
+        result }
+    ensures same_switch { scopes_on thread.new ≡ scopes_on thread.old }
+{
+    if !thread.is_open {
+        return Err(Fault::NotOpen);
+    }
+    let is_on = thread.is_on;
+    let mut recorder = thread.take(alloc);
+    let answer = recorder.discard();
+    thread.put(recorder, is_on);
+    *scopes = answer? as u64;
+    Ok(())
+}
+
+/// Gives up a thread's waiting scopes, for example those of a report that is refused again and again, and sets `scopes` to how
+/// many there were. The details of registered scopes stay for the next report.
+///
+/// Fails with `NotOpen`, or with `ScopesOpen` while a scope is open. Nothing changes then.
+#[unsafe(no_mangle)]
+pub extern "C" fn puffin_thread_discard(
+    alloc: Global,
+    thread: &mut PuffinThread,
+    scopes: &mut u64,
+) -> u32
+    ensures discards { (answer : Result (Unit {0}) Fault)
+        × (result ≡ answer_code answer)
+        × Discards (thread_in thread.old) (thread_in thread.new) scopes.old scopes.new answer }
+    ensures same_switch { scopes_on thread.new ≡ scopes_on thread.old }
+{
+    let answer = discarded(alloc, thread, scopes);
+    answer_code(answer)
+}
+
+fn switched(thread: &mut PuffinThread, is_on: bool) -> Result<(), Fault>
+    ensures switches { Switches (thread_in thread.old) (thread_in thread.new) result }
+    ensures on { OnOk result (scopes_on thread.new ≡ is_on) }
+    ensures err { OnErr result (scopes_on thread.new ≡ scopes_on thread.old) }
+{
+    if !thread.is_open {
+        return Err(Fault::NotOpen);
+    }
+    thread.is_on = is_on;
+    Ok(())
+}
+
+/// Turns a thread's scopes on or off. They are on when the handle is opened. While they are off, [`puffin_begin`] begins no scope
+/// and sets `scope` to 0, and [`puffin_end`] takes 0 and does nothing. A scope that is open already is ended as usual.
+///
+/// Fails with `NotOpen`. Nothing changes then.
+#[unsafe(no_mangle)]
+pub extern "C" fn puffin_set_scopes_on(thread: &mut PuffinThread, is_on: bool) -> u32
+    ensures { (answer : Result (Unit {0}) Fault)
+        × (result ≡ answer_code answer)
+        × Switches (thread_in thread.old) (thread_in thread.new) answer
+        × OnOk answer (scopes_on thread.new ≡ is_on)
+        × OnErr answer (scopes_on thread.new ≡ scopes_on thread.old) }
+{
+    let answer = switched(thread, is_on);
+    answer_code(answer)
+}
+
+/// The offset that stands for no scope.
+const NO_SCOPE: u64 = 0;
+
+/// Begins no scope, because scopes are off.
+#[cold]
+#[inline(never)]
+fn skipped(thread: &PuffinThread, scope: &mut u64) -> Result<(), Fault>
+    ensures { Skips (thread_in thread.now) (thread_in thread.now) scope.old scope.new result }
+{
+    if !thread.is_open {
+        return Err(Fault::NotOpen);
+    }
+    *scope = NO_SCOPE;
+    Ok(())
+}
+
 #[inline(always)]
 fn begun(
     alloc: Global,
@@ -100,25 +185,28 @@ fn begun(
     bytes: &[u8],
     scope: &mut u64,
 ) -> Result<(), Fault>
-    ensures { Begins (thread_in thread.old) now_ns id bytes.now (thread_in thread.new) scope.old
-        scope.new result }
+    ensures begins { BeginsIf (scopes_on thread.old) (thread_in thread.old) now_ns id bytes.now
+        (thread_in thread.new) scope.old scope.new result }
+    ensures same_switch { scopes_on thread.new ≡ scopes_on thread.old }
 {
-    if !thread.is_open {
-        return Err(Fault::NotOpen);
+    if !thread.is_on {
+        return skipped(thread, scope);
     }
     let Some(id) = ScopeId::new(id) else {
         return Err(Fault::NoId);
     };
     let text = text(bytes)?;
-    let mut recorder = thread.take(alloc);
+    let slot = mem::replace(&mut thread.slot, ThreadSlot::empty(alloc));
+    let mut recorder = slot.into_raw().restore();
     let answer = recorder.begin(now_ns, id, text);
-    thread.put(recorder);
+    thread.slot = ThreadSlot::of(RawBox::take(recorder));
     *scope = answer? as u64;
     Ok(())
 }
 
 /// Begins a scope with this id and the text `bytes` at this time, and sets `scope` to its offset, which [`puffin_end`] takes. A
-/// negative time counts as 0, and a time before the thread's last one counts as the last one.
+/// negative time counts as 0, and a time before the thread's last one counts as the last one. Begins nothing and sets `scope` to
+/// 0 if scopes are off, whatever the id and the text are.
 ///
 /// Fails with the first of `NotOpen`, `NoId`, `NotText` and `Memory` that applies. Nothing changes then.
 #[unsafe(no_mangle)]
@@ -130,29 +218,49 @@ pub extern "C" fn puffin_begin(
     bytes: &[u8],
     scope: &mut u64,
 ) -> u32
-    ensures { (answer : Result (Unit {0}) Fault)
+    ensures begins { (answer : Result (Unit {0}) Fault)
         × (result ≡ answer_code answer)
-        × Begins (thread_in thread.old) now_ns id bytes.now (thread_in thread.new) scope.old
-        scope.new answer }
+        × BeginsIf (scopes_on thread.old) (thread_in thread.old) now_ns id bytes.now
+        (thread_in thread.new) scope.old scope.new answer }
+    ensures same_switch { scopes_on thread.new ≡ scopes_on thread.old }
 {
     let answer = begun(alloc, thread, now_ns, id, bytes, scope);
     answer_code(answer)
 }
 
+/// Returns the outcome of an end that was refused with this error: none, if the offset is that of no scope.
+#[cold]
+#[inline(never)]
+fn unended(scope: u64, cause: Error) -> Result<(), Fault>
+    ensures ok { OnOk result (scope ≡ no_scope) }
+    ensures err { IfErr result (λ f. (f ≡ fault.Refused cause) × (scope ≢ no_scope)) }
+{
+    if scope == NO_SCOPE {
+        return Ok(());
+    }
+    Err(Fault::Refused(cause))
+}
+
 #[inline(always)]
 fn ended(alloc: Global, thread: &mut PuffinThread, now_ns: i64, scope: u64) -> Result<(), Fault>
-    ensures { Ends (thread_in thread.old) now_ns scope (thread_in thread.new) result }
+    ensures ends { Ends (thread_in thread.old) now_ns scope (thread_in thread.new) result }
+    ensures same_switch { scopes_on thread.new ≡ scopes_on thread.old }
 {
     if !thread.is_open {
         return Err(Fault::NotOpen);
     }
-    let mut recorder = thread.take(alloc);
+    let slot = mem::replace(&mut thread.slot, ThreadSlot::empty(alloc));
+    let mut recorder = slot.into_raw().restore();
     let answer = recorder.end(now_ns, scope as usize);
-    thread.put(recorder);
-    Ok(answer?)
+    thread.slot = ThreadSlot::of(RawBox::take(recorder));
+    match answer {
+        Ok(()) => Ok(()),
+        Err(cause) => unended(scope, cause),
+    }
 }
 
-/// Ends this scope, which must be the innermost open one, at this time. The scope then waits for the next [`puffin_report`].
+/// Ends this scope, which must be the innermost open one, at this time. The scope then waits for the next [`puffin_report`]. Does
+/// nothing if `scope` is 0.
 ///
 /// Fails with `NotOpen` or `MismatchedEnd`. Nothing changes then.
 ///
@@ -164,9 +272,10 @@ pub extern "C" fn puffin_end(
     now_ns: i64,
     scope: u64,
 ) -> u32
-    ensures { (answer : Result (Unit {0}) Fault)
+    ensures ends { (answer : Result (Unit {0}) Fault)
         × (result ≡ answer_code answer)
         × Ends (thread_in thread.old) now_ns scope (thread_in thread.new) answer }
+    ensures same_switch { scopes_on thread.new ≡ scopes_on thread.old }
 {
     let answer = ended(alloc, thread, now_ns, scope);
     answer_code(answer)

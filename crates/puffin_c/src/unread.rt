@@ -1,4 +1,4 @@
-//! Bytes that a program reads in pieces.
+//! Bytes that a program reads in pieces, and lists that it gets as far as they fit.
 
 ghost use Rattle.std.specs.Prelude.{◌≡◌, ◌≤◌, [], drop, length, min};
 ghost use Rattle.puffin_c.specs.Reporting.{laid_over};
@@ -7,13 +7,13 @@ use std::alloc::Global;
 use std::io::Read;
 use std::marker::Model;
 
-/// Copies the bytes to the front of `out`, as many as fit, and returns how many were copied.
-pub(crate) fn lay_over(bytes: &[u8], out: &mut [u8]) -> usize
-    ensures out { out.new ≡ laid_over out.old bytes.now }
-    ensures number { result ≡ min (length bytes.now) (length out.old) }
+/// Copies the items to the front of `out`, as many as fit, and returns how many were copied.
+pub(crate) fn lay_over<T: Copy>(items: &[T], out: &mut [T]) -> usize
+    ensures out { out.new ≡ laid_over out.old items.now }
+    ensures number { result ≡ min (length items.now) (length out.old) }
 {
-    let number = bytes.len().min(out.len());
-    out[..number].copy_from_slice(&bytes[..number]);
+    let number = items.len().min(out.len());
+    out[..number].copy_from_slice(&items[..number]);
     number
 }
 
@@ -34,11 +34,45 @@ impl Model for Unread {
     ghost invariant = { λ u. u.read ≤ length u.bytes.items };
 }
 
-/// What a program reads in pieces: the file of the view, and the packet of one frame.
+/// What a program reads in pieces: the file of the view, or the packet of its newest frame.
+#[derive(Clone, Copy)]
+pub(crate) enum Piece {
+    File,
+    Packet,
+}
+
+/// The unread bytes of the file, and of the packet.
 #[derive(Drop)]
 pub(crate) struct Pieces {
     pub(crate) file: Unread,
     pub(crate) packet: Unread,
+}
+
+impl Pieces {
+    ghost use Rattle.puffin_c.specs.Pieces.{unread_in, pieces_with};
+
+    /// Replaces the unread bytes.
+    pub(crate) fn put(&mut self, piece: Piece, bytes: Vec<u8>)
+        ensures { self.new ≡ pieces_with piece self.old bytes.items }
+    {
+        match piece {
+            Piece::File => self.file = Unread::of(bytes),
+            Piece::Packet => self.packet = Unread::of(bytes),
+        }
+    }
+
+    /// Reads as many bytes as fit into `out`, and returns how many.
+    pub(crate) fn read(&mut self, piece: Piece, out: &mut [u8]) -> usize
+        ensures out { out.new ≡ laid_over out.old (unread_in piece self.old) }
+        ensures number { result ≡ min (length (unread_in piece self.old)) (length out.old) }
+        ensures left { self.new
+            ≡ pieces_with piece self.old (drop result (unread_in piece self.old)) }
+    {
+        match piece {
+            Piece::File => self.file.read(out),
+            Piece::Packet => self.packet.read(out),
+        }
+    }
 }
 
 impl Unread {

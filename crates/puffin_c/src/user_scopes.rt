@@ -2,8 +2,7 @@
 
 ghost use Rattle.std.specs.Prelude.{◌≡◌, ◌⊎◌, Result, IfOk, IfErr};
 ghost use Rattle.puffin_data.specs.declared.error.Error.TheVariants as error;
-ghost use Rattle.puffin_data.specs.Forest.{Forest};
-ghost use Rattle.puffin_data.specs.Honesty.{IsHonestRef};
+ghost use Rattle.puffin_data.specs.Honesty.{IsHonestReport};
 ghost use Rattle.puffin_data.specs.Walk.{IsFault};
 ghost use Rattle.puffin_c.specs.declared.fault.Fault.{Fault};
 ghost use Rattle.puffin_c.specs.Faults.{answer_code};
@@ -23,7 +22,7 @@ use std::alloc::Global;
 fn counted(alloc: Global, form: Form, bytes: &[u8]) -> puffin_data::Result<StreamInfoRef<'_>>
     ensures form { IfOk result (λ times. times.form ≡ form) }
     ensures bytes { IfOk result (λ times. times.stream.now ≡ bytes.now) }
-    ensures honest { IfOk result (λ times. (f : Forest) × IsHonestRef times f) }
+    ensures honest { IfOk result (λ times. IsHonestReport times) }
     ensures fault { IfErr result (λ e. (e ≡ error.Memory) ⊎ IsFault form bytes.now e) }
 {
     let mut tries = 0;

@@ -2,23 +2,30 @@
 
 ghost use Rattle.std.specs.Prelude.{◌≡◌, Result};
 ghost use Rattle.puffin_c.specs.declared.fault.Fault.{Fault};
+ghost use Rattle.puffin_c.specs.declared.unread.Piece.TheVariants as piece;
 ghost use Rattle.puffin_c.specs.Faults.{answer_code};
 ghost use Rattle.puffin_c.specs.Handles.{profiler_in};
-ghost use Rattle.puffin_c.specs.Profiling.{MakesFile, ReadsFile, MakesPacket, ReadsPacket};
+ghost use Rattle.puffin_c.specs.Profiling.{Makes, Reads};
 
 use crate::fault::{Fault, answer_code};
 use crate::handles::PuffinProfiler;
+use crate::unread::Piece;
 use std::alloc::Global;
 
-fn begun(alloc: Global, profiler: &mut PuffinProfiler, size: &mut u64) -> Result<(), Fault>
-    ensures { MakesFile (profiler_in profiler.old) (profiler_in profiler.new) size.old size.new
+fn begun(
+    alloc: Global,
+    profiler: &mut PuffinProfiler,
+    piece: Piece,
+    size: &mut u64,
+) -> Result<(), Fault>
+    ensures { Makes piece (profiler_in profiler.old) (profiler_in profiler.new) size.old size.new
         result }
 {
     if !profiler.is_open {
         return Err(Fault::NotOpen);
     }
     let mut whole = profiler.take(alloc);
-    let answer = whole.begin_file(alloc);
+    let answer = whole.begin(alloc, piece);
     profiler.put(whole);
     match answer {
         Ok(number) => {
@@ -27,6 +34,25 @@ fn begun(alloc: Global, profiler: &mut PuffinProfiler, size: &mut u64) -> Result
         }
         Err(fault) => Err(Fault::from(fault)),
     }
+}
+
+fn read(
+    alloc: Global,
+    profiler: &mut PuffinProfiler,
+    piece: Piece,
+    out: &mut [u8],
+    size: &mut u64,
+) -> Result<(), Fault>
+    ensures { Reads piece (profiler_in profiler.old) (profiler_in profiler.new) out.old out.new
+        size.old size.new result }
+{
+    if !profiler.is_open {
+        return Err(Fault::NotOpen);
+    }
+    let mut whole = profiler.take(alloc);
+    *size = whole.unread.read(piece, out) as u64;
+    profiler.put(whole);
+    Ok(())
 }
 
 /// Makes a `.puffin` file in memory from the view's frames, and sets `size` to its size in bytes. [`puffin_file_next`] reads it
@@ -42,29 +68,11 @@ pub extern "C" fn puffin_file_begin(
 ) -> u32
     ensures { (answer : Result (Unit {0}) Fault)
         × (result ≡ answer_code answer)
-        × MakesFile (profiler_in profiler.old) (profiler_in profiler.new) size.old size.new
+        × Makes piece.File (profiler_in profiler.old) (profiler_in profiler.new) size.old size.new
         answer }
 {
-    let answer = begun(alloc, profiler, size);
+    let answer = begun(alloc, profiler, Piece::File, size);
     answer_code(answer)
-}
-
-fn read(
-    alloc: Global,
-    profiler: &mut PuffinProfiler,
-    out: &mut [u8],
-    size: &mut u64,
-) -> Result<(), Fault>
-    ensures { ReadsFile (profiler_in profiler.old) (profiler_in profiler.new) out.old out.new
-        size.old size.new result }
-{
-    if !profiler.is_open {
-        return Err(Fault::NotOpen);
-    }
-    let mut whole = profiler.take(alloc);
-    *size = whole.unread.file.read(out) as u64;
-    profiler.put(whole);
-    Ok(())
 }
 
 /// Copies the next bytes of [`puffin_file_begin`]'s file to the front of `out`, as many as fit, and sets `size` to how many
@@ -80,30 +88,11 @@ pub extern "C" fn puffin_file_next(
 ) -> u32
     ensures { (answer : Result (Unit {0}) Fault)
         × (result ≡ answer_code answer)
-        × ReadsFile (profiler_in profiler.old) (profiler_in profiler.new) out.old out.new
+        × Reads piece.File (profiler_in profiler.old) (profiler_in profiler.new) out.old out.new
         size.old size.new answer }
 {
-    let answer = read(alloc, profiler, out, size);
+    let answer = read(alloc, profiler, Piece::File, out, size);
     answer_code(answer)
-}
-
-fn packet_begun(alloc: Global, profiler: &mut PuffinProfiler, size: &mut u64) -> Result<(), Fault>
-    ensures { MakesPacket (profiler_in profiler.old) (profiler_in profiler.new) size.old size.new
-        result }
-{
-    if !profiler.is_open {
-        return Err(Fault::NotOpen);
-    }
-    let mut whole = profiler.take(alloc);
-    let answer = whole.begin_packet(alloc);
-    profiler.put(whole);
-    match answer {
-        Ok(packet_size) => {
-            *size = packet_size as u64;
-            Ok(())
-        }
-        Err(fault) => Err(Fault::from(fault)),
-    }
 }
 
 /// Makes the packet of the view's newest frame in memory, and sets `size` to its size in bytes, or to 0 if the view has no recent
@@ -120,29 +109,11 @@ pub extern "C" fn puffin_frame_begin(
 ) -> u32
     ensures { (answer : Result (Unit {0}) Fault)
         × (result ≡ answer_code answer)
-        × MakesPacket (profiler_in profiler.old) (profiler_in profiler.new) size.old size.new
+        × Makes piece.Packet (profiler_in profiler.old) (profiler_in profiler.new) size.old size.new
         answer }
 {
-    let answer = packet_begun(alloc, profiler, size);
+    let answer = begun(alloc, profiler, Piece::Packet, size);
     answer_code(answer)
-}
-
-fn packet_read(
-    alloc: Global,
-    profiler: &mut PuffinProfiler,
-    out: &mut [u8],
-    size: &mut u64,
-) -> Result<(), Fault>
-    ensures { ReadsPacket (profiler_in profiler.old) (profiler_in profiler.new) out.old out.new
-        size.old size.new result }
-{
-    if !profiler.is_open {
-        return Err(Fault::NotOpen);
-    }
-    let mut whole = profiler.take(alloc);
-    *size = whole.unread.packet.read(out) as u64;
-    profiler.put(whole);
-    Ok(())
 }
 
 /// Copies the next bytes of [`puffin_frame_begin`]'s packet to the front of `out`, as many as fit, and sets `size` to how many
@@ -158,9 +129,9 @@ pub extern "C" fn puffin_frame_next(
 ) -> u32
     ensures { (answer : Result (Unit {0}) Fault)
         × (result ≡ answer_code answer)
-        × ReadsPacket (profiler_in profiler.old) (profiler_in profiler.new) out.old out.new
+        × Reads piece.Packet (profiler_in profiler.old) (profiler_in profiler.new) out.old out.new
         size.old size.new answer }
 {
-    let answer = packet_read(alloc, profiler, out, size);
+    let answer = read(alloc, profiler, Piece::Packet, out, size);
     answer_code(answer)
 }

@@ -2,6 +2,7 @@
 pub mod Calls
 pub mod ThreadProfiler
 pub mod Closing
+pub mod Discarding
 pub mod Events
 pub mod Clock
 pub mod ThreadKey

@@ -65,6 +65,36 @@ fn details_come_with_the_next_accepted_report(rt: HostRuntime) -> Outcome {
     come_once(&rt, &mut rig)
 }
 
+/// Scopes that are given up: none while one is open, then so many.
+fn gives_up(rt: &impl Abort, rig: &mut Rig) {
+    rig.begins(rt, (6, ""), 45);
+    equal(rt, rig.thread.discard_closed(), Err(Error::ScopesOpen));
+    rig.ends(rt, 45, Ok(Closed::Kept(Error::TooLarge)));
+    equal(rt, rig.thread.discard_closed(), Ok(2));
+    equal(rt, rig.thread.discard_closed(), Ok(0));
+    rig.reports(rt, Ok(false));
+    rig.has(rt, (0, 0, 0));
+}
+
+/// One scope is reported, with the details that were registered before.
+fn comes_alone(rt: &impl Abort, rig: &mut Rig) -> Outcome {
+    rig.set(200);
+    rig.begins(rt, (5, ""), 14);
+    rig.ends(rt, 14, Ok(Closed::Reported));
+    rig.has(rt, (0, 1, 2));
+    equal(rt, rig.recorder.at(0)?.0.start_time_ns, Some(100));
+    equal(rt, rig.recorder.at(0)?.1.num_scopes, 1);
+    is_registered(rt, &rig.recorder, 1, 6, ("part", "f", "b.rs:9"))
+}
+
+#[test]
+fn details_outlast_scopes_that_are_given_up(rt: HostRuntime) -> Outcome {
+    let mut rig = Rig::new(rt.alloc(), 100, 2)?;
+    are_kept(&rt, &mut rig)?;
+    gives_up(&rt, &mut rig);
+    comes_alone(&rt, &mut rig)
+}
+
 /// Why two registrations with an exhausted counter are refused.
 fn refused_registrations(
     thread: &mut ThreadProfiler<ScriptClock>,

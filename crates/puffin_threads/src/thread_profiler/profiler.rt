@@ -19,7 +19,7 @@ pub struct ThreadProfiler<C> {
 }
 
 impl<C: NsSource> ThreadProfiler<C> {
-    ghost use Rattle.std.specs.Prelude.{◌≡◌, ◌≢◌, ◌+◌, ℤ, pos, ◌≤ℤ◌, length, Some, OnOk, OnErr, IfOk, IfErr, string_bytes, slice_get, IsOkUnless};
+    ghost use Rattle.std.specs.Prelude.{◌≡◌, ◌≢◌, ◌+◌, ◌<◌, ℤ, pos, ◌≤ℤ◌, length, Some, OnOk, OnErr, IfOk, IfErr, string_bytes, slice_get, IsOkUnless};
     ghost use Rattle.puffin_data.specs.declared.error.Error.{Error};
     ghost use Rattle.std.specs.Cow.{cow_str_bytes};
     ghost use Rattle.puffin_data.specs.Forest.Spelling.{size_offset};
@@ -28,6 +28,7 @@ impl<C: NsSource> ThreadProfiler<C> {
     ghost use Rattle.puffin_threads.specs.Thread.Calls.{new_thread, after_begin, after_end, RegistersScope, offsets_of, num_ended};
     ghost use Rattle.puffin_threads.specs.Details.{default_details};
     ghost use Rattle.puffin_threads.specs.Thread.Closing.{Closes, Reports};
+    ghost use Rattle.puffin_threads.specs.Thread.Discarding.{after_discarding};
     ghost use Rattle.puffin_threads.specs.Thread.ThreadProfiler.{thread_of, clock_of, allocator_of, with_clock};
     ghost use Rattle.puffin_threads.specs.contracts.thread_profiler.profiler.ThreadProfiler.{the_row};
     ghost use Rattle.std.specs.Borrow.{Lends, sem};
@@ -270,5 +271,28 @@ impl<C: NsSource> ThreadProfiler<C> {
         let name = self.state.name_for_report()?;
         self.state.hand_over(name, reporter)?;
         Ok(true)
+    }
+
+    /// Gives up all closed scopes that haven't been reported yet, for example those of a refused report, and returns how many
+    /// there were. The registered details stay for the next report, and the thread keeps its name and its first start.
+    ///
+    /// Fails only with `ScopesOpen`, while a scope is open; nothing changes then. Allocates nothing.
+    pub fn discard_closed(&mut self) -> Result<usize>
+        ensures number { IfOk result (λ number.
+            number ≡ num_ended (thread_of self.old).word) }
+        ensures none_open { OnOk result (open_after 0 (thread_of self.old).word ≡ 0) }
+        ensures discarded { OnOk result (
+            thread_of self.new ≡ after_discarding (thread_of self.old)) }
+        ensures open { IfErr result (λ e.
+            (e ≡ Error.ScopesOpen) × (0 < open_after 0 (thread_of self.old).word)) }
+        ensures unchanged { OnErr result (self.new ≡ self.old) }
+        ensures clock { clock_of self.new ≡ clock_of self.old }
+    {
+        if self.depth() > 0 {
+            return Err(Error::ScopesOpen);
+        }
+        let number = self.state.num_closed();
+        self.state.discard();
+        Ok(number)
     }
 }

@@ -9,6 +9,7 @@ ghost use Rattle.puffin_data.specs.Text.{cut_text};
 ghost use Rattle.puffin_data.specs.Forest.Words.{word_size, open_after};
 ghost use Rattle.puffin_threads.specs.Thread.Calls.{new_thread, after_begin, after_end, after_handing, RegistersScope, offsets_of, num_ended};
 ghost use Rattle.puffin_threads.specs.Thread.Closing.{GoesTo};
+ghost use Rattle.puffin_threads.specs.Thread.Discarding.{after_discarding};
 ghost use Rattle.puffin_threads.specs.Details.{details_of};
 
 use crate::scope_details::{ScopeDetails, ScopeIds};
@@ -296,5 +297,13 @@ impl ThreadState {
         self.info.clear();
         self.details.clear();
         Ok(())
+    }
+
+    /// Drops the closed scopes. The details stay for the next report.
+    pub(crate) fn discard(&mut self)
+        requires { open_after 0 self.old.word ≡ 0 }
+        ensures { self.new ≡ after_discarding self.old }
+    {
+        self.info.clear();
     }
 }

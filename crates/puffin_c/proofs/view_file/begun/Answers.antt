@@ -1,8 +1,8 @@
 use Rattle.std.proofs.Common.{refl, sym, ap, ◌∙◌, inr}
 use Rattle.std.specs.Prelude.{Some, length}
 use Rattle.puffin_c.specs.declared.profiler.Profiler.{Profiler}
-use Rattle.puffin_c.specs.Profiling.{view_file, with_file}
-use Rattle.puffin_c.proofs.Held.{file_refusal}
+use Rattle.puffin_c.specs.Profiling.{bytes_of, with_unread}
+use Rattle.puffin_c.proofs.Held.{piece_refusal}
 use Rattle.puffin_c.proofs.view_file.begun.Goals as goal
 
 pub returns-in-Ok : goal.returns-in-Ok
@@ -11,8 +11,8 @@ returns-in-Ok c =
       c.take-whole.result.value,
       c.take-whole.ensures.taken,
       c.put.ensures ∙ ap (λ (q : Profiler). Some q) c.in-Ok.ensures.made
-          ∙ ap (λ (q : Profiler). Some (with_file q (view_file q))) same,
-      c.in-Ok.ensures.size ∙ ap (λ (q : Profiler). length (view_file q)) same,
+          ∙ ap (λ (q : Profiler). Some (with_unread c.args.piece q (bytes_of c.args.piece q))) same,
+      c.in-Ok.ensures.size ∙ ap (λ (q : Profiler). length (bytes_of c.args.piece q)) same,
     )
 
 pub returns-in-Err : goal.returns-in-Err
@@ -23,6 +23,6 @@ returns-in-Err c =
       inr (
         c.take-whole.result.value,
         c.take-whole.ensures.taken,
-        file_refusal _ _ c.in-Err.fault _ same c.from.ensures c.in-Err.ensures.err,
+        piece_refusal c.args.piece _ _ c.in-Err.fault _ same c.from.ensures c.in-Err.ensures.err,
       ),
     )

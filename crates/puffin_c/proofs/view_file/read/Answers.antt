@@ -1,7 +1,9 @@
 use Rattle.std.proofs.Common.{ℕ, List, ap, ◌∙◌}
 use Rattle.std.specs.Prelude.{Some, length, drop, min}
 use Rattle.puffin_c.specs.declared.profiler.Profiler.{Profiler}
-use Rattle.puffin_c.specs.Profiling.{with_file}
+use Rattle.puffin_c.specs.declared.unread.Pieces.{Pieces}
+use Rattle.puffin_c.specs.Pieces.{unread_in}
+use Rattle.puffin_c.specs.Profiling.{with_unread}
 use Rattle.puffin_c.specs.Reporting.{laid_over}
 use Rattle.puffin_c.proofs.view_file.read.Goals as goal
 
@@ -12,8 +14,8 @@ returns c =
     let same = c.deref_mut.ensures.value in (
       c.take-whole.result.value,
       c.take-whole.ensures.taken,
-      c.read.ensures.number ∙ ap (λ (q : Profiler). min (length q.unread.file) (length out)) same,
-      c.put.ensures ∙ ap (λ (u : List ℕ). Some (with_file here u)) c.read.ensures.left
-          ∙ ap (λ (q : Profiler). Some (with_file q (drop c.read.result q.unread.file))) same,
-      c.read.ensures.out ∙ ap (λ (q : Profiler). laid_over out q.unread.file) same,
+      c.read.ensures.number ∙ ap (λ (q : Profiler). min (length (unread_in c.args.piece q.unread)) (length out)) same,
+      c.put.ensures ∙ ap (λ (u : Pieces). Some (record here { unread = u })) c.read.ensures.left
+          ∙ ap (λ (q : Profiler). Some (with_unread c.args.piece q (drop c.read.result (unread_in c.args.piece q.unread)))) same,
+      c.read.ensures.out ∙ ap (λ (q : Profiler). laid_over out (unread_in c.args.piece q.unread)) same,
     )

@@ -1,0 +1,122 @@
+//! What is in a file: its threads, its frames, and the scopes of each thread in a frame.
+
+use crate::raw::{self, Lists, RawFileThread, RawFrame, RawScope, RawStream};
+use crate::{told, Fault, Frame};
+
+/// What the frames of a file have of one thread.
+#[derive(Debug, Clone, PartialEq, Eq)]
+pub struct FileThread {
+    pub name: String,
+    /// When the thread's first scope began, if that is known.
+    pub start_ns: Option<i64>,
+    pub frames: u64,
+    pub scopes: u64,
+}
+
+/// A scope of a thread in a frame.
+#[derive(Debug, Clone, PartialEq, Eq)]
+pub struct FileScope {
+    pub id: u32,
+    /// The number of scopes that it is nested in.
+    pub depth: u64,
+    pub start_ns: i64,
+    pub stop_ns: i64,
+    pub text: String,
+}
+
+/// A thread's scopes in a frame, each before its children.
+#[derive(Debug, Clone, PartialEq, Eq)]
+pub struct FileStream {
+    pub name: String,
+    pub start_ns: Option<i64>,
+    pub scopes: Vec<FileScope>,
+}
+
+/// Asks how long a list is, and then for the list.
+fn listed<R: Clone + Default>(
+    mut call: impl FnMut(*mut R, usize, *mut u8, usize, *mut Lists) -> u32,
+) -> Result<(Vec<R>, Vec<u8>), Fault> {
+    let mut sizes = Lists::default();
+    let (mut none, mut no_byte) = (R::default(), 0);
+    told(call(&mut none, 0, &mut no_byte, 0, &mut sizes))?;
+    let mut rows = vec![R::default(); sizes.rows as usize];
+    let mut bytes = vec![0; sizes.bytes as usize];
+    told(call(rows.as_mut_ptr(), rows.len(), bytes.as_mut_ptr(), bytes.len(), &mut sizes))?;
+    Ok((rows, bytes))
+}
+
+fn text_at(bytes: &[u8], at: u64, size: u64) -> String {
+    String::from_utf8_lossy(&bytes[at as usize..][..size as usize]).into_owned()
+}
+
+/// Returns the threads of a file, ordered by start and name.
+pub fn file_threads(file: &[u8]) -> Result<Vec<FileThread>, Fault> {
+    let (rows, names) = listed(|rows: *mut RawFileThread, room, names, names_room, sizes| unsafe {
+        raw::puffin_file_threads(file.as_ptr(), file.len(), rows, room, names, names_room, sizes)
+    })?;
+    let thread = |row: &RawFileThread| FileThread {
+        name: text_at(&names, row.name_at, row.name_size),
+        start_ns: row.has_start.then_some(row.start_ns),
+        frames: row.frames,
+        scopes: row.scopes,
+    };
+    Ok(rows.iter().map(thread).collect())
+}
+
+/// Returns the scopes of a stream.
+fn scopes_in(stream: &[u8], long_texts: bool) -> Result<Vec<FileScope>, Fault> {
+    let (rows, texts) = listed(|rows: *mut RawScope, room, texts, texts_room, sizes| unsafe {
+        raw::puffin_scopes(stream.as_ptr(), stream.len(), long_texts, rows, room, texts, texts_room, sizes)
+    })?;
+    let scope = |row: &RawScope| FileScope {
+        id: row.id,
+        depth: row.depth,
+        start_ns: row.start_ns,
+        stop_ns: row.stop_ns,
+        text: text_at(&texts, row.text_at, row.text_size),
+    };
+    Ok(rows.iter().map(scope).collect())
+}
+
+/// The frames of a file, one after the other, each with its streams by thread. A fault ends it.
+pub struct FileFrames<'a> {
+    file: &'a [u8],
+    offset: Option<u64>,
+}
+
+impl<'a> FileFrames<'a> {
+    pub fn new(file: &'a [u8]) -> FileFrames<'a> {
+        FileFrames { file, offset: Some(0) }
+    }
+
+    fn read(&mut self, offset: u64) -> Result<Option<(Frame, Vec<FileStream>)>, Fault> {
+        let (mut frame, mut next) = (RawFrame::default(), 0);
+        let (rows, bytes) = listed(|rows: *mut RawStream, room, bytes, bytes_room, sizes| unsafe {
+            let (file, size) = (self.file.as_ptr(), self.file.len());
+            raw::puffin_frame_streams(file, size, offset, &mut frame, &mut next, rows, room, bytes, bytes_room, sizes)
+        })?;
+        let Some(frame) = frame.told() else {
+            return Ok(None);
+        };
+        let mut streams = Vec::new();
+        for row in &rows {
+            let stream = &bytes[row.stream_at as usize..][..row.stream_size as usize];
+            streams.push(FileStream {
+                name: text_at(&bytes, row.name_at, row.name_size),
+                start_ns: row.has_start.then_some(row.start_ns),
+                scopes: scopes_in(stream, row.long_texts)?,
+            });
+        }
+        self.offset = Some(next);
+        Ok(Some((frame, streams)))
+    }
+}
+
+impl Iterator for FileFrames<'_> {
+    type Item = Result<(Frame, Vec<FileStream>), Fault>;
+
+    fn next(&mut self) -> Option<Self::Item> {
+        let offset = self.offset.take()?;
+        self.read(offset).transpose()
+    }
+}

@@ -1,0 +1,61 @@
+-- The streams of a frame are listed one after the other.
+use Rattle.std.proofs.Common.{◌≡◌, ℕ, ◌+◌, List, [], ◌∷◌, ◌++◌, length, refl, ap, subst, sym, ◌∙◌, append_assoc, append-nil, length-append, map}
+use Rattle.std.proofs.lemmas.Map.Made.{keys_of-map_values}
+use Rattle.std.specs.FinMap as tree
+use Rattle.std.specs.Arc.{arc_value}
+use Rattle.std.specs.Map.{keys_of}
+use Rattle.std.specs.List.Sorted.{IsStrictlySortedBy}
+use Rattle.std.specs.declared.sync.Arc.{Arc}
+use Rattle.std.specs.declared.alloc.Global.{Global}
+use Rattle.puffin_data.specs.Honesty.{StreamFacts, facts_of}
+use Rattle.puffin_data.specs.declared.data.info.StreamInfo.{StreamInfo}
+use Rattle.puffin_threads.specs.declared.thread_profiler.thread_info.ThreadInfo.{ThreadInfo}
+use Rattle.puffin_threads.specs.Thread.ThreadKey.{ThreadKey, key_of, thread_cmp, key_entries}
+use Rattle.puffin_frames.specs.Frame.Contents.{without_sharing, shared_streams, records}
+use Rattle.puffin_frames.proofs.lemmas.Keyed.{entries-streams_of}
+use Rattle.puffin_c.specs.declared.streams.PuffinStream.{PuffinStream}
+use Rattle.puffin_c.specs.Lists.{stream_row, stream_bytes, stream_rows, streams_bytes}
+
+abbrev pub Held : Type 0
+Held = ThreadInfo × Arc StreamInfo Global
+
+-- an entry as contracts see it
+abbrev pub entry_of : Held → ThreadKey × StreamFacts
+entry_of e = (key_of e.0, facts_of (arc_value e.1))
+
+each_held : (es : List Held) → key_entries (records (without_sharing es)) ≡ map entry_of es
+each_held [] = refl
+each_held (e ∷ es) = ap (λ xs. entry_of e ∷ xs) (each_held es)
+
+pub entries_held : (es : List Held) → IsStrictlySortedBy thread_cmp (keys_of es) → tree.entries (shared_streams es) ≡ map entry_of es
+entries_held es sorted =
+    entries-streams_of (without_sharing es) (subst (IsStrictlySortedBy thread_cmp) (sym (keys_of-map_values arc_value es)) sorted) ∙ each_held es
+
+-- the rows so far, and those of the streams that are left
+abbrev pub AllRows : List PuffinStream → List ℕ → List Held → List PuffinStream → Type 0
+AllRows rows bytes left total = rows ++ stream_rows (length bytes) (map entry_of left) ≡ total
+
+abbrev pub AllBytes : List ℕ → List Held → List ℕ → Type 0
+AllBytes bytes left total = bytes ++ streams_bytes (map entry_of left) ≡ total
+
+pub rows_more : (before after : List PuffinStream) (bytes more : List ℕ) (e : Held) (rest it : List Held) (total : List PuffinStream) → it ≡ e ∷ rest
+    → after ≡ before ++ stream_row (length bytes) (entry_of e) ∷ [] → more ≡ bytes ++ stream_bytes (entry_of e) → AllRows before bytes it total → AllRows after more rest total
+rows_more before after bytes more e rest it total left row longer so_far =
+    let size : length more ≡ length bytes + length (stream_bytes (entry_of e)) = ap length longer ∙ length-append bytes (stream_bytes (entry_of e)) in
+    ap (λ (n : ℕ). after ++ stream_rows n (map entry_of rest)) size
+    ∙ ap (λ (l : List PuffinStream). l ++ stream_rows (length bytes + length (stream_bytes (entry_of e))) (map entry_of rest)) row
+    ∙ append_assoc before (stream_row (length bytes) (entry_of e) ∷ []) (stream_rows (length bytes + length (stream_bytes (entry_of e))) (map entry_of rest))
+    ∙ ap (λ (es : List Held). before ++ stream_rows (length bytes) (map entry_of es)) (sym left) ∙ so_far
+
+pub bytes_more : (bytes more : List ℕ) (e : Held) (rest it : List Held) (total : List ℕ) → it ≡ e ∷ rest → more ≡ bytes ++ stream_bytes (entry_of e) → AllBytes bytes it total → AllBytes more rest total
+bytes_more bytes more e rest it total left longer so_far =
+    let others = streams_bytes (map entry_of rest) in
+    ap (λ (l : List ℕ). l ++ others) longer ∙ append_assoc bytes (stream_bytes (entry_of e)) others ∙ ap (λ (es : List Held). bytes ++ streams_bytes (map entry_of es)) (sym left) ∙ so_far
+
+pub rows_done : (rows : List PuffinStream) (bytes : List ℕ) (all it : List Held) → it ≡ [] → AllRows rows bytes it (stream_rows 0 (map entry_of all)) → IsStrictlySortedBy thread_cmp (keys_of all) → rows ≡ stream_rows 0 (tree.entries (shared_streams all))
+rows_done rows bytes all it none so_far sorted =
+    sym (append-nil rows) ∙ sym (ap (λ (es : List Held). rows ++ stream_rows (length bytes) (map entry_of es)) none) ∙ so_far ∙ ap (stream_rows 0) (sym (entries_held all sorted))
+
+pub bytes_done : (bytes : List ℕ) (all it : List Held) → it ≡ [] → AllBytes bytes it (streams_bytes (map entry_of all)) → IsStrictlySortedBy thread_cmp (keys_of all) → bytes ≡ streams_bytes (tree.entries (shared_streams all))
+bytes_done bytes all it none so_far sorted =
+    sym (append-nil bytes) ∙ sym (ap (λ (es : List Held). bytes ++ streams_bytes (map entry_of es)) none) ∙ so_far ∙ ap streams_bytes (sym (entries_held all sorted))

@@ -1,0 +1,188 @@
+-- Lists that a program gets: rows, and the bytes of their texts, one behind the other.
+use Rattle.std.specs.Prelude.{◌≡◌, ◌≢◌, ◌⊎◌, ℕ, ◌+◌, ◌<◌, ◌≤◌, ℤ, pos, Bool, true, false, List, [], ◌∷◌, ◌++◌, length, drop, Option, Some, None, Result, Ok, Err, is_some}
+use Rattle.std.specs.List.{flat_map}
+use Rattle.std.specs.FinMap as map
+use Rattle.puffin_data.specs.declared.error.Error.{Error}
+use Rattle.puffin_data.specs.declared.error.Error.TheVariants as error
+use Rattle.puffin_data.specs.declared.file_error.FileError.{FileError}
+use Rattle.puffin_data.specs.declared.file_error.FileError.TheVariants as file
+use Rattle.puffin_data.specs.declared.data.form.Form.{Form}
+use Rattle.puffin_data.specs.declared.data.form.Form.TheVariants.{Short, Long}
+use Rattle.puffin_data.specs.Honesty.{StreamFacts}
+use Rattle.puffin_data.specs.Device.{FailsAt}
+use Rattle.puffin_data.specs.Forest.{Forest}
+use Rattle.puffin_data.specs.Forest.Spelling.{Spells}
+use Rattle.puffin_data.specs.Walk.{IsFault}
+use Rattle.puffin_data.specs.Walk.PlacedScopes.{ScopeInContext, nested_in}
+use Rattle.puffin_threads.specs.Thread.ThreadKey.{ThreadKey}
+use Rattle.puffin_frames.specs.declared.frame_data.frame.FrameData.{FrameData}
+use Rattle.puffin_frames.specs.Frame.Contents.{packet_fields, frame_meta}
+use Rattle.puffin_frames.specs.Frame.Holding.{unpacking}
+use Rattle.puffin_frames.specs.Frame.Streams.{Streams}
+use Rattle.puffin_frames.specs.Packet.Stored.{PacketFields}
+use Rattle.puffin_view.specs.View.File.{file_at, FailsToRead}
+use Rattle.puffin_view.specs.View.FrameFile.{GivesNext, HasGiven, frame_at}
+use Rattle.puffin_c.specs.declared.fault.Fault.{Fault}
+use Rattle.puffin_c.specs.declared.fault.Fault.TheVariants as fault
+use Rattle.puffin_c.specs.declared.lists.PuffinLists.{PuffinLists}
+use Rattle.puffin_c.specs.declared.scopes.PuffinScope.{PuffinScope}
+use Rattle.puffin_c.specs.declared.frame.PuffinFrame.{PuffinFrame}
+use Rattle.puffin_c.specs.declared.streams.PuffinStream.{PuffinStream}
+use Rattle.puffin_c.specs.Faults.{file_fault}
+use Rattle.puffin_c.specs.Profiling.{told_of}
+use Rattle.puffin_c.specs.Reporting.{laid_over}
+
+-- ---- the scopes of a stream
+
+-- a scope whose text begins at this offset
+abbrev pub scope_row : ℕ → ScopeInContext → PuffinScope
+scope_row at s = record {
+  start_ns = s.span.start;
+  stop_ns = s.span.stop;
+  depth = length s.around;
+  text_at = at;
+  text_size = length s.span.text;
+  id = s.span.id;
+}
+
+-- scopes whose texts begin at this offset, one behind the other
+abbrev pub scope_rows : ℕ → List ScopeInContext → List PuffinScope
+scope_rows at [] = []
+scope_rows at (s ∷ rest) = scope_row at s ∷ scope_rows (at + length s.span.text) rest
+
+abbrev pub scope_texts : List ScopeInContext → List ℕ
+scope_texts scopes = flat_map (λ s. s.span.text) scopes
+
+-- ---- what a program gets
+
+-- as many of the rows and of the bytes as fit are copied over the beginning of the caller's, and counted whole
+pub record GetsLists {X : Type 0} (rows : List X) (bytes : List ℕ) (old_rows new_rows : List X)
+    (old_bytes new_bytes : List ℕ) (sizes : PuffinLists) : Type 0 where
+  pub given_rows : new_rows ≡ laid_over old_rows rows
+  pub given_bytes : new_bytes ≡ laid_over old_bytes bytes
+  pub number : sizes.rows ≡ length rows
+  pub size : sizes.bytes ≡ length bytes
+
+-- Either the bytes spell a forest, and the program gets its scopes, each before its children; or the bytes are refused with a
+-- fault, or memory ran out, and nothing is changed.
+abbrev pub ListsScopes : Form → List ℕ → List PuffinScope → List PuffinScope → List ℕ → List ℕ →
+    PuffinLists → PuffinLists → Result (Unit {0}) Fault → Type 0
+ListsScopes form bytes old_rows new_rows old_texts new_texts before sizes (Ok _) =
+    (f : Forest)
+    × Spells form bytes f
+    × GetsLists (scope_rows 0 (nested_in [] f)) (scope_texts (nested_in [] f)) old_rows new_rows
+    old_texts new_texts sizes
+ListsScopes form bytes old_rows new_rows old_texts new_texts before sizes (Err f) =
+    (new_rows ≡ old_rows)
+    × (new_texts ≡ old_texts)
+    × (sizes ≡ before)
+    × (e : Error)
+    × (f ≡ fault.Refused e)
+    × ((e ≡ error.Memory) ⊎ IsFault form bytes e)
+
+-- ---- the streams of a frame
+
+abbrev pub start_given : Option ℤ → ℤ
+start_given None = pos 0
+start_given (Some start) = start
+
+abbrev pub is_long : Form → Bool
+is_long Short = false
+is_long Long = true
+
+-- a thread's scopes in a frame: its name, and then its stream, begin at this offset
+abbrev pub stream_row : ℕ → ThreadKey × StreamFacts → PuffinStream
+stream_row at e = record {
+  start_ns = start_given e.0.start;
+  scopes = e.1.num_scopes;
+  depth = e.1.depth;
+  name_at = at;
+  name_size = length e.0.name;
+  stream_at = at + length e.0.name;
+  stream_size = length e.1.bytes;
+  has_start = is_some e.0.start;
+  long_texts = is_long e.1.form;
+}
+
+abbrev pub stream_bytes : ThreadKey × StreamFacts → List ℕ
+stream_bytes e = e.0.name ++ e.1.bytes
+
+abbrev pub stream_rows : ℕ → List (ThreadKey × StreamFacts) → List PuffinStream
+stream_rows at [] = []
+stream_rows at (e ∷ rest) = stream_row at e ∷ stream_rows (at + length (stream_bytes e)) rest
+
+abbrev pub streams_bytes : List (ThreadKey × StreamFacts) → List ℕ
+streams_bytes entries = flat_map stream_bytes entries
+
+-- the streams of a frame with these fields, or why they can't be unpacked
+abbrev pub streams_in_fields : PacketFields → Result Streams FileError
+streams_in_fields c = unpacking (record { form = c.form; kind = c.kind; bytes = c.streams })
+
+-- the bytes from an offset of a file on; from its beginning, those after its four letters
+abbrev pub IsFrom : List ℕ → ℕ → List ℕ → Type 0
+IsFrom bytes offset rest =
+    ((offset ≡ 0) × HasGiven (Some bytes) (Some rest) [])
+    ⊎ ((0 < offset) × (offset ≤ length bytes) × (rest ≡ drop offset bytes))
+
+-- the frame at an offset of a file, and the offset at which it ends; or the file's end is there
+pub record IsFrameAt (bytes : List ℕ) (offset : ℕ) (next : ℕ) (frame : Option FrameData) : Type 0 where
+  pub from : List ℕ
+  pub is_from : IsFrom bytes offset from
+  pub rest : List ℕ
+  pub gives : GivesNext (Some from) (Some rest) (Ok frame)
+  pub end : next + length rest ≡ length bytes
+
+-- why there is no frame at an offset of a file
+abbrev pub LacksFrame : List ℕ → ℕ → Fault → Type 0
+LacksFrame bytes offset f =
+    ((f ≡ fault.Refused error.InvalidOffset) × (length bytes < offset))
+    ⊎ ((f ≡ fault.File file.NoMagic)
+    × (offset ≡ 0)
+    × (left : Option (List ℕ))
+    × FailsToRead file_at (Some bytes) left file.NoMagic)
+    ⊎ ((from : List ℕ)
+    × (left : Option (List ℕ))
+    × (e : FileError)
+    × IsFrom bytes offset from
+    × (f ≡ file_fault e)
+    × (e ≢ file.Io)
+    × FailsAt e (Some from) left frame_at)
+
+-- The frame's description and its streams, by thread; or no frame, and only that is told.
+abbrev pub TellsStreams : Option FrameData → PuffinFrame → PuffinFrame → List PuffinStream → List PuffinStream →
+    List ℕ → List ℕ → PuffinLists → Type 0
+TellsStreams (Some frame) before told old_rows new_rows old_bytes new_bytes sizes =
+    (streams : Streams)
+    × (streams_in_fields (packet_fields frame) ≡ Ok streams)
+    × (told ≡ told_of (frame_meta frame))
+    × GetsLists (stream_rows 0 (map.entries streams)) (streams_bytes (map.entries streams)) old_rows
+    new_rows old_bytes new_bytes sizes
+TellsStreams None before told old_rows new_rows old_bytes new_bytes sizes =
+    (told ≡ record before { is_some = false })
+    × GetsLists {X = PuffinStream} [] [] old_rows new_rows old_bytes new_bytes sizes
+
+-- a frame whose streams can't be unpacked, for this reason
+abbrev pub LacksStreams : List ℕ → ℕ → Fault → Type 0
+LacksStreams bytes offset f =
+    (next : ℕ)
+    × (frame : FrameData)
+    × (e : FileError)
+    × IsFrameAt bytes offset next (Some frame)
+    × (streams_in_fields (packet_fields frame) ≡ Err e)
+    × (f ≡ file_fault e)
+
+-- Reads the frame at an offset of a file, and lists its streams; or is refused, and changes nothing.
+abbrev pub ListsStreams : List ℕ → ℕ → PuffinFrame → PuffinFrame → ℕ → ℕ → List PuffinStream →
+    List PuffinStream → List ℕ → List ℕ → PuffinLists → PuffinLists → Result (Unit {0}) Fault →
+    Type 0
+ListsStreams file offset before told old_next next old_rows new_rows old_bytes new_bytes had sizes (Ok _) =
+    (frame : Option FrameData)
+    × IsFrameAt file offset next frame
+    × TellsStreams frame before told old_rows new_rows old_bytes new_bytes sizes
+ListsStreams file offset before told old_next next old_rows new_rows old_bytes new_bytes had sizes (Err f) =
+    (told ≡ before)
+    × (next ≡ old_next)
+    × (new_rows ≡ old_rows)
+    × (new_bytes ≡ old_bytes)
+    × (sizes ≡ had)
+    × ((f ≡ fault.Refused error.Memory) ⊎ LacksFrame file offset f ⊎ LacksStreams file offset f)

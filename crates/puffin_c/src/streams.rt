@@ -1,0 +1,237 @@
+//! Lists the streams of a frame in a file, by thread.
+
+ghost use Rattle.std.specs.Prelude.{◌≡◌, ◌⊎◌, ◌++◌, ◌∷◌, [], Some, Result, Ok, Err, OnOk, OnErr, IfOk, IfErr, length};
+ghost use Rattle.std.specs.Arc.{arc_value};
+ghost use Rattle.std.specs.FinMap as map;
+ghost use Rattle.puffin_data.specs.declared.error.Error.TheVariants as error;
+ghost use Rattle.puffin_data.specs.declared.file_error.FileError.{FileError};
+ghost use Rattle.puffin_data.specs.declared.file_error.FileError.TheVariants as file_error;
+ghost use Rattle.puffin_data.specs.Honesty.{facts_of};
+ghost use Rattle.puffin_threads.specs.Thread.ThreadKey.{key_of};
+ghost use Rattle.puffin_frames.specs.Frame.Contents.{packet_fields, frame_meta, streams_held};
+ghost use Rattle.puffin_c.specs.declared.fault.Fault.{Fault};
+ghost use Rattle.puffin_c.specs.declared.fault.Fault.TheVariants as fault;
+ghost use Rattle.puffin_c.specs.Faults.{answer_code, file_fault};
+ghost use Rattle.puffin_c.specs.Lists.{stream_row, stream_bytes, stream_rows, streams_bytes, streams_in_fields, IsFrom, IsFrameAt, LacksFrame, TellsStreams, ListsStreams};
+
+use crate::fault::{Fault, answer_code};
+use crate::frame::PuffinFrame;
+use crate::lists::PuffinLists;
+use crate::memory_source::MemorySource;
+use crate::unread::lay_over;
+use puffin_data::data::{Form, StreamInfo};
+use puffin_data::{Error, FileError};
+use puffin_frames::frame_data::laws::each_frame_is_read_again;
+use puffin_frames::frame_data::{FrameData, UnpackedFrameData};
+use puffin_frames::thread_profiler::ThreadInfo;
+use puffin_view::profile_view::{next_frame, read_magic};
+use std::alloc::{AllocError, Global};
+use std::sync::Arc;
+
+/// A thread's scopes in a frame.
+#[repr(C)]
+#[derive(Clone, Copy)]
+pub struct PuffinStream {
+    /// When the thread's first scope began, in nanoseconds; 0 if that isn't known.
+    pub start_ns: i64,
+    /// The number of scopes.
+    pub scopes: u64,
+    /// The greatest nesting depth.
+    pub depth: u64,
+    /// Where the thread's name begins in the bytes of all streams.
+    pub name_at: u64,
+    /// The size of the name in bytes.
+    pub name_size: u64,
+    /// Where the stream begins in the bytes of all streams.
+    pub stream_at: u64,
+    /// The size of the stream in bytes.
+    pub stream_size: u64,
+    /// Whether it is known when the thread's first scope began.
+    pub has_start: bool,
+    /// Whether the stream has long texts.
+    pub long_texts: bool,
+}
+
+/// The streams of a frame so far, and their bytes: for each the name of its thread, and then its own.
+#[derive(Drop)]
+struct StreamList {
+    rows: Vec<PuffinStream>,
+    bytes: Vec<u8>,
+}
+
+impl StreamList {
+    /// Appends a thread's stream.
+    fn push(&mut self, thread: &ThreadInfo, info: &StreamInfo) -> Result<(), AllocError>
+        ensures rows { OnOk result (self.new.rows.items
+            ≡ self.old.rows.items
+            ++ stream_row (length self.old.bytes.items) (key_of thread.now, facts_of info.now)
+            ∷ []) }
+        ensures bytes { OnOk result (self.new.bytes.items
+            ≡ self.old.bytes.items ++ stream_bytes (key_of thread.now, facts_of info.now)) }
+    {
+        let name_at = self.bytes.len() as u64;
+        let name = thread.name.as_bytes();
+        let stream = info.stream.bytes();
+        self.bytes.extend_from_slice(name)?;
+        let stream_at = self.bytes.len() as u64;
+        self.bytes.extend_from_slice(stream)?;
+        self.rows.push(PuffinStream {
+            start_ns: thread.start_time_ns.unwrap_or(0),
+            scopes: info.num_scopes as u64,
+            depth: info.depth as u64,
+            name_at,
+            name_size: name.len() as u64,
+            stream_at,
+            stream_size: stream.len() as u64,
+            has_start: thread.start_time_ns.is_some(),
+            long_texts: info.stream.form() == Form::Long,
+        })?;
+        Ok(())
+    }
+}
+
+/// Lists the streams of a frame.
+fn list_of(alloc: Global, frame: &UnpackedFrameData) -> Result<StreamList, AllocError>
+    ensures rows { IfOk result (λ list.
+        list.rows.items ≡ stream_rows 0 (map.entries (streams_held frame.now))) }
+    ensures bytes { IfOk result (λ list.
+        list.bytes.items ≡ streams_bytes (map.entries (streams_held frame.now))) }
+{
+    let mut list = StreamList {
+        rows: Vec::new(alloc),
+        bytes: Vec::new(alloc),
+    };
+    'streams: for (thread, info) in frame.thread_streams.iter() {
+        list.push(thread, info)?;
+    }
+    Ok(list)
+}
+
+/// Returns a source that is at an offset of a file, or after its four letters if the offset is 0. Fails with `InvalidOffset` if
+/// the offset is past the file's end, and with `NoMagic`.
+fn source_at(file: &[u8], offset: u64) -> Result<MemorySource<'_>, Fault>
+    ensures ok { IfOk result (λ source. IsFrom file.now offset source.unread.now) }
+    ensures err { IfErr result (LacksFrame file.now offset) }
+{
+    if offset > file.len() as u64 {
+        return Err(Fault::Refused(Error::InvalidOffset));
+    }
+    let mut source = MemorySource::new(&file[offset as usize..]);
+    if offset == 0 {
+        read_magic(&mut source)?;
+    }
+    Ok(source)
+}
+
+/// Reads the frame at an offset of a file, and sets `next` to where it ends. Returns `None` at the file's end.
+fn frame_read(
+    alloc: Global,
+    file: &[u8],
+    offset: u64,
+    next: &mut u64,
+) -> Result<Option<FrameData>, Fault>
+    ensures ok { IfOk result (IsFrameAt file.now offset next.new) }
+    ensures err { IfErr result (LacksFrame file.now offset) }
+    ensures unchanged { OnErr result (next.new ≡ next.old) }
+{
+    let mut source = source_at(file, offset)?;
+    let frame = next_frame(alloc, &mut source)?;
+    *next = source.offset_in(file);
+    Ok(frame)
+}
+
+/// Returns the unpacked data of a frame.
+pub(crate) fn unpacked(frame: &mut FrameData) -> Result<Arc<UnpackedFrameData>, FileError>
+    ensures ok { IfOk result (λ unpacked.
+        streams_in_fields (packet_fields frame.old) ≡ Ok (streams_held (arc_value unpacked))) }
+    ensures err { IfErr result (λ e.
+        (e ≡ file_error.Memory) ⊎ (streams_in_fields (packet_fields frame.old) ≡ Err e)) }
+    ensures meta { frame_meta frame.new ≡ frame_meta frame.old }
+{
+    // The proof uses this law: packed bytes are those of the frame's streams.
+    each_frame_is_read_again();
+    frame.unpacked()
+}
+
+/// Describes a frame, and lists its streams. Fails with `Compressed` or `BadStreams` if they can't be unpacked, and with `Memory`.
+fn told(
+    alloc: Global,
+    frame: FrameData,
+    description: &mut PuffinFrame,
+    streams: &mut [PuffinStream],
+    bytes: &mut [u8],
+    sizes: &mut PuffinLists,
+) -> Result<(), Fault>
+    ensures ok { OnOk result (TellsStreams (Some frame) description.old description.new streams.old
+        streams.new bytes.old bytes.new sizes.new) }
+    ensures err { IfErr result (λ f.
+        (f ≡ fault.Refused error.Memory)
+        ⊎ ((e : FileError) × (streams_in_fields (packet_fields frame) ≡ Err e)
+        × (f ≡ file_fault e))) }
+    ensures unchanged { OnErr result (
+        (description.new ≡ description.old) × (streams.new ≡ streams.old) × (bytes.new ≡ bytes.old)
+        × (sizes.new ≡ sizes.old)) }
+{
+    let mut frame = frame;
+    let data = unpacked(&mut frame)?;
+    let list = list_of(alloc, &data)?;
+    lay_over(&list.rows, streams);
+    lay_over(&list.bytes, bytes);
+    sizes.rows = list.rows.len() as u64;
+    sizes.bytes = list.bytes.len() as u64;
+    *description = PuffinFrame::of(*frame.meta());
+    Ok(())
+}
+
+fn listed(
+    alloc: Global,
+    file: &[u8],
+    offset: u64,
+    frame: &mut PuffinFrame,
+    next: &mut u64,
+    streams: &mut [PuffinStream],
+    bytes: &mut [u8],
+    sizes: &mut PuffinLists,
+) -> Result<(), Fault>
+    ensures { ListsStreams file.now offset frame.old frame.new next.old next.new streams.old
+        streams.new bytes.old bytes.new sizes.old sizes.new result }
+{
+    let mut end = 0;
+    match frame_read(alloc, file, offset, &mut end)? {
+        Some(data) => told(alloc, data, frame, streams, bytes, sizes)?,
+        None => {
+            frame.is_some = false;
+            *sizes = PuffinLists { rows: 0, bytes: 0 };
+        }
+    }
+    *next = end;
+    Ok(())
+}
+
+/// Reads the frame at an offset of a file of any origin, fills in `frame`, and sets `next` to the offset at which the frame ends and
+/// the next one begins. The first frame is at offset 0. Lists the frame's streams by thread, ordered by start and name: copies
+/// them to the front of `streams`, and the name of each thread, followed by its stream, to the front of `bytes`, as many of each
+/// as fit, and sets `sizes` to how many streams and bytes there are. At the file's end it sets `frame.is_some` to `false`, and
+/// `sizes` to 0.
+///
+/// Fails with `InvalidOffset` if `offset` is greater than the file's length; with the frame's fault; with `Compressed` or
+/// `BadStreams` if its streams can't be unpacked; or with `Memory`. Nothing changes then.
+#[unsafe(no_mangle)]
+pub extern "C" fn puffin_frame_streams(
+    alloc: Global,
+    file: &[u8],
+    offset: u64,
+    frame: &mut PuffinFrame,
+    next: &mut u64,
+    streams: &mut [PuffinStream],
+    bytes: &mut [u8],
+    sizes: &mut PuffinLists,
+) -> u32
+    ensures { (answer : Result (Unit {0}) Fault)
+        × (result ≡ answer_code answer)
+        × ListsStreams file.now offset frame.old frame.new next.old next.new streams.old
+        streams.new bytes.old bytes.new sizes.old sizes.new answer }
+{
+    let answer = listed(alloc, file, offset, frame, next, streams, bytes, sizes);
+    answer_code(answer)
+}

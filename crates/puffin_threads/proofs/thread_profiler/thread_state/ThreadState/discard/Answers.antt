@@ -1,0 +1,15 @@
+use Rattle.std.proofs.Common.{◌∙◌, ap}
+use Rattle.puffin_data.specs.Forest.Words.{open_after}
+use Rattle.puffin_threads.specs.Thread.Calls.{Thread}
+use Rattle.puffin_threads.proofs.ThreadStates.{cleared_in, none_in, none_open_in, same_thread}
+use Rattle.puffin_threads.proofs.thread_profiler.thread_state.ThreadState.discard.Goals as goal
+
+pub invariant_of-self : goal.invariant_of-self
+invariant_of-self g =
+    let h = g.self.invariant in
+    let none = ap (λ (t : Thread). open_after 0 t.word) g.self.view_is ∙ g.requires in
+    cleared_in _ h.latest g.clear.ensures.honest (none_open_in g.self.inside h none) h.spare
+
+pub returns : goal.returns
+returns g =
+    same_thread _ _ (ap (λ (t : Thread). t.name) g.self.view_is) (g.clear.ensures.form ∙ ap (λ (t : Thread). t.form) g.self.view_is) (ap (λ (t : Thread). t.first_start) g.self.view_is) (ap (λ (t : Thread). t.latest) g.self.view_is) (none_in g.clear.new.self g.clear.ensures.honest) (ap (λ (t : Thread). t.details) g.self.view_is)
