@@ -1,10 +1,10 @@
 use crate::equal::equal;
-use crate::packets::{Outcome, facts, is_written, read_one};
+use crate::packets::{facts, is_written, read_one};
+use puffin_data::Result;
 use puffin_data::data::Form;
 use puffin_frames::frame_data::FrameData;
 use std::alloc::Global;
 use std::collections::BTreeMap;
-use std::test::Fail;
 use tests_support::frames::{one_stream, packet_info, packet_thread};
 use tests_support::samples::ONE_SCOPE;
 use tests_support::streams::bytes_of;
@@ -18,36 +18,43 @@ pub(crate) static LONG_PACKET: [u8; 76] = [
 ];
 
 /// The frame of [`LONG_PACKET`].
-fn long_frame(alloc: Global) -> std::result::Result<FrameData, Fail> {
+fn long_frame(alloc: Global) -> Result<FrameData> {
     let streams = one_stream(
         alloc,
         packet_thread(alloc)?,
         packet_info(alloc, Form::Long)?,
     )?;
-    Ok(FrameData::new(alloc, 0, streams, Vec::new(alloc), false)?)
+    FrameData::new(alloc, 0, streams, Vec::new(alloc), false)
 }
 
 #[test]
-fn a_frame_of_a_long_stream_is_written_byte_for_byte(rt: HostRuntime) -> Outcome {
-    let frame = long_frame(rt.alloc())?;
-    is_written(&rt, rt.alloc(), &frame, &LONG_PACKET)?;
-    is_written(&rt, rt.alloc(), &frame.packed_copy()?, &LONG_PACKET)
+fn a_frame_of_a_long_stream_is_written_byte_for_byte(rt: HostRuntime) {
+    let frame = long_frame(rt.alloc()).expect(&rt, "a frame");
+    is_written(&rt, rt.alloc(), &frame, &LONG_PACKET);
+    is_written(
+        &rt,
+        rt.alloc(),
+        &frame.packed_copy().expect(&rt, "memory"),
+        &LONG_PACKET,
+    );
 }
 
 #[test]
-fn a_packet_of_a_long_stream_is_read_and_written_back(rt: HostRuntime) -> Outcome {
-    let mut frame = read_one(rt.alloc(), &LONG_PACKET)?;
+fn a_packet_of_a_long_stream_is_read_and_written_back(rt: HostRuntime) {
+    let mut frame = read_one(rt.alloc(), &LONG_PACKET).expect(&rt, "a frame");
     equal(&rt, facts(&frame), (0, (100, 300), (35, 1), Some(51)));
-    is_written(&rt, rt.alloc(), &frame, &LONG_PACKET)?;
-    let unpacked = frame.unpacked()?;
-    let (_, info) = unpacked.thread_streams.first_key_value().ok_or("a stream")?;
+    is_written(&rt, rt.alloc(), &frame, &LONG_PACKET);
+    let unpacked = frame.unpacked().expect(&rt, "streams");
+    let (_, info) = unpacked
+        .thread_streams
+        .first_key_value()
+        .expect(&rt, "a stream");
     equal(&rt, (info.stream.form(), info.depth), (Form::Long, 1));
     equal(&rt, info.stream.bytes(), &ONE_SCOPE);
-    Ok(())
 }
 
 /// The packet of a frame with the stream of [`PACKET`] under two names, in the short form and in the long one.
-fn mixed_packet(alloc: Global) -> std::result::Result<Vec<u8>, Fail> {
+fn mixed_packet(alloc: Global) -> Result<Vec<u8>> {
     let measures: &[u8] = &[1, 1, 200, 251, 88, 2];
     let pieces: [&[u8]; 9] = [
         b"PFDL\x07\0\0\0",
@@ -60,36 +67,46 @@ fn mixed_packet(alloc: Global) -> std::result::Result<Vec<u8>, Fail> {
         measures,
         &[1, 0, 0, 0, 0],
     ];
-    Ok(bytes_of(alloc, &pieces)?)
+    bytes_of(alloc, &pieces)
 }
 
 /// The frame of [`mixed_packet`].
-fn mixed_frame(alloc: Global) -> std::result::Result<FrameData, Fail> {
+fn mixed_frame(alloc: Global) -> Result<FrameData> {
     let mut streams = BTreeMap::new(alloc);
     for (name, form) in [("main", Form::Short), ("next", Form::Long)] {
         let thread = thread_info(alloc, Some(100), name)?;
         let _ = streams.insert(thread, packet_info(alloc, form)?)?;
     }
-    Ok(FrameData::new(alloc, 0, streams, Vec::new(alloc), false)?)
+    FrameData::new(alloc, 0, streams, Vec::new(alloc), false)
 }
 
 #[test]
-fn a_frame_of_both_forms_is_written_byte_for_byte(rt: HostRuntime) -> Outcome {
-    let packet = mixed_packet(rt.alloc())?;
-    let frame = mixed_frame(rt.alloc())?;
-    is_written(&rt, rt.alloc(), &frame, packet.as_slice())?;
-    is_written(&rt, rt.alloc(), &frame.packed_copy()?, packet.as_slice())
+fn a_frame_of_both_forms_is_written_byte_for_byte(rt: HostRuntime) {
+    let packet = mixed_packet(rt.alloc()).expect(&rt, "memory");
+    let frame = mixed_frame(rt.alloc()).expect(&rt, "a frame");
+    is_written(&rt, rt.alloc(), &frame, packet.as_slice());
+    is_written(
+        &rt,
+        rt.alloc(),
+        &frame.packed_copy().expect(&rt, "memory"),
+        packet.as_slice(),
+    );
 }
 
 #[test]
-fn each_stream_of_a_packet_has_its_own_form(rt: HostRuntime) -> Outcome {
-    let packet = mixed_packet(rt.alloc())?;
-    let mut frame = read_one(rt.alloc(), packet.as_slice())?;
+fn each_stream_of_a_packet_has_its_own_form(rt: HostRuntime) {
+    let packet = mixed_packet(rt.alloc()).expect(&rt, "memory");
+    let mut frame = read_one(rt.alloc(), packet.as_slice()).expect(&rt, "a frame");
     equal(&rt, facts(&frame), (0, (100, 300), (70, 2), Some(101)));
-    let unpacked = frame.unpacked()?;
-    let (_, first) = unpacked.thread_streams.first_key_value().ok_or("one")?;
+    let unpacked = frame.unpacked().expect(&rt, "streams");
+    let (_, first) = unpacked
+        .thread_streams
+        .first_key_value()
+        .expect(&rt, "a stream");
     equal(&rt, first.stream.form(), Form::Short);
-    let (_, last) = unpacked.thread_streams.last_key_value().ok_or("two")?;
+    let (_, last) = unpacked
+        .thread_streams
+        .last_key_value()
+        .expect(&rt, "a stream");
     equal(&rt, last.stream.form(), Form::Long);
-    Ok(())
 }

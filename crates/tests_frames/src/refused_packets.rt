@@ -1,6 +1,6 @@
 use crate::equal::equal;
 use crate::long_packets::LONG_PACKET;
-use crate::packets::{Outcome, fault_of_streams, held, is_written, read, read_one};
+use crate::packets::{fault_of_streams, held, is_written, read, read_one};
 use puffin_data::FileError;
 use std::alloc::Global;
 use std::process::Abort;
@@ -26,11 +26,11 @@ fn is_read_and_not_unpacked(
     packet: Vec<u8>,
     (place, byte): (usize, u8),
     fault: FileError,
-) -> Outcome {
+) {
     let alloc = *packet.allocator();
     let mut packet = packet;
-    *packet.get_mut(place).ok_or("a byte")? = byte;
-    let mut frame = read_one(alloc, &packet)?;
+    *packet.get_mut(place).expect(rt, "a byte") = byte;
+    let mut frame = read_one(alloc, &packet).expect(rt, "a frame");
     equal(
         rt,
         (frame.range_ns(), held(&frame)),
@@ -42,11 +42,11 @@ fn is_read_and_not_unpacked(
         (place, byte, Some(fault)),
     );
     equal(rt, held(&frame), (true, false));
-    is_written(rt, alloc, &frame, &packet)
+    is_written(rt, alloc, &frame, &packet);
 }
 
 #[test]
-fn streams_that_are_read_are_refused_when_they_are_unpacked(rt: HostRuntime) -> Outcome {
+fn streams_that_are_read_are_refused_when_they_are_unpacked(rt: HostRuntime) {
     let cases: [(&[u8], (usize, u8), FileError); 5] = [
         (&PACKET, (19, 2), FileError::Compressed(2)),
         (&PACKET, (20, 2), FileError::BadStreams),
@@ -55,7 +55,11 @@ fn streams_that_are_read_are_refused_when_they_are_unpacked(rt: HostRuntime) -> 
         (&LONG_PACKET, (28, 0), FileError::BadStreams),
     ];
     for (packet, change, fault) in cases {
-        is_read_and_not_unpacked(&rt, Vec::from_slice(rt.alloc(), packet)?, change, fault)?;
+        is_read_and_not_unpacked(
+            &rt,
+            Vec::from_slice(rt.alloc(), packet).expect(&rt, "memory"),
+            change,
+            fault,
+        );
     }
-    Ok(())
 }

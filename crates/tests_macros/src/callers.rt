@@ -5,7 +5,7 @@ ghost use Rattle.puffin_threads.specs.Thread.ThreadProfiler.{thread_of};
 ghost use Rattle.tests_macros.specs.Callers.{IsOneScope, IsEndedScope};
 
 use crate::equal::equal;
-use crate::program::{Outcome, main_thread};
+use crate::program::main_thread;
 use puffin::data::ScopeId;
 use puffin::global_profiler::GlobalProfiler;
 use puffin::thread_profiler::laws::open_scopes;
@@ -57,24 +57,22 @@ fn no_scope<C: NsSource, R: Reporter>(
 }
 
 #[test]
-fn scopes_of_proved_callers(rt: HostRuntime) -> Outcome {
-    let (first, second) = (id(1)?, id(2)?);
+fn scopes_of_proved_callers(rt: HostRuntime) {
+    let (first, second) = (id(1).expect(&rt, "an id"), id(2).expect(&rt, "an id"));
     let mut profiler = GlobalProfiler::new(rt.alloc());
-    let mut thread = main_thread(rt.alloc())?;
+    let mut thread = main_thread(rt.alloc()).expect(&rt, "memory");
     assert!(rt; one_scope(&mut thread, first));
     equal(&rt, thread.report_closed(&mut profiler), Ok(true));
     let ended = ended_scope(&mut thread, second, &mut profiler);
     equal(&rt, ended, Ok(Some(Closed::Reported)));
     equal(&rt, profiler.totals().pending, 2);
-    Ok(())
 }
 
 #[test]
-fn no_scopes_of_proved_callers(rt: HostRuntime) -> Outcome {
+fn no_scopes_of_proved_callers(rt: HostRuntime) {
     let mut profiler = GlobalProfiler::new(rt.alloc());
-    let mut thread = main_thread(rt.alloc())?;
+    let mut thread = main_thread(rt.alloc()).expect(&rt, "memory");
     refused_scope(&mut thread, Error::IdsExhausted);
     equal(&rt, no_scope(&mut thread, &mut profiler), Ok(None));
     equal(&rt, thread.report_closed(&mut profiler), Ok(false));
-    Ok(())
 }

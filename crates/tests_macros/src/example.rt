@@ -1,7 +1,7 @@
 //! A program's own functions with scopes, in a short program.
 
 use crate::equal::equal;
-use crate::program::{Outcome, counts, main_thread, next_frame};
+use crate::program::{counts, main_thread, next_frame};
 use puffin::global_profiler::GlobalProfiler;
 use puffin::scope_details::ScopeIds;
 use puffin::thread_profiler::{NsSource, ScriptClock, ThreadProfiler};
@@ -63,17 +63,16 @@ fn reports(
 }
 
 /// Takes a frame. Checks that it has this index and both scopes, and how many scopes it lists.
-fn has_both(rt: &impl Abort, profiler: &mut GlobalProfiler, index: u64, told: usize) -> Outcome {
-    let frame = next_frame(profiler)?;
+fn has_both(rt: &impl Abort, profiler: &mut GlobalProfiler, index: u64, told: usize) {
+    let frame = next_frame(rt, profiler);
     equal(rt, frame.frame_index(), index);
     equal(rt, counts(&frame), (2, 62, told));
-    Ok(())
 }
 
 #[test]
-fn a_function_and_a_scope_in_it(rt: HostRuntime) -> Outcome {
+fn a_function_and_a_scope_in_it(rt: HostRuntime) {
     let mut profiler = GlobalProfiler::new(rt.alloc());
-    let mut thread = main_thread(rt.alloc())?;
+    let mut thread = main_thread(rt.alloc()).expect(&rt, "memory");
     let scopes = Scopes::new();
     equal(
         &rt,
@@ -87,7 +86,6 @@ fn a_function_and_a_scope_in_it(rt: HostRuntime) -> Outcome {
             reports(&rt, &mut thread, &scopes, &mut profiler),
             Ok(true),
         );
-        has_both(&rt, &mut profiler, index, told)?;
+        has_both(&rt, &mut profiler, index, told);
     }
-    Ok(())
 }

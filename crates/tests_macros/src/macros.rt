@@ -1,5 +1,5 @@
 use crate::equal::equal;
-use crate::program::{Outcome, Scopes, counted, counts, main_thread, next_frame};
+use crate::program::{Scopes, counted, counts, main_thread, next_frame};
 use puffin::global_profiler::GlobalProfiler;
 use puffin::scope_details::ScopeIds;
 use puffin::thread_profiler::{Closed, NsSource, ScriptClock, ThreadProfiler};
@@ -10,7 +10,6 @@ use puffin::{
 use std::borrow::CowStr;
 use std::cell::Cell;
 use std::process::Abort;
-use std::test::Fail;
 
 type Thread = ThreadProfiler<ScriptClock>;
 
@@ -50,8 +49,8 @@ fn evaluated(
 }
 
 #[test]
-fn a_condition_is_evaluated_while_the_switch_is_on(rt: HostRuntime) -> Outcome {
-    let mut thread = main_thread(rt.alloc())?;
+fn a_condition_is_evaluated_while_the_switch_is_on(rt: HostRuntime) {
+    let mut thread = main_thread(rt.alloc()).expect(&rt, "memory");
     let mut profiler = GlobalProfiler::new(rt.alloc());
     let scopes = Scopes::on();
     for (on, times) in [(false, 0), (true, 2)] {
@@ -59,11 +58,10 @@ fn a_condition_is_evaluated_while_the_switch_is_on(rt: HostRuntime) -> Outcome {
         equal(&rt, asked, Ok(times));
     }
     equal(&rt, profiler.totals().pending, 2);
-    Ok(())
 }
 
 /// A function's scope under a condition that fails.
-fn failed(rt: &impl Abort, thread: &mut Thread, scopes: &Scopes) -> Outcome {
+fn failed(rt: &impl Abort, thread: &mut Thread, scopes: &Scopes) {
     profile_function_if!(
         whole,
         false,
@@ -76,13 +74,16 @@ fn failed(rt: &impl Abort, thread: &mut Thread, scopes: &Scopes) -> Outcome {
     );
     equal(rt, whole.offset(), None);
     equal(rt, whole.refusal(), None);
-    equal(rt, scopes.ids.draw()?.get(), 1);
-    Ok(())
+    equal(rt, scopes.ids.draw().expect(rt, "an id").get(), 1);
 }
 
 #[test]
-fn a_condition_that_fails_leaves_the_guard_off(rt: HostRuntime) -> Outcome {
-    failed(&rt, &mut main_thread(rt.alloc())?, &Scopes::on())
+fn a_condition_that_fails_leaves_the_guard_off(rt: HostRuntime) {
+    failed(
+        &rt,
+        &mut main_thread(rt.alloc()).expect(&rt, "memory"),
+        &Scopes::on(),
+    );
 }
 
 #[test]
@@ -139,49 +140,42 @@ fn nest_in_frame(
     profiler: &mut GlobalProfiler,
     name: String,
     deep: bool,
-) -> std::result::Result<(usize, usize, usize), Fail> {
+) -> (usize, usize, usize) {
     equal(
         rt,
         nested(thread, scopes, name, deep),
         1 + usize::from(deep),
     );
     equal(rt, thread.report_closed(profiler), Ok(true));
-    Ok(counts(&*next_frame(profiler)?))
+    counts(&*next_frame(rt, profiler))
 }
 
 #[test]
-fn scopes_as_expressions(rt: HostRuntime) -> Outcome {
-    let mut thread = main_thread(rt.alloc())?;
+fn scopes_as_expressions(rt: HostRuntime) {
+    let mut thread = main_thread(rt.alloc()).expect(&rt, "memory");
     let mut profiler = GlobalProfiler::new(rt.alloc());
     let scopes = Scopes::on();
     for (deep, expected) in [(true, (3, 101, 2)), (false, (2, 66, 0))] {
-        let name = String::from_str(rt.alloc(), "inner")?;
-        let counts = nest_in_frame(&rt, &mut thread, &scopes, &mut profiler, name, deep)?;
+        let name = String::from_str(rt.alloc(), "inner").expect(&rt, "memory");
+        let counts = nest_in_frame(&rt, &mut thread, &scopes, &mut profiler, name, deep);
         equal(&rt, counts, expected);
     }
-    Ok(())
 }
 
 /// A function's scope whose place has no id.
-fn refused(
-    rt: &impl Abort,
-    thread: &mut Thread,
-    scopes: &Scopes,
-    profiler: &mut GlobalProfiler,
-) -> Outcome {
+fn refused(rt: &impl Abort, thread: &mut Thread, scopes: &Scopes, profiler: &mut GlobalProfiler) {
     let none = ScopeIds::starting_at(4_294_967_296);
     profile_function!(guard, thread, scopes.switch, &none, scopes.here, "f");
     equal(rt, guard.refusal(), Some(Error::IdsExhausted));
     equal(rt, guard.offset(), None);
     equal(rt, guard.end(profiler), Ok(None));
-    Ok(())
 }
 
 #[test]
-fn a_refusal_is_told(rt: HostRuntime) -> Outcome {
-    let mut thread = main_thread(rt.alloc())?;
+fn a_refusal_is_told(rt: HostRuntime) {
+    let mut thread = main_thread(rt.alloc()).expect(&rt, "memory");
     let mut profiler = GlobalProfiler::new(rt.alloc());
-    refused(&rt, &mut thread, &Scopes::on(), &mut profiler)
+    refused(&rt, &mut thread, &Scopes::on(), &mut profiler);
 }
 
 /// A function's scope and one in it, beside names of the caller's own that the macros use within.
@@ -219,10 +213,9 @@ fn beside_names(
 }
 
 #[test]
-fn names_of_the_caller_s_own_are_not_taken(rt: HostRuntime) -> Outcome {
-    let mut thread = main_thread(rt.alloc())?;
+fn names_of_the_caller_s_own_are_not_taken(rt: HostRuntime) {
+    let mut thread = main_thread(rt.alloc()).expect(&rt, "memory");
     let mut global = GlobalProfiler::new(rt.alloc());
     beside_names(&rt, &mut thread, &Scopes::on(), &mut global);
-    equal(&rt, counts(&*next_frame(&mut global)?), (2, 70, 2));
-    Ok(())
+    equal(&rt, counts(&*next_frame(&rt, &mut global)), (2, 70, 2));
 }

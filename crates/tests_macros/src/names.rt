@@ -1,9 +1,8 @@
 use crate::equal::equal;
-use crate::program::Outcome;
 use puffin::utils::{clean_function_name, short_file_name, shorten_rust_function_name};
 
 #[test]
-fn names_of_functions_that_ask_for_their_name(rt: HostRuntime) -> Outcome {
+fn names_of_functions_that_ask_for_their_name(rt: HostRuntime) {
     let rows = [
         ("", ""),
         ("foo::f", "foo"),
@@ -21,14 +20,13 @@ fn names_of_functions_that_ask_for_their_name(rt: HostRuntime) -> Outcome {
         ("user scope", "user scope"),
     ];
     for (name, expected) in rows {
-        let short = clean_function_name(rt.alloc(), name)?;
+        let short = clean_function_name(rt.alloc(), name).expect(&rt, "memory");
         equal(&rt, short.as_str(), expected);
     }
-    Ok(())
 }
 
 #[test]
-fn names_of_functions(rt: HostRuntime) -> Outcome {
+fn names_of_functions(rt: HostRuntime) {
     let rows = [
         ("foo::bar::baz::function_name", "baz::function_name"),
         (
@@ -37,14 +35,13 @@ fn names_of_functions(rt: HostRuntime) -> Outcome {
         ),
     ];
     for (name, expected) in rows {
-        let short = shorten_rust_function_name(rt.alloc(), name)?;
+        let short = shorten_rust_function_name(rt.alloc(), name).expect(&rt, "memory");
         equal(&rt, short.as_str(), expected);
     }
-    Ok(())
 }
 
 #[test]
-fn names_of_files(rt: HostRuntime) -> Outcome {
+fn names_of_files(rt: HostRuntime) {
     let rows = [
         ("", ""),
         ("foo.rs", "foo.rs"),
@@ -72,8 +69,7 @@ fn names_of_files(rt: HostRuntime) -> Outcome {
         ("a/b/src", "b/…/src"),
     ];
     for (path, expected) in rows {
-        let short = short_file_name(rt.alloc(), path)?;
+        let short = short_file_name(rt.alloc(), path).expect(&rt, "memory");
         equal(&rt, short.as_str(), expected);
     }
-    Ok(())
 }

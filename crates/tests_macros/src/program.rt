@@ -7,11 +7,9 @@ use puffin::thread_profiler::{ScriptClock, ThreadProfiler};
 use puffin::{Result, Site, Switch};
 use std::alloc::Global;
 use std::cell::Cell;
+use std::process::Abort;
 use std::sync::Arc;
-use std::test::Fail;
 use tests_support::threads;
-
-pub type Outcome = std::result::Result<(), Fail>;
 
 /// A thread called `main` whose clock stands at 100.
 pub fn main_thread(alloc: Global) -> Result<ThreadProfiler<ScriptClock>> {
@@ -19,11 +17,11 @@ pub fn main_thread(alloc: Global) -> Result<ThreadProfiler<ScriptClock>> {
 }
 
 /// The frame that is handed out now.
-pub fn next_frame(profiler: &mut GlobalProfiler) -> std::result::Result<Arc<FrameData>, Fail> {
-    let Some(frame) = profiler.collect_frame()? else {
-        return Err(Fail::new("no frame"));
-    };
-    Ok(frame)
+pub fn next_frame(rt: &impl Abort, profiler: &mut GlobalProfiler) -> Arc<FrameData> {
+    profiler
+        .collect_frame()
+        .expect(rt, "a frame")
+        .expect(rt, "a frame")
 }
 
 /// How many scopes a frame holds, in how many bytes, and of how many it tells for the first time.

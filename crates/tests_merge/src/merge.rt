@@ -8,12 +8,9 @@ use puffin_threads::thread_profiler::ThreadInfo;
 use puffin_view::profile_view::FrameView;
 use std::alloc::Global;
 use std::sync::Arc;
-use std::test::Fail;
 use tests_support::frames::{one_stream, packet_thread};
 use tests_support::streams::{end, id};
 use tests_support::threads::thread_info;
-
-pub(crate) type Outcome = std::result::Result<(), Fail>;
 
 pub(crate) type Frames = Vec<Arc<UnpackedFrameData>>;
 
@@ -104,23 +101,25 @@ pub(crate) fn all_numbers(alloc: Global, merged: &[MergeScope]) -> Result<Vec<Nu
 }
 
 #[test]
-fn scopes_within_scopes(rt: HostRuntime) -> Outcome {
+fn scopes_within_scopes(rt: HostRuntime) {
     let alloc = rt.alloc();
     let mut stream = Stream::new(alloc);
     for n in [0, 1000] {
-        leaf(&mut stream, 1, n + 100, n + 200)?;
-        let two = begin(&mut stream, 2, n + 200, "")?;
-        leaf(&mut stream, 3, n + 400, n + 600)?;
-        let four = begin(&mut stream, 4, n + 600, "")?;
-        leaf(&mut stream, 5, n + 600, n + 700)?;
-        end(&mut stream, four, n + 800)?;
-        end(&mut stream, two, n + 900)?;
+        leaf(&mut stream, 1, n + 100, n + 200).expect(&rt, "a scope");
+        let two = begin(&mut stream, 2, n + 200, "").expect(&rt, "a scope");
+        leaf(&mut stream, 3, n + 400, n + 600).expect(&rt, "a scope");
+        let four = begin(&mut stream, 4, n + 600, "").expect(&rt, "a scope");
+        leaf(&mut stream, 5, n + 600, n + 700).expect(&rt, "a scope");
+        end(&mut stream, four, n + 800).expect(&rt, "a scope");
+        end(&mut stream, two, n + 900).expect(&rt, "a scope");
     }
-    let frames = one_frame(alloc, stream)?;
-    let merged = merged(alloc, &frames)?;
+    let frames = one_frame(alloc, stream).expect(&rt, "a frame");
+    let merged = merged(alloc, &frames).expect(&rt, "scopes");
     equal(
         &rt,
-        all_numbers(alloc, merged.as_slice())?.as_slice(),
+        all_numbers(alloc, merged.as_slice())
+            .expect(&rt, "memory")
+            .as_slice(),
         &[
             (1, 100, 200, 200, 100, 2),
             (2, 300, 1400, 1400, 700, 2),
@@ -129,7 +128,6 @@ fn scopes_within_scopes(rt: HostRuntime) -> Outcome {
             (5, 0, 200, 200, 100, 2),
         ][..],
     );
-    Ok(())
 }
 
 fn merge_of_three(alloc: Global, ranges: [(NanoSecond, NanoSecond); 3]) -> Result<Option<Numbers>> {
@@ -144,7 +142,7 @@ fn merge_of_three(alloc: Global, ranges: [(NanoSecond, NanoSecond); 3]) -> Resul
 }
 
 #[test]
-fn frames_in_any_order(rt: HostRuntime) -> Outcome {
+fn frames_in_any_order(rt: HostRuntime) {
     let alloc = rt.alloc();
     let first = (100, 300);
     let second = (1100, 1300);
@@ -152,125 +150,139 @@ fn frames_in_any_order(rt: HostRuntime) -> Outcome {
     let first_ahead = Some((1, 100, 410, 136, 200, 3));
     equal(
         &rt,
-        merge_of_three(alloc, [first, second, third])?,
+        merge_of_three(alloc, [first, second, third]).expect(&rt, "scopes"),
         first_ahead,
     );
     equal(
         &rt,
-        merge_of_three(alloc, [first, third, second])?,
+        merge_of_three(alloc, [first, third, second]).expect(&rt, "scopes"),
         first_ahead,
     );
     let third_ahead = Some((1, 2100, 410, 136, 200, 3));
     equal(
         &rt,
-        merge_of_three(alloc, [third, first, second])?,
+        merge_of_three(alloc, [third, first, second]).expect(&rt, "scopes"),
         third_ahead,
     );
     equal(
         &rt,
-        merge_of_three(alloc, [third, second, first])?,
+        merge_of_three(alloc, [third, second, first]).expect(&rt, "scopes"),
         third_ahead,
     );
-    Ok(())
 }
 
 #[test]
-fn a_child_that_starts_before_its_parent(rt: HostRuntime) -> Outcome {
+fn a_child_that_starts_before_its_parent(rt: HostRuntime) {
     let alloc = rt.alloc();
     let mut stream = Stream::new(alloc);
-    let parent = begin(&mut stream, 1, 100, "")?;
-    leaf(&mut stream, 2, 95, 150)?;
-    end(&mut stream, parent, 200)?;
-    let frames = one_frame(alloc, stream)?;
-    let merged = merged(alloc, &frames)?;
+    let parent = begin(&mut stream, 1, 100, "").expect(&rt, "a scope");
+    leaf(&mut stream, 2, 95, 150).expect(&rt, "a scope");
+    end(&mut stream, parent, 200).expect(&rt, "a scope");
+    let frames = one_frame(alloc, stream).expect(&rt, "a frame");
+    let merged = merged(alloc, &frames).expect(&rt, "scopes");
     equal(
         &rt,
-        all_numbers(alloc, merged.as_slice())?.as_slice(),
+        all_numbers(alloc, merged.as_slice())
+            .expect(&rt, "memory")
+            .as_slice(),
         &[(1, 100, 100, 100, 100, 1), (2, 0, 55, 55, 55, 1)][..],
     );
-    Ok(())
 }
 
 #[test]
-fn a_scope_of_one_of_two_frames(rt: HostRuntime) -> Outcome {
+fn a_scope_of_one_of_two_frames(rt: HostRuntime) {
     let alloc = rt.alloc();
     let mut frames = Vec::new(alloc);
-    frames.push(one_scope(alloc, 1, 10, 15)?)?;
-    frames.push(one_scope(alloc, 2, 100, 101)?)?;
-    let merged = merged(alloc, &frames)?;
+    frames
+        .push(one_scope(alloc, 1, 10, 15).expect(&rt, "a frame"))
+        .expect(&rt, "memory");
+    frames
+        .push(one_scope(alloc, 2, 100, 101).expect(&rt, "a frame"))
+        .expect(&rt, "memory");
+    let merged = merged(alloc, &frames).expect(&rt, "scopes");
     equal(
         &rt,
-        all_numbers(alloc, merged.as_slice())?.as_slice(),
+        all_numbers(alloc, merged.as_slice())
+            .expect(&rt, "memory")
+            .as_slice(),
         &[(1, 10, 5, 2, 5, 1), (2, 12, 1, 0, 1, 1)][..],
     );
-    Ok(())
 }
 
 #[test]
-fn a_frame_without_the_thread_counts(rt: HostRuntime) -> Outcome {
+fn a_frame_without_the_thread_counts(rt: HostRuntime) {
     let alloc = rt.alloc();
     let mut frames = Vec::new(alloc);
-    frames.push(one_scope(alloc, 1, 10, 15)?)?;
-    let other = thread_info(alloc, None, "main")?;
+    frames
+        .push(one_scope(alloc, 1, 10, 15).expect(&rt, "a frame"))
+        .expect(&rt, "memory");
+    let other = thread_info(alloc, None, "main").expect(&rt, "memory");
     let mut stream = Stream::new(alloc);
-    leaf(&mut stream, 1, 100, 101)?;
-    frames.push(frame_of(alloc, other, stream)?)?;
-    let merged = merged(alloc, &frames)?;
+    leaf(&mut stream, 1, 100, 101).expect(&rt, "a scope");
+    frames
+        .push(frame_of(alloc, other, stream).expect(&rt, "a frame"))
+        .expect(&rt, "memory");
+    let merged = merged(alloc, &frames).expect(&rt, "scopes");
     equal(
         &rt,
-        all_numbers(alloc, merged.as_slice())?.as_slice(),
+        all_numbers(alloc, merged.as_slice())
+            .expect(&rt, "memory")
+            .as_slice(),
         &[(1, 10, 5, 2, 5, 1)][..],
     );
-    Ok(())
 }
 
 #[test]
-fn no_frames_and_no_stream(rt: HostRuntime) -> Outcome {
+fn no_frames_and_no_stream(rt: HostRuntime) {
     let alloc = rt.alloc();
     let none = Vec::new(alloc);
-    equal(&rt, merged(alloc, &none)?.len(), 0);
+    equal(&rt, merged(alloc, &none).expect(&rt, "scopes").len(), 0);
     let mut frames = Vec::new(alloc);
-    frames.push(one_scope(alloc, 1, 10, 15)?)?;
-    let other = thread_info(alloc, None, "main")?;
+    frames
+        .push(one_scope(alloc, 1, 10, 15).expect(&rt, "a frame"))
+        .expect(&rt, "memory");
+    let other = thread_info(alloc, None, "main").expect(&rt, "memory");
     let collection = ScopeCollection::new(alloc);
     let mut tries = 7;
     equal(
         &rt,
-        merge_scopes_counted(alloc, &collection, frames.as_slice(), &other, &mut tries)?.len(),
+        merge_scopes_counted(alloc, &collection, frames.as_slice(), &other, &mut tries)
+            .expect(&rt, "scopes")
+            .len(),
         0,
     );
     equal(&rt, tries, 0);
-    Ok(())
 }
 
 #[test]
-fn texts_and_ids_tell_siblings_apart(rt: HostRuntime) -> Outcome {
+fn texts_and_ids_tell_siblings_apart(rt: HostRuntime) {
     let alloc = rt.alloc();
     let mut stream = Stream::new(alloc);
     for text in ["b", "a", "b"] {
-        let offset = begin(&mut stream, 1, 3, text)?;
-        end(&mut stream, offset, 4)?;
+        let offset = begin(&mut stream, 1, 3, text).expect(&rt, "a scope");
+        end(&mut stream, offset, 4).expect(&rt, "a scope");
     }
-    let frames = one_frame(alloc, stream)?;
-    let merged = merged(alloc, &frames)?;
-    let [first, second] = merged.as_slice() else {
-        return Err(Fail::new("two scopes"));
-    };
+    let frames = one_frame(alloc, stream).expect(&rt, "a frame");
+    let merged = merged(alloc, &frames).expect(&rt, "scopes");
+    equal(&rt, merged.len(), 2);
+    let first = merged.first().expect(&rt, "a scope");
+    let second = merged.last().expect(&rt, "a scope");
     equal(&rt, first.text.as_str(), "a");
     equal(&rt, second.text.as_str(), "b");
     equal(&rt, numbers(second), (1, 4, 2, 2, 1, 2));
-    Ok(())
 }
 
 #[test]
-fn tries_are_counted(rt: HostRuntime) -> Outcome {
+fn tries_are_counted(rt: HostRuntime) {
     let alloc = rt.alloc();
     let mut frames = Vec::new(alloc);
     for _ in 0..3 {
         let mut stream = Stream::new(alloc);
-        let offset = begin(&mut stream, 1, 100, "data")?;
-        end(&mut stream, offset, 300)?;
-        frames.push(frame(alloc, stream)?)?;
+        let offset = begin(&mut stream, 1, 100, "data").expect(&rt, "a scope");
+        end(&mut stream, offset, 300).expect(&rt, "a scope");
+        frames
+            .push(frame(alloc, stream).expect(&rt, "a frame"))
+            .expect(&rt, "memory");
     }
     let collection = ScopeCollection::new(alloc);
     let mut tries = 0;
@@ -278,33 +290,32 @@ fn tries_are_counted(rt: HostRuntime) -> Outcome {
         alloc,
         &collection,
         frames.as_slice(),
-        &thread(alloc)?,
+        &thread(alloc).expect(&rt, "memory"),
         &mut tries,
-    )?;
+    )
+    .expect(&rt, "scopes");
     equal(&rt, merged.len(), 1);
     equal(&rt, tries, 3);
-    Ok(())
 }
 
 #[test]
-fn copies(rt: HostRuntime) -> Outcome {
+fn copies(rt: HostRuntime) {
     let alloc = rt.alloc();
     let mut stream = Stream::new(alloc);
-    let parent = begin(&mut stream, 1, 100, "outer")?;
-    leaf(&mut stream, 2, 120, 150)?;
-    end(&mut stream, parent, 200)?;
-    let frames = one_frame(alloc, stream)?;
-    let merged = merged(alloc, &frames)?;
+    let parent = begin(&mut stream, 1, 100, "outer").expect(&rt, "a scope");
+    leaf(&mut stream, 2, 120, 150).expect(&rt, "a scope");
+    end(&mut stream, parent, 200).expect(&rt, "a scope");
+    let frames = one_frame(alloc, stream).expect(&rt, "a frame");
+    let merged = merged(alloc, &frames).expect(&rt, "scopes");
     equal(&rt, merged.len(), 1);
     for scope in merged {
-        let copy = scope.clone()?;
+        let copy = scope.clone().expect(&rt, "memory");
         equal(&rt, &copy, &scope);
-        let owned = scope.into_owned(alloc)?;
+        let owned = scope.into_owned(alloc).expect(&rt, "memory");
         equal(&rt, owned.text.as_str(), "outer");
         equal(&rt, numbers(&owned), numbers(&copy));
         equal(&rt, owned.children.len(), 1);
     }
-    Ok(())
 }
 
 /// The file that the Rust crate writes of three frames of the thread `main`, whose first scope starts at 100. They have
@@ -343,15 +354,19 @@ fn frames_of_file(alloc: Global) -> std::result::Result<Frames, FileError> {
 }
 
 #[test]
-fn a_file_of_the_rust_crate(rt: HostRuntime) -> Outcome {
+fn a_file_of_the_rust_crate(rt: HostRuntime) {
     let alloc = rt.alloc();
-    let info = packet_thread(alloc)?;
-    let frames = frames_of_file(alloc).ok().ok_or("no fault")?;
+    let info = packet_thread(alloc).expect(&rt, "memory");
+    let frames = frames_of_file(alloc).ok().expect(&rt, "no fault");
     let collection = ScopeCollection::new(alloc);
-    let merged = merge_scopes_for_thread(alloc, &collection, frames.as_slice(), &info)?;
+    let merged = merge_scopes_for_thread(alloc, &collection, frames.as_slice(), &info).expect(
+        &rt, "scopes",
+    );
     equal(
         &rt,
-        all_numbers(alloc, merged.as_slice())?.as_slice(),
+        all_numbers(alloc, merged.as_slice())
+            .expect(&rt, "memory")
+            .as_slice(),
         &[
             (1, 100, 240, 80, 100, 3),
             (2, 10, 41, 13, 40, 2),
@@ -360,13 +375,10 @@ fn a_file_of_the_rust_crate(rt: HostRuntime) -> Outcome {
             (3, 180, 81, 27, 41, 3),
         ][..],
     );
-    let Some(top) = merged.first() else {
-        return Err(Fail::new("no scope"));
-    };
-    let [first, second] = top.children.as_slice() else {
-        return Err(Fail::new("two children"));
-    };
+    let top = merged.first().expect(&rt, "a scope");
+    let first = top.children.first().expect(&rt, "a child");
+    let second = top.children.last().expect(&rt, "a child");
+    equal(&rt, top.children.len(), 2);
     equal(&rt, first.text.as_str(), "a");
     equal(&rt, second.text.as_str(), "b");
-    Ok(())
 }

@@ -1,5 +1,5 @@
 use crate::equal::equal;
-use crate::merge::{Frames, Outcome, all_numbers, frame, leaf, merged, one_scope, thread};
+use crate::merge::{Frames, all_numbers, frame, leaf, merged, one_scope, thread};
 use puffin_data::data::Stream;
 use puffin_data::{Error, Result};
 use puffin_frames::frame_data::UnpackedFrameData;
@@ -37,18 +37,19 @@ fn two_frames(alloc: Global) -> Result<Frames> {
 }
 
 #[test]
-fn frames_are_added_one_at_a_time(rt: HostRuntime) -> Outcome {
+fn frames_are_added_one_at_a_time(rt: HostRuntime) {
     let alloc = rt.alloc();
-    let frames = two_frames(alloc)?;
-    let merged = merged(alloc, &frames)?;
-    let added = added(alloc)?;
+    let frames = two_frames(alloc).expect(&rt, "frames");
+    let merged = merged(alloc, &frames).expect(&rt, "scopes");
+    let added = added(alloc).expect(&rt, "scopes");
     equal(
         &rt,
-        all_numbers(alloc, added.as_slice())?.as_slice(),
+        all_numbers(alloc, added.as_slice())
+            .expect(&rt, "memory")
+            .as_slice(),
         &[(1, 100, 50, 25, 40, 2), (2, 140, 3, 1, 3, 1)][..],
     );
     equal(&rt, added.as_slice(), merged.as_slice());
-    Ok(())
 }
 
 /// A frame whose sum doesn't fit beside that of the frame before.
@@ -61,7 +62,10 @@ fn refused(alloc: Global) -> Result<Option<Error>> {
 }
 
 #[test]
-fn an_add_that_is_refused_names_its_cause(rt: HostRuntime) -> Outcome {
-    equal(&rt, refused(rt.alloc())?, Some(Error::TooLarge));
-    Ok(())
+fn an_add_that_is_refused_names_its_cause(rt: HostRuntime) {
+    equal(
+        &rt,
+        refused(rt.alloc()).expect(&rt, "a frame"),
+        Some(Error::TooLarge),
+    );
 }

@@ -10,10 +10,7 @@ use puffin::thread_profiler::{Reporter, ThreadInfo};
 use puffin::{Error, NanoSecond, Result};
 use std::process::Abort;
 use std::sync::{Arc, Wait};
-use std::test::Fail;
 use tests_support::threads::thread_info;
-
-type Outcome = std::result::Result<(), Fail>;
 
 /// A thread with this name, whose start isn't known.
 pub(crate) fn thread(rt: &impl AllocGlobal, name: &str) -> Result<ThreadInfo> {
@@ -89,28 +86,23 @@ pub(crate) fn holds<R: AllocGlobal + Abort>(
     frame: &FrameData,
     name: &str,
     bytes_and_scopes: Option<(usize, usize)>,
-) -> Outcome {
-    equal(rt, held(rt, frame, name)?, bytes_and_scopes);
-    Ok(())
+) {
+    equal(
+        rt,
+        held(rt, frame, name).expect(rt, "the streams"),
+        bytes_and_scopes,
+    );
 }
 
 /// The only frame that is emitted now.
-pub(crate) fn emitted<R: Wait>(
-    rt: &R,
-    profiler: &mut GlobalProfiler,
-) -> std::result::Result<Arc<FrameData>, Fail> {
-    let emitted = profiler.new_frame(rt)?;
-    if emitted.refused != 0 {
-        return Err(Fail::new("a sink refused"));
-    }
-    let Some(frame) = emitted.frame else {
-        return Err(Fail::new("no frame"));
-    };
-    Ok(frame)
+pub(crate) fn emitted<R: Wait + Abort>(rt: &R, profiler: &mut GlobalProfiler) -> Arc<FrameData> {
+    let emitted = profiler.new_frame(rt).expect(rt, "a frame");
+    equal(rt, emitted.refused, 0);
+    emitted.frame.expect(rt, "a frame")
 }
 
 /// The frame of three scopes under two threads.
-fn is_of_two_threads<R: AllocGlobal + Abort>(rt: &R, frame: &FrameData) -> Outcome {
+fn is_of_two_threads<R: AllocGlobal + Abort>(rt: &R, frame: &FrameData) {
     equal(rt, frame.frame_index(), 0);
     equal(
         rt,
@@ -119,21 +111,20 @@ fn is_of_two_threads<R: AllocGlobal + Abort>(rt: &R, frame: &FrameData) -> Outco
     );
     let meta = frame.meta();
     equal(rt, (meta.num_bytes, meta.num_scopes), (93, 3));
-    holds(rt, frame, "a", Some((62, 2)))?;
-    holds(rt, frame, "b", Some((31, 1)))?;
-    holds(rt, frame, "c", None)?;
+    holds(rt, frame, "a", Some((62, 2)));
+    holds(rt, frame, "b", Some((31, 1)));
+    holds(rt, frame, "c", None);
     assert!(rt; frame.scope_delta.is_empty());
     assert!(rt; !frame.full_delta);
-    Ok(())
 }
 
 #[test]
-fn reports_of_two_threads(rt: HostRuntime) -> Outcome {
+fn reports_of_two_threads(rt: HostRuntime) {
     let mut profiler = GlobalProfiler::new(rt.alloc());
-    report(&rt, &mut profiler, "a", 1, (100, 200))?;
-    report(&rt, &mut profiler, "b", 2, (50, 60))?;
-    report(&rt, &mut profiler, "a", 3, (200, 260))?;
-    is_of_two_threads(&rt, &*emitted(&rt, &mut profiler)?)
+    report(&rt, &mut profiler, "a", 1, (100, 200)).expect(&rt, "a report");
+    report(&rt, &mut profiler, "b", 2, (50, 60)).expect(&rt, "a report");
+    report(&rt, &mut profiler, "a", 3, (200, 260)).expect(&rt, "a report");
+    is_of_two_threads(&rt, &*emitted(&rt, &mut profiler));
 }
 
 /// What a report from 0 to 0 under this name is refused with.
@@ -142,8 +133,8 @@ fn refusal_at_0(rt: &impl AllocGlobal, profiler: &mut GlobalProfiler, name: &str
 }
 
 /// Beside a scope at the earliest time there can be none at 0, under whichever name.
-fn is_too_long<R: AllocGlobal + Wait + Abort>(rt: &R, profiler: &mut GlobalProfiler) -> Outcome {
-    report_user(rt, profiler, "u", (NanoSecond::MIN, NanoSecond::MIN))?;
+fn is_too_long<R: AllocGlobal + Wait + Abort>(rt: &R, profiler: &mut GlobalProfiler) {
+    report_user(rt, profiler, "u", (NanoSecond::MIN, NanoSecond::MIN)).expect(rt, "a report");
     for name in ["u", "v"] {
         equal(
             rt,
@@ -153,25 +144,23 @@ fn is_too_long<R: AllocGlobal + Wait + Abort>(rt: &R, profiler: &mut GlobalProfi
     }
     let other = report(rt, profiler, "v", 1, (0, 0)).err();
     equal(rt, other, Some(Error::RangeTooLong));
-    Ok(())
 }
 
 /// The frame of the scope at the earliest time alone.
-fn is_earliest<R: AllocGlobal + Abort>(rt: &R, frame: &FrameData) -> Outcome {
+fn is_earliest<R: AllocGlobal + Abort>(rt: &R, frame: &FrameData) {
     equal(rt, frame.range_ns(), (NanoSecond::MIN, NanoSecond::MIN));
     equal(rt, frame.duration_ns(), 0);
-    holds(rt, frame, "u", Some((31, 1)))?;
-    holds(rt, frame, "v", None)
+    holds(rt, frame, "u", Some((31, 1)));
+    holds(rt, frame, "v", None);
 }
 
 #[test]
-fn a_range_that_is_too_long(rt: HostRuntime) -> Outcome {
+fn a_range_that_is_too_long(rt: HostRuntime) {
     let mut profiler = GlobalProfiler::new(rt.alloc());
-    is_too_long(&rt, &mut profiler)?;
-    is_earliest(&rt, &*emitted(&rt, &mut profiler)?)?;
+    is_too_long(&rt, &mut profiler);
+    is_earliest(&rt, &*emitted(&rt, &mut profiler));
     // What is emitted is in no range any more.
     equal(&rt, refusal_at_0(&rt, &mut profiler, "u"), None);
-    Ok(())
 }
 
 /// Reports a thread without scopes.
@@ -181,42 +170,40 @@ fn report_none(rt: &impl AllocGlobal, profiler: &mut GlobalProfiler, name: &str)
 }
 
 /// Takes no frame, as no scope was reported.
-fn emits_none<R: Wait + Abort>(rt: &R, profiler: &mut GlobalProfiler) -> Outcome {
-    assert!(rt; profiler.new_frame(rt)?.frame.is_none());
-    Ok(())
+fn emits_none<R: Wait + Abort>(rt: &R, profiler: &mut GlobalProfiler) {
+    assert!(rt; profiler.new_frame(rt).expect(rt, "a frame").frame.is_none());
 }
 
 /// The third frame has the thread without scopes, which was kept until there was a frame.
-fn is_third<R: AllocGlobal + Abort>(rt: &R, frame: &FrameData) -> Outcome {
+fn is_third<R: AllocGlobal + Abort>(rt: &R, frame: &FrameData) {
     equal(rt, frame.frame_index(), 2);
-    holds(rt, frame, "a", Some((0, 0)))?;
-    holds(rt, frame, "b", Some((31, 1)))
+    holds(rt, frame, "a", Some((0, 0)));
+    holds(rt, frame, "b", Some((31, 1)));
 }
 
 /// Frames are taken before, with and after the only scope.
-fn rises<R: AllocGlobal + Wait + Abort>(rt: &R, profiler: &mut GlobalProfiler) -> Outcome {
-    emits_none(rt, profiler)?;
-    report_none(rt, profiler, "a")?;
-    assert!(rt; profiler.collect_frame()?.is_none());
-    report(rt, profiler, "b", 1, (5, 7))?;
-    is_third(rt, &*emitted(rt, profiler)?)?;
-    emits_none(rt, profiler)
+fn rises<R: AllocGlobal + Wait + Abort>(rt: &R, profiler: &mut GlobalProfiler) {
+    emits_none(rt, profiler);
+    report_none(rt, profiler, "a").expect(rt, "a report");
+    assert!(rt; profiler.collect_frame().expect(rt, "a frame").is_none());
+    report(rt, profiler, "b", 1, (5, 7)).expect(rt, "a report");
+    is_third(rt, &*emitted(rt, profiler));
+    emits_none(rt, profiler);
 }
 
 #[test]
-fn without_scopes_the_index_alone_rises(rt: HostRuntime) -> Outcome {
-    rises(&rt, &mut GlobalProfiler::new(rt.alloc()))
+fn without_scopes_the_index_alone_rises(rt: HostRuntime) {
+    rises(&rt, &mut GlobalProfiler::new(rt.alloc()));
 }
 
 #[test]
-fn totals_of_reports_and_frames(rt: HostRuntime) -> Outcome {
+fn totals_of_reports_and_frames(rt: HostRuntime) {
     let mut profiler = GlobalProfiler::new(rt.alloc());
-    report(&rt, &mut profiler, "a", 1, (0, 1))?;
-    report(&rt, &mut profiler, "a", 1, (1, 2))?;
-    drop(emitted(&rt, &mut profiler)?);
-    report(&rt, &mut profiler, "a", 1, (2, 3))?;
+    report(&rt, &mut profiler, "a", 1, (0, 1)).expect(&rt, "a report");
+    report(&rt, &mut profiler, "a", 1, (1, 2)).expect(&rt, "a report");
+    drop(emitted(&rt, &mut profiler));
+    report(&rt, &mut profiler, "a", 1, (2, 3)).expect(&rt, "a report");
     equal(&rt, counts(profiler.totals()), (3, 1, 2));
-    Ok(())
 }
 
 /// How many scopes were reported, are pending and were emitted.
@@ -225,17 +212,12 @@ fn counts(totals: Totals) -> (u64, u64, u64) {
 }
 
 #[test]
-fn a_profiler_at_the_last_index(rt: HostRuntime) -> Outcome {
+fn a_profiler_at_the_last_index(rt: HostRuntime) {
     let mut profiler = GlobalProfiler::with_frame_index(rt.alloc(), u64::MAX - 1);
-    report(&rt, &mut profiler, "a", 1, (5, 7))?;
-    equal(
-        &rt,
-        emitted(&rt, &mut profiler)?.frame_index(),
-        u64::MAX - 1,
-    );
-    report(&rt, &mut profiler, "a", 1, (8, 9))?;
+    report(&rt, &mut profiler, "a", 1, (5, 7)).expect(&rt, "a report");
+    equal(&rt, emitted(&rt, &mut profiler).frame_index(), u64::MAX - 1);
+    report(&rt, &mut profiler, "a", 1, (8, 9)).expect(&rt, "a report");
     let refused = profiler.new_frame(&rt).err();
     equal(&rt, refused, Some(Error::IndexExhausted));
     equal(&rt, counts(profiler.totals()), (2, 1, 1));
-    Ok(())
 }

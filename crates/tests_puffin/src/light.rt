@@ -13,10 +13,7 @@ use std::alloc::Global;
 use std::fs::File;
 use std::process::Abort;
 use std::sync::Wait;
-use std::test::Fail;
 use std::{fs, io};
-
-type Tested = std::result::Result<(), Fail>;
 
 /// The places of a function and of a part of it.
 #[derive(Drop)]
@@ -48,9 +45,11 @@ fn both<T: Records>(thread: &mut T, places: &Places) {
 }
 
 #[test]
-fn an_inner_scope_is_reported_with_the_outermost(rt: HostRuntime) -> Tested {
-    let (scopes, places) = registered(rt.alloc())?;
-    let mut thread = Thread::start(rt, "main", GlobalProfiler::new(rt.alloc()), &scopes)?;
+fn an_inner_scope_is_reported_with_the_outermost(rt: HostRuntime) {
+    let (scopes, places) = registered(rt.alloc()).expect(&rt, "the places");
+    let mut thread = Thread::start(rt, "main", GlobalProfiler::new(rt.alloc()), &scopes).expect(
+        &rt, "a thread",
+    );
     {
         profile!(whole, thread, places.whole, "text");
         {
@@ -59,17 +58,26 @@ fn an_inner_scope_is_reported_with_the_outermost(rt: HostRuntime) -> Tested {
         equal(&rt, whole.thread().reporter().totals().reported, 0);
     }
     equal(&rt, thread.reporter().totals().reported, 2);
-    equal(&rt, thread.new_frame(&rt)?.is_some(), true);
-    equal(&rt, thread.new_frame(&rt)?.is_some(), false);
-    equal(&rt, thread.report_closed()?, false);
+    equal(
+        &rt,
+        thread.new_frame(&rt).expect(&rt, "a frame").is_some(),
+        true,
+    );
+    equal(
+        &rt,
+        thread.new_frame(&rt).expect(&rt, "a frame").is_some(),
+        false,
+    );
+    equal(&rt, thread.report_closed().expect(&rt, "a report"), false);
     equal(&rt, thread.into_reporter().totals().emitted, 2);
-    Ok(())
 }
 
 #[test]
-fn scopes_that_are_off_are_not_begun(rt: HostRuntime) -> Tested {
-    let (scopes, places) = registered(rt.alloc())?;
-    let mut thread = Thread::start(rt, "main", GlobalProfiler::new(rt.alloc()), &scopes)?;
+fn scopes_that_are_off_are_not_begun(rt: HostRuntime) {
+    let (scopes, places) = registered(rt.alloc()).expect(&rt, "the places");
+    let mut thread = Thread::start(rt, "main", GlobalProfiler::new(rt.alloc()), &scopes).expect(
+        &rt, "a thread",
+    );
     thread.switch().set_scopes_on(false);
     {
         let guard = thread.scope(&places.whole);
@@ -80,21 +88,27 @@ fn scopes_that_are_off_are_not_begun(rt: HostRuntime) -> Tested {
     scopes.set_on(true);
     both(&mut thread, &places);
     equal(&rt, thread.reporter().totals().reported, 2);
-    Ok(())
 }
 
 #[test]
-fn a_view_is_saved_and_replaced(rt: HostRuntime) -> Tested {
+fn a_view_is_saved_and_replaced(rt: HostRuntime) {
     let name = "light.puffin";
-    save(&rt, name, &FrameView::new(rt.alloc()))?;
-    let (scopes, places) = registered(rt.alloc())?;
-    let outcome = in_rounds(rt, &["a", "b"], &scopes, 1, &places)?;
-    save(&rt, name, &outcome.view.lock(&rt))?;
-    let view = FrameView::read(rt.alloc(), &mut Counted::new(File::open(&rt, name)?))?;
+    save(&rt, name, &FrameView::new(rt.alloc())).expect(&rt, "a saved view");
+    let (scopes, places) = registered(rt.alloc()).expect(&rt, "the places");
+    let outcome = in_rounds(rt, &["a", "b"], &scopes, 1, &places).expect(&rt, "the rounds");
+    save(&rt, name, &outcome.view.lock(&rt)).expect(&rt, "a saved view");
+    let view = FrameView::read(
+        rt.alloc(),
+        &mut Counted::new(File::open(&rt, name).expect(&rt, "a file")),
+    )
+    .expect(&rt, "a view");
     equal(&rt, view.stats().frames(), 1);
-    equal(&rt, fs::exists(&rt, "light.puffin.part")?, false);
-    fs::remove_file(&rt, name)?;
-    Ok(())
+    equal(
+        &rt,
+        fs::exists(&rt, "light.puffin.part").expect(&rt, "a folder"),
+        false,
+    );
+    fs::remove_file(&rt, name).expect(&rt, "a file");
 }
 
 /// Returns the kind of the system's error that refused a view.
@@ -106,15 +120,14 @@ fn refusal(saved: std::result::Result<(), SaveError<'_>>) -> Option<io::ErrorKin
 }
 
 #[test]
-fn a_full_device_and_a_missing_folder_refuse_a_view(rt: HostRuntime) -> Tested {
-    let (scopes, places) = registered(rt.alloc())?;
-    let outcome = in_rounds(rt, &["a", "b"], &scopes, 1, &places)?;
+fn a_full_device_and_a_missing_folder_refuse_a_view(rt: HostRuntime) {
+    let (scopes, places) = registered(rt.alloc()).expect(&rt, "the places");
+    let outcome = in_rounds(rt, &["a", "b"], &scopes, 1, &places).expect(&rt, "the rounds");
     let view = outcome.view.lock(&rt);
     let full = save(&rt, "/dev/full", &view);
     equal(&rt, refusal(full), Some(io::ErrorKind::StorageFull));
     let missing = save(&rt, "no folder/light.puffin", &view);
     equal(&rt, refusal(missing), Some(io::ErrorKind::NotFound));
-    Ok(())
 }
 
 impl Rounds for Places {
@@ -149,27 +162,25 @@ fn has<R: Abort + Wait>(rt: &R, outcome: &Outcome, reported: &[u64], sum: u64, f
 }
 
 #[test]
-fn a_frame_is_taken_after_each_round(rt: HostRuntime) -> Tested {
-    let (scopes, places) = registered(rt.alloc())?;
-    let outcome = in_rounds(rt, &["a", "b", "c"], &scopes, 5, &places)?;
+fn a_frame_is_taken_after_each_round(rt: HostRuntime) {
+    let (scopes, places) = registered(rt.alloc()).expect(&rt, "the places");
+    let outcome = in_rounds(rt, &["a", "b", "c"], &scopes, 5, &places).expect(&rt, "the rounds");
     has(&rt, &outcome, &[0, 10, 10], 20, 5);
-    let outcome = in_rounds(rt, &["a", "b", "c"], &scopes, 0, &places)?;
+    let outcome = in_rounds(rt, &["a", "b", "c"], &scopes, 0, &places).expect(&rt, "the rounds");
     has(&rt, &outcome, &[0, 0, 0], 0, 0);
-    Ok(())
 }
 
 #[test]
-fn one_thread_two_and_64(rt: HostRuntime) -> Tested {
-    let (scopes, places) = registered(rt.alloc())?;
-    let outcome = in_rounds(rt, &["a"], &scopes, 2, &places)?;
+fn one_thread_two_and_64(rt: HostRuntime) {
+    let (scopes, places) = registered(rt.alloc()).expect(&rt, "the places");
+    let outcome = in_rounds(rt, &["a"], &scopes, 2, &places).expect(&rt, "the rounds");
     has(&rt, &outcome, &[0], 0, 0);
-    let outcome = in_rounds(rt, &["a", "b"], &scopes, 2, &places)?;
+    let outcome = in_rounds(rt, &["a", "b"], &scopes, 2, &places).expect(&rt, "the rounds");
     has(&rt, &outcome, &[0, 4], 4, 2);
-    let outcome = in_rounds(rt, &["a"; 64], &scopes, 2, &places)?;
+    let outcome = in_rounds(rt, &["a"; 64], &scopes, 2, &places).expect(&rt, "the rounds");
     equal(&rt, outcome.threads.len(), 64);
     equal(&rt, outcome.settled.handed, 252);
     equal(&rt, outcome.frames, 2);
-    Ok(())
 }
 
 /// Thread `number` makes `number` scopes, each with a child. One frame is taken.
@@ -191,15 +202,14 @@ impl Program for Uneven {
 }
 
 #[test]
-fn all_that_threads_report_is_handed_out_or_pending(rt: HostRuntime) -> Tested {
-    let (scopes, places) = registered(rt.alloc())?;
+fn all_that_threads_report_is_handed_out_or_pending(rt: HostRuntime) {
+    let (scopes, places) = registered(rt.alloc()).expect(&rt, "the places");
     let uneven = Uneven { places };
-    let outcome = profiled(rt, &["a", "b", "c"], &scopes, &uneven)?;
+    let outcome = profiled(rt, &["a", "b", "c"], &scopes, &uneven).expect(&rt, "the threads");
     equal(&rt, has_reported(&outcome, &[0, 2, 4]), true);
     let settled = outcome.settled;
     equal(&rt, settled.reported, 6);
     equal(&rt, settled.handed.checked_add(settled.pending), Some(6));
-    Ok(())
 }
 
 /// In round `n`, counted from 1, thread `number` makes `n` scopes, each with a child. After `number` rounds it makes
@@ -227,10 +237,12 @@ impl StatefulRounds for Rising {
 }
 
 #[test]
-fn a_thread_keeps_its_state_from_round_to_round(rt: HostRuntime) -> Tested {
-    let (scopes, places) = registered(rt.alloc())?;
+fn a_thread_keeps_its_state_from_round_to_round(rt: HostRuntime) {
+    let (scopes, places) = registered(rt.alloc()).expect(&rt, "the places");
     let rising = Rising { places };
-    let outcome = in_rounds(rt, &["a", "b", "c", "d"], &scopes, 5, &rising)?;
+    let outcome = in_rounds(rt, &["a", "b", "c", "d"], &scopes, 5, &rising).expect(
+        &rt,
+        "the rounds",
+    );
     has(&rt, &outcome, &[0, 2, 6, 12], 20, 3);
-    Ok(())
 }

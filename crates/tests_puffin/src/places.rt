@@ -11,10 +11,7 @@ use puffin::thread_profiler::{Reporter, ScriptClock, ThreadInfo, ThreadProfiler}
 use puffin::{Error, place, profile};
 use std::alloc::Global;
 use std::sync::{Arc, Mutex};
-use std::test::Fail;
 use tests_support::frames::lists;
-
-type Tested = std::result::Result<(), Fail>;
 
 /// A function and a part of it.
 #[derive(Drop)]
@@ -34,40 +31,49 @@ fn registered(alloc: Global) -> puffin::Result<(Scopes, Places)> {
 }
 
 #[test]
-fn a_first_frame_lists_the_places_by_number_and_name(rt: HostRuntime) -> Tested {
-    let (scopes, places) = registered(rt.alloc())?;
+fn a_first_frame_lists_the_places_by_number_and_name(rt: HostRuntime) {
+    let (scopes, places) = registered(rt.alloc()).expect(&rt, "the places");
     equal(&rt, places.load.id().get(), 1);
     equal(&rt, places.paint.id().get(), 2);
-    let load = scopes.details().first().ok_or("details")?;
+    let load = scopes.details().first().expect(&rt, "details");
     equal(&rt, load.function_name.as_str(), "load");
     equal(&rt, load.file_path.as_str(), "tests_puffin::places");
-    let paint = scopes.details().last().ok_or("details")?;
+    let paint = scopes.details().last().expect(&rt, "details");
     equal(&rt, paint.function_name.as_str(), "paint");
-    let mut thread = Thread::start(rt, "main", GlobalProfiler::new(rt.alloc()), &scopes)?;
+    let mut thread = Thread::start(rt, "main", GlobalProfiler::new(rt.alloc()), &scopes).expect(
+        &rt, "a thread",
+    );
     {
         profile!(_paint, thread, places.paint);
     }
-    let frame = thread.new_frame(&rt)?.ok_or("a frame")?;
+    let frame = thread
+        .new_frame(&rt)
+        .expect(&rt, "a frame")
+        .expect(&rt, "a frame");
     equal(&rt, lists(&frame, &[(1, "load"), (2, "pixels")]), true);
-    Ok(())
 }
 
 #[test]
-fn a_place_may_have_details_of_its_own(rt: HostRuntime) -> Tested {
-    let mut scopes = Scopes::new(rt.alloc())?;
+fn a_place_may_have_details_of_its_own(rt: HostRuntime) {
+    let mut scopes = Scopes::new(rt.alloc()).expect(&rt, "memory");
     let details = ScopeDetails::default().with_line_nr(7);
-    equal(&rt, scopes.register(details)?.id().get(), 1);
-    let details = scopes.details().first().ok_or("details")?;
+    equal(
+        &rt,
+        scopes.register(details).expect(&rt, "a place").id().get(),
+        1,
+    );
+    let details = scopes.details().first().expect(&rt, "details");
     equal(&rt, details.line_nr, 7);
     equal(&rt, scopes.are_on(), true);
-    Ok(())
 }
 
 #[test]
-fn a_thread_refuses_a_place_that_it_does_not_know(rt: HostRuntime) -> Tested {
-    let (mut scopes, places) = registered(rt.alloc())?;
-    let mut thread = Thread::start(rt, "main", GlobalProfiler::new(rt.alloc()), &scopes)?;
-    let late = place!(scopes, "late")?;
+fn a_thread_refuses_a_place_that_it_does_not_know(rt: HostRuntime) {
+    let (mut scopes, places) = registered(rt.alloc()).expect(&rt, "the places");
+    let mut thread = Thread::start(rt, "main", GlobalProfiler::new(rt.alloc()), &scopes).expect(
+        &rt, "a thread",
+    );
+    let late = place!(scopes, "late").expect(&rt, "a place");
     {
         let mut guard = thread.scope(&late);
         equal(&rt, guard.state(), GuardState::Refused(Error::MissingId));
@@ -77,7 +83,6 @@ fn a_thread_refuses_a_place_that_it_does_not_know(rt: HostRuntime) -> Tested {
     equal(&rt, thread.num_refused(), 1);
     equal(&rt, thread.num_closed(), 0);
     equal(&rt, thread.into_reporter().totals().reported, 1);
-    Ok(())
 }
 
 /// The first thread uses a place of other scopes.
@@ -98,21 +103,20 @@ impl Rounds for Foreign {
 }
 
 #[test]
-fn a_program_counts_the_scopes_that_are_refused(rt: HostRuntime) -> Tested {
-    let (_others, places) = registered(rt.alloc())?;
-    let mut scopes = Scopes::new(rt.alloc())?;
+fn a_program_counts_the_scopes_that_are_refused(rt: HostRuntime) {
+    let (_others, places) = registered(rt.alloc()).expect(&rt, "the places");
+    let mut scopes = Scopes::new(rt.alloc()).expect(&rt, "memory");
     let foreign = Foreign {
-        own: place!(scopes, "own")?,
+        own: place!(scopes, "own").expect(&rt, "a place"),
         other: places.paint,
     };
-    let outcome = in_rounds(rt, &["a", "b"], &scopes, 3, &foreign)?;
-    let [refused, reported] = outcome.threads.as_slice() else {
-        return Err(Fail::new("two threads"));
-    };
+    let outcome = in_rounds(rt, &["a", "b"], &scopes, 3, &foreign).expect(&rt, "the rounds");
+    equal(&rt, outcome.threads.len(), 2);
+    let refused = outcome.threads.first().expect(&rt, "a thread");
+    let reported = outcome.threads.last().expect(&rt, "a thread");
     equal(&rt, (refused.reported, refused.refused), (0, 3));
     equal(&rt, (reported.reported, reported.refused), (3, 0));
     equal(&rt, (refused.unreported, reported.unreported), (0, 0));
-    Ok(())
 }
 
 /// A reporter that refuses everything.
@@ -135,11 +139,15 @@ impl Reporter for Refusing {
 }
 
 #[test]
-fn scopes_of_a_refused_report_are_counted(rt: HostRuntime) -> Tested {
-    let (scopes, places) = registered(rt.alloc())?;
-    let name = String::from_str(rt.alloc(), "main")?;
+fn scopes_of_a_refused_report_are_counted(rt: HostRuntime) {
+    let (scopes, places) = registered(rt.alloc()).expect(&rt, "the places");
+    let name = String::from_str(rt.alloc(), "main").expect(&rt, "memory");
     let profiler = ThreadProfiler::new(rt.alloc(), name, ScriptClock::new(5));
-    let mut thread = Thread::new(profiler, Refusing, scopes.for_thread()?);
+    let mut thread = Thread::new(
+        profiler,
+        Refusing,
+        scopes.for_thread().expect(&rt, "the scopes"),
+    );
     {
         profile!(paint, thread, places.paint);
         {
@@ -150,23 +158,28 @@ fn scopes_of_a_refused_report_are_counted(rt: HostRuntime) -> Tested {
     equal(&rt, thread.num_closed(), 2);
     equal(&rt, thread.report_closed(), Err(Error::TooLarge));
     equal(&rt, thread.num_closed(), 2);
-    Ok(())
 }
 
 #[test]
-fn a_thread_s_frame_reaches_the_profiler_s_sinks(rt: HostRuntime) -> Tested {
-    let (scopes, places) = registered(rt.alloc())?;
-    let view = Arc::new(rt.alloc(), Mutex::new(FrameView::new(rt.alloc())))?;
+fn a_thread_s_frame_reaches_the_profiler_s_sinks(rt: HostRuntime) {
+    let (scopes, places) = registered(rt.alloc()).expect(&rt, "the places");
+    let view = Arc::new(rt.alloc(), Mutex::new(FrameView::new(rt.alloc()))).expect(&rt, "memory");
     let mut profiler = GlobalProfiler::new(rt.alloc());
-    let _id = added(&mut profiler, Sink::View(Arc::try_clone(&view)?))?;
-    let mut thread = Thread::start(rt, "main", profiler, &scopes)?;
+    let _id = added(
+        &rt,
+        &mut profiler,
+        Sink::View(Arc::try_clone(&view).expect(&rt, "memory")),
+    );
+    let mut thread = Thread::start(rt, "main", profiler, &scopes).expect(&rt, "a thread");
     {
         profile!(_load, thread, places.load);
     }
-    let frame = thread.new_frame(&rt)?.ok_or("a frame")?;
+    let frame = thread
+        .new_frame(&rt)
+        .expect(&rt, "a frame")
+        .expect(&rt, "a frame");
     let view = view.lock(&rt);
-    let held = view.latest_frame().ok_or("a frame in the view")?;
+    let held = view.latest_frame().expect(&rt, "a frame in the view");
     equal(&rt, held.frame_index(), frame.frame_index());
     equal(&rt, held.meta().num_scopes, 1);
-    Ok(())
 }

@@ -6,12 +6,9 @@ use puffin::profile_view::FrameView;
 use puffin::scope_details::ScopeDetails;
 use puffin::{Error, Result};
 use std::borrow::CowStr;
-use std::collections::BTreeMap;
 use std::process::Abort;
 use std::sync::{Arc, Mutex, Wait};
-use std::test::Fail;
-
-type Outcome = std::result::Result<(), Fail>;
+use tests_support::frames::one_stream;
 
 /// The names of the sinks that were handed a frame, each with the index of the frame, in order.
 type Handed = Arc<Mutex<Vec<(u64, FrameIndex)>>>;
@@ -50,47 +47,42 @@ macro_rules! sinks_named {
                 Noting {
                     name,
                     refuses: name == $refusing,
-                    handed: Arc::try_clone($handed)?,
+                    handed: Arc::try_clone($handed).expect(&$rt, "memory"),
                     rt: $rt,
                 },
-            )?;
-            sinks.push(Sink::Boxed(noting))?;
+            )
+            .expect(&$rt, "memory");
+            sinks.push(Sink::Boxed(noting)).expect(&$rt, "memory");
         }
         sinks
     }};
 }
 
-fn nothing_handed(rt: &impl AllocGlobal) -> std::result::Result<Handed, Fail> {
-    Ok(Arc::new(rt.alloc(), Mutex::new(Vec::new(rt.alloc())))?)
+fn nothing_handed(rt: &(impl AllocGlobal + Abort)) -> Handed {
+    Arc::new(rt.alloc(), Mutex::new(Vec::new(rt.alloc()))).expect(rt, "memory")
 }
 
 /// Adds a sink, and returns its number.
-pub(crate) fn added(
-    profiler: &mut GlobalProfiler,
-    sink: Sink,
-) -> std::result::Result<FrameSinkId, Fail> {
-    match profiler.add_sink(sink) {
-        Ok(id) => Ok(id),
-        Err((_error, _sink)) => Err(Fail::new("a sink is refused")),
-    }
+pub(crate) fn added(rt: &impl Abort, profiler: &mut GlobalProfiler, sink: Sink) -> FrameSinkId {
+    profiler.add_sink(sink).ok().expect(rt, "a sink")
 }
 
 /// Adds all sinks, in order, and returns their numbers.
 fn all_added(
-    rt: &impl AllocGlobal,
+    rt: &(impl AllocGlobal + Abort),
     profiler: &mut GlobalProfiler,
     sinks: Vec<Sink>,
-) -> std::result::Result<Vec<FrameSinkId>, Fail> {
+) -> Vec<FrameSinkId> {
     let mut ids = Vec::new(rt.alloc());
     for sink in sinks {
-        ids.push(added(profiler, sink)?)?;
+        ids.push(added(rt, profiler, sink)).expect(rt, "memory");
     }
-    Ok(ids)
+    ids
 }
 
 /// Returns what the sinks noted.
-fn notes<R: Wait>(rt: &R, handed: &Handed) -> std::result::Result<Vec<(u64, FrameIndex)>, Fail> {
-    Ok(handed.lock(rt).clone()?)
+fn notes<R: Wait + Abort>(rt: &R, handed: &Handed) -> Vec<(u64, FrameIndex)> {
+    handed.lock(rt).clone().expect(rt, "memory")
 }
 
 /// Checks that the third sink is called although the first refuses the frame.
@@ -98,52 +90,43 @@ fn one_refuses<R: AllocGlobal + Wait + Abort>(
     rt: &R,
     profiler: &mut GlobalProfiler,
     handed: &Handed,
-) -> Outcome {
-    report(rt, profiler, "a", 1, (100, 101))?;
-    let emitted = profiler.new_frame(rt)?;
+) {
+    report(rt, profiler, "a", 1, (100, 101)).expect(rt, "a report");
+    let emitted = profiler.new_frame(rt).expect(rt, "a frame");
     assert!(rt; emitted.frame.is_some());
     equal(rt, emitted.refused, 1);
     equal(
         rt,
-        notes(rt, handed)?.as_slice(),
+        notes(rt, handed).as_slice(),
         [(1, 0), (3, 0)].as_slice(),
     );
-    Ok(())
 }
 
 /// Checks that no sink is called if there is no frame.
-fn none_is_called<R: Wait + Abort>(
-    rt: &R,
-    profiler: &mut GlobalProfiler,
-    handed: &Handed,
-) -> Outcome {
-    let emitted = profiler.new_frame(rt)?;
+fn none_is_called<R: Wait + Abort>(rt: &R, profiler: &mut GlobalProfiler, handed: &Handed) {
+    let emitted = profiler.new_frame(rt).expect(rt, "a frame");
     assert!(rt; emitted.frame.is_none());
     equal(rt, emitted.refused, 0);
-    equal(rt, notes(rt, handed)?.len(), 2);
-    Ok(())
+    equal(rt, notes(rt, handed).len(), 2);
 }
 
 #[test]
-fn a_sink_that_refuses_is_counted_and_the_next_is_called(rt: HostRuntime) -> Outcome {
-    let handed = nothing_handed(&rt)?;
+fn a_sink_that_refuses_is_counted_and_the_next_is_called(rt: HostRuntime) {
+    let handed = nothing_handed(&rt);
     let sinks = sinks_named!(rt, &handed, 3u64, 1u64);
     let mut profiler = GlobalProfiler::new(rt.alloc());
-    let ids = all_added(&rt, &mut profiler, sinks)?;
-    let second = *ids.get(1).ok_or("no second sink")?;
+    let ids = all_added(&rt, &mut profiler, sinks);
+    let second = *ids.get(1).expect(&rt, "a second sink");
     assert!(rt; profiler.remove_sink(second).is_some());
-    one_refuses(&rt, &mut profiler, &handed)?;
-    none_is_called(&rt, &mut profiler, &handed)
+    one_refuses(&rt, &mut profiler, &handed);
+    none_is_called(&rt, &mut profiler, &handed);
 }
 
 /// Makes a frame of one scope, with this index.
-fn frame_at(
-    rt: &impl AllocGlobal,
-    frame_index: FrameIndex,
-) -> std::result::Result<Arc<FrameData>, Fail> {
+fn frame_at(rt: &(impl AllocGlobal + Abort), frame_index: FrameIndex) -> Arc<FrameData> {
     let mut other = GlobalProfiler::with_frame_index(rt.alloc(), frame_index);
-    report(rt, &mut other, "a", 1, (100, 101))?;
-    Ok(other.collect_frame()?.ok_or("no frame")?)
+    report(rt, &mut other, "a", 1, (100, 101)).expect(rt, "a report");
+    other.collect_frame().ok().flatten().expect(rt, "a frame")
 }
 
 /// Adds frame 7. Checks that both sinks are handed it, that the second refuses it, and that no total counts it.
@@ -151,11 +134,17 @@ fn is_handed_on<R: AllocGlobal + Wait + Abort>(
     rt: &R,
     profiler: &mut GlobalProfiler,
     handed: &Handed,
-) -> Outcome {
-    equal(rt, profiler.add_frame(rt, frame_at(rt, 7)?)?, 1);
+) {
     equal(
         rt,
-        notes(rt, handed)?.as_slice(),
+        profiler
+            .add_frame(rt, frame_at(rt, 7))
+            .expect(rt, "a frame"),
+        1,
+    );
+    equal(
+        rt,
+        notes(rt, handed).as_slice(),
         [(1, 7), (2, 7)].as_slice(),
     );
     let none = Totals {
@@ -164,37 +153,32 @@ fn is_handed_on<R: AllocGlobal + Wait + Abort>(
         emitted: 0,
     };
     equal(rt, profiler.totals(), none);
-    Ok(())
 }
 
 #[test]
-fn a_frame_that_is_added_is_handed_on_and_not_counted(rt: HostRuntime) -> Outcome {
-    let handed = nothing_handed(&rt)?;
+fn a_frame_that_is_added_is_handed_on_and_not_counted(rt: HostRuntime) {
+    let handed = nothing_handed(&rt);
     let sinks = sinks_named!(rt, &handed, 2u64, 2u64);
     let mut profiler = GlobalProfiler::new(rt.alloc());
-    let _ids = all_added(&rt, &mut profiler, sinks)?;
-    is_handed_on(&rt, &mut profiler, &handed)
+    let _ids = all_added(&rt, &mut profiler, sinks);
+    is_handed_on(&rt, &mut profiler, &handed);
 }
 
 /// Takes a frame of one scope. Checks that no sink refuses it.
-fn taken<R: AllocGlobal + Wait + Abort>(rt: &R, profiler: &mut GlobalProfiler) -> Outcome {
-    report(rt, profiler, "a", 1, (100, 101))?;
-    let emitted = profiler.new_frame(rt)?;
+fn taken<R: AllocGlobal + Wait + Abort>(rt: &R, profiler: &mut GlobalProfiler) {
+    report(rt, profiler, "a", 1, (100, 101)).expect(rt, "a report");
+    let emitted = profiler.new_frame(rt).expect(rt, "a frame");
     assert!(rt; emitted.frame.is_some());
     equal(rt, emitted.refused, 0);
-    Ok(())
 }
 
 /// Returns the indices of a view's recent frames.
-fn recent<R: AllocGlobal + Wait>(
-    rt: &R,
-    view: &Mutex<FrameView>,
-) -> std::result::Result<Vec<FrameIndex>, Fail> {
+fn recent<R: AllocGlobal + Wait + Abort>(rt: &R, view: &Mutex<FrameView>) -> Vec<FrameIndex> {
     let mut indices = Vec::new(rt.alloc());
     for frame in view.lock(rt).recent_frames() {
-        indices.push(frame.frame_index())?;
+        indices.push(frame.frame_index()).expect(rt, "memory");
     }
-    Ok(indices)
+    indices
 }
 
 /// Takes two frames, adds one, removes the sink, and takes one more.
@@ -202,38 +186,49 @@ fn three_are_handed_on<R: AllocGlobal + Wait + Abort>(
     rt: &R,
     profiler: &mut GlobalProfiler,
     id: FrameSinkId,
-) -> Outcome {
-    taken(rt, profiler)?;
-    taken(rt, profiler)?;
-    equal(rt, profiler.add_frame(rt, frame_at(rt, 9)?)?, 0);
+) {
+    taken(rt, profiler);
+    taken(rt, profiler);
+    equal(
+        rt,
+        profiler
+            .add_frame(rt, frame_at(rt, 9))
+            .expect(rt, "a frame"),
+        0,
+    );
     assert!(rt; profiler.remove_sink(id).is_some());
-    taken(rt, profiler)
+    taken(rt, profiler);
 }
 
 #[test]
-fn a_view_is_a_sink(rt: HostRuntime) -> Outcome {
-    let view = Arc::new(rt.alloc(), Mutex::new(FrameView::new(rt.alloc())))?;
+fn a_view_is_a_sink(rt: HostRuntime) {
+    let view = Arc::new(rt.alloc(), Mutex::new(FrameView::new(rt.alloc()))).expect(&rt, "memory");
     let mut profiler = GlobalProfiler::new(rt.alloc());
-    let id = added(&mut profiler, Sink::View(Arc::try_clone(&view)?))?;
-    three_are_handed_on(&rt, &mut profiler, id)?;
-    equal(&rt, recent(&rt, &view)?.as_slice(), [0, 1, 9].as_slice());
-    Ok(())
+    let id = added(
+        &rt,
+        &mut profiler,
+        Sink::View(Arc::try_clone(&view).expect(&rt, "memory")),
+    );
+    three_are_handed_on(&rt, &mut profiler, id);
+    equal(&rt, recent(&rt, &view).as_slice(), [0, 1, 9].as_slice());
 }
 
 /// Makes details without an id.
-fn nameless_details(rt: &impl AllocGlobal) -> Result<Vec<Arc<ScopeDetails>>> {
+fn nameless_details(rt: &(impl AllocGlobal + Abort)) -> Vec<Arc<ScopeDetails>> {
     let details = ScopeDetails::from_scope_name(CowStr::Borrowed("no id"));
     let mut delta = Vec::new(rt.alloc());
-    delta.push(Arc::new(rt.alloc(), details)?)?;
-    Ok(delta)
+    let details = Arc::new(rt.alloc(), details).expect(rt, "memory");
+    delta.push(details).expect(rt, "memory");
+    delta
 }
 
 /// Makes a frame that lists a scope without an id.
-fn nameless(rt: &impl AllocGlobal) -> std::result::Result<Arc<FrameData>, Fail> {
-    let mut streams = BTreeMap::new(rt.alloc());
-    let _none = streams.insert(thread(rt, "a")?, scope(rt, 1, 100, 101)?)?;
-    let frame = FrameData::new(rt.alloc(), 3, streams, nameless_details(rt)?, false)?;
-    Ok(Arc::new(rt.alloc(), frame)?)
+fn nameless(rt: &(impl AllocGlobal + Abort)) -> Arc<FrameData> {
+    let thread = thread(rt, "a").expect(rt, "a thread");
+    let info = scope(rt, 1, 100, 101).expect(rt, "a scope");
+    let streams = one_stream(rt.alloc(), thread, info).expect(rt, "memory");
+    let frame = FrameData::new(rt.alloc(), 3, streams, nameless_details(rt), false);
+    Arc::new(rt.alloc(), frame.expect(rt, "a frame")).expect(rt, "memory")
 }
 
 /// Checks that a frame that lists a scope without an id is handed to no sink.
@@ -241,18 +236,17 @@ fn is_handed_to_none<R: AllocGlobal + Wait + Abort>(
     rt: &R,
     profiler: &mut GlobalProfiler,
     handed: &Handed,
-) -> Outcome {
-    let refused = profiler.add_frame(rt, nameless(rt)?).err();
+) {
+    let refused = profiler.add_frame(rt, nameless(rt)).err();
     equal(rt, refused, Some(Error::MissingId));
-    assert!(rt; notes(rt, handed)?.is_empty());
-    Ok(())
+    assert!(rt; notes(rt, handed).is_empty());
 }
 
 #[test]
-fn a_frame_with_details_without_an_id_is_refused(rt: HostRuntime) -> Outcome {
-    let handed = nothing_handed(&rt)?;
+fn a_frame_with_details_without_an_id_is_refused(rt: HostRuntime) {
+    let handed = nothing_handed(&rt);
     let sinks = sinks_named!(rt, &handed, 1u64, 0u64);
     let mut profiler = GlobalProfiler::new(rt.alloc());
-    let _ids = all_added(&rt, &mut profiler, sinks)?;
-    is_handed_to_none(&rt, &mut profiler, &handed)
+    let _ids = all_added(&rt, &mut profiler, sinks);
+    is_handed_to_none(&rt, &mut profiler, &handed);
 }

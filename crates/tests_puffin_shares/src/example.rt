@@ -13,7 +13,6 @@ use std::marker::Brand;
 use std::process::Abort;
 use std::sync::Wait;
 use std::sync::ledger::{Blank, Ledger};
-use std::test::Fail;
 use std::thread;
 use std::thread::{JoinHandle, Threads};
 
@@ -67,15 +66,12 @@ fn start<
 fn load_elsewhere<
     L: Ledger + Send + Sync + 'static,
     M: Ledger + Send + Sync + 'static,
-    R: Threads + Wait + Copy + Send + Sync + 'static,
->(
-    rt: R,
-    alloc: Global,
-    profiler: &SharedProfiler<L, M>,
-    share: Share<L, M>,
-) -> std::result::Result<Share<L, M>, Fail> {
-    let loader = start(rt, alloc, profiler.clone()?, share)?;
-    Ok(loader.join(&rt).ok_or("the loader's share")?)
+    R: Threads + Wait + Abort + Copy + Send + Sync + 'static,
+>(rt: R, alloc: Global, profiler: &SharedProfiler<L, M>, share: Share<L, M>) -> Share<L, M> {
+    let loader = start(rt, alloc, profiler.clone().expect(&rt, "memory"), share).expect(
+        &rt, "a thread",
+    );
+    loader.join(&rt).expect(&rt, "the loader's share")
 }
 
 /// The scope of the image, with the id 7, from 5 to 5.
@@ -83,17 +79,16 @@ const IMAGE: &[u8] =
     b"(\x07\0\0\0\x05\0\0\0\0\0\0\0\x0cimage-12.png\0\0\0\0\0\0\0\0)\x05\0\0\0\0\0\0\0";
 
 /// Checks that a frame has the image alone, on the thread "loader".
-fn has_image<R: Abort>(rt: &R, frame: &FrameData) -> std::result::Result<(), Fail> {
-    let streams = &frame.as_unpacked().ok_or("streams")?.thread_streams;
+fn has_image<R: Abort>(rt: &R, frame: &FrameData) {
+    let streams = &frame.as_unpacked().expect(rt, "streams").thread_streams;
     equal(rt, streams.len(), 1);
-    let (thread, info) = streams.first_key_value().ok_or("a stream")?;
+    let (thread, info) = streams.first_key_value().expect(rt, "a stream");
     equal(
         rt,
         (thread.name.as_str(), thread.start_time_ns),
         ("loader", Some(5)),
     );
     equal(rt, info.stream.bytes(), IMAGE);
-    Ok(())
 }
 
 /// A loader's thread, and one that takes the frame when the loader is done.
@@ -101,18 +96,12 @@ fn framed<
     L: Ledger + Send + Sync + 'static,
     M: Ledger + Send + Sync + 'static,
     R: Threads + Wait + Abort + Copy + Send + Sync + 'static,
->(
-    rt: R,
-    alloc: Global,
-    profiler: &SharedProfiler<L, M>,
-    shares: &mut Vec<Share<L, M>>,
-) -> std::result::Result<(), Fail> {
-    let theirs = shares.pop().ok_or("a share")?;
-    let theirs = load_elsewhere(rt, alloc, profiler, theirs)?;
-    let own = shares.last_mut().ok_or("another")?;
-    has_image(&rt, &*next_frame(&rt, profiler, own)?)?;
-    shares.push(theirs)?;
-    Ok(())
+>(rt: R, alloc: Global, profiler: &SharedProfiler<L, M>, shares: &mut Vec<Share<L, M>>) {
+    let theirs = shares.pop().expect(&rt, "a share");
+    let theirs = load_elsewhere(rt, alloc, profiler, theirs);
+    let own = shares.last_mut().expect(&rt, "another");
+    has_image(&rt, &*next_frame(&rt, profiler, own));
+    shares.push(theirs).expect(&rt, "memory");
 }
 
 /// Two threads share a profiler, and give their shares back at the end.
@@ -120,32 +109,26 @@ fn loaded<
     L: Ledger + Send + Sync + 'static,
     M: Ledger + Send + Sync + 'static,
     R: Threads + Wait + Abort + Copy + Send + Sync + 'static,
->(rt: R, alloc: Global, reported: Blank, handed: Blank) -> std::result::Result<(), Fail>
+>(rt: R, alloc: Global, reported: Blank, handed: Blank)
     requires reported { (reported.name ≡ L.name)
         × (reported.parts ≡ L.parts)
         × (reported.parts ≡ 2) }
     requires handed { (handed.name ≡ M.name) × (handed.parts ≡ M.parts) × (handed.parts ≡ 2) }
 {
     let profiler = GlobalProfiler::new(alloc);
-    let Ok((profiler, shares)) = SharedProfiler::<L, M>::open(alloc, profiler, 2, reported, handed)
-    else {
-        return Err(Fail::new("no memory"));
-    };
-    let mut shares = shares;
-    framed(rt, alloc, &profiler, &mut shares)?;
-    let Ok(settled) = profiler.settle(&rt, shares) else {
-        return Err(Fail::new("two shares are all"));
-    };
+    let opened = SharedProfiler::<L, M>::open(alloc, profiler, 2, reported, handed);
+    let (profiler, mut shares) = opened.ok().expect(&rt, "memory");
+    framed(rt, alloc, &profiler, &mut shares);
+    let settled = profiler.settle(&rt, shares).ok().expect(&rt, "both shares");
     let all = Settled {
         reported: 1,
         handed: 1,
         pending: 0,
     };
     equal(&rt, settled, all);
-    Ok(())
 }
 
 #[test]
-fn two_threads_share_a_profiler(rt: HostRuntime) -> std::result::Result<(), Fail> {
-    loaded::<Brand, Brand, HostRuntime>(rt, rt.alloc(), Blank::new(2), Blank::new(2))
+fn two_threads_share_a_profiler(rt: HostRuntime) {
+    loaded::<Brand, Brand, HostRuntime>(rt, rt.alloc(), Blank::new(2), Blank::new(2));
 }

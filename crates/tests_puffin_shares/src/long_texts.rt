@@ -15,11 +15,8 @@ use std::marker::Brand;
 use std::process::Abort;
 use std::sync::Wait;
 use std::sync::ledger::{Blank, Ledger};
-use std::test::Fail;
 use tests_support::streams::id;
 use tests_support::threads::thread_info;
-
-type Outcome = std::result::Result<(), Fail>;
 
 /// A text of 128 bytes, one more than the short form keeps.
 const TEXT: &str = "0123456789abcdef0123456789abcdef0123456789abcdef0123456789abcdef\
@@ -61,24 +58,25 @@ fn has_long(alloc: Global, frame: &FrameData, name: &str, texts: &[&str]) -> puf
 }
 
 /// Reports a scope of the caller's own.
-fn user_scope<L: Ledger, M: Ledger, R: Wait>(
+fn user_scope<L: Ledger, M: Ledger, R: Wait + Abort>(
     rt: &R,
     alloc: Global,
     profiler: &SharedProfiler<L, M>,
     share: &mut Share<L, M>,
-) -> Outcome {
-    let own = own_scope(alloc, id(1)?)?;
-    let user = thread_info(alloc, None, "user")?;
-    profiler.report_user_scopes(rt, share, user, &own.as_stream_into_ref())?;
-    Ok(())
+) {
+    let id = id(1).expect(rt, "an id");
+    let own = own_scope(alloc, id).expect(rt, "a scope");
+    let user = thread_info(alloc, None, "user").expect(rt, "memory");
+    profiler
+        .report_user_scopes(rt, share, user, &own.as_stream_into_ref())
+        .expect(rt, "a report");
 }
 
 /// A frame of these three scopes.
-fn handed_out<R: Abort>(rt: &R, alloc: Global, frame: &FrameData) -> Outcome {
+fn handed_out<R: Abort>(rt: &R, alloc: Global, frame: &FrameData) {
     equal(rt, frame.meta().num_scopes, 3);
-    assert!(rt; has_long(alloc, frame, "main", &["load", TEXT])?);
-    assert!(rt; has_long(alloc, frame, "user", &["own"])?);
-    Ok(())
+    assert!(rt; has_long(alloc, frame, "main", &["load", TEXT]).expect(rt, "scopes"));
+    assert!(rt; has_long(alloc, frame, "user", &["own"]).expect(rt, "scopes"));
 }
 
 /// A thread's two scopes, one with a text that both forms write in one way, and one of the caller's own, in one frame.
@@ -87,13 +85,13 @@ fn in_one_frame<L: Ledger, M: Ledger, R: Wait + Abort + Copy + Drop>(
     alloc: Global,
     profiler: &SharedProfiler<L, M>,
     share: Share<L, M>,
-) -> Outcome {
-    let id = id(1)?;
+) {
+    let id = id(1).expect(&rt, "an id");
     let texts = ["load", TEXT];
-    let mut share = shares::reported(rt, alloc, profiler, share, Form::Long, id, &texts)?;
-    user_scope(&rt, alloc, profiler, &mut share)?;
-    let frame = next_frame(&rt, profiler, &mut share)?;
-    handed_out(&rt, alloc, &frame)
+    let mut share = shares::reported(rt, alloc, profiler, share, Form::Long, id, &texts);
+    user_scope(&rt, alloc, profiler, &mut share);
+    let frame = next_frame(&rt, profiler, &mut share);
+    handed_out(&rt, alloc, &frame);
 }
 
 /// The same of a new profiler.
@@ -102,18 +100,18 @@ fn reported<L: Ledger, M: Ledger, R: Wait + Abort + Copy + Drop>(
     alloc: Global,
     reported: Blank,
     handed: Blank,
-) -> Outcome
+)
     requires reported { (reported.name ≡ L.name)
         × (reported.parts ≡ L.parts)
         × (reported.parts ≡ 1) }
     requires handed { (handed.name ≡ M.name) × (handed.parts ≡ M.parts) × (handed.parts ≡ 1) }
 {
     let none = GlobalProfiler::new(alloc);
-    let (profiler, share, _) = opened::<L, M>(alloc, none, 1, reported, handed)?;
-    in_one_frame(rt, alloc, &profiler, share)
+    let (profiler, share, _) = opened::<L, M>(&rt, alloc, none, 1, reported, handed);
+    in_one_frame(rt, alloc, &profiler, share);
 }
 
 #[test]
-fn long_texts_are_handed_out_whole(rt: HostRuntime) -> Outcome {
-    reported::<Brand, Brand, HostRuntime>(rt, rt.alloc(), Blank::new(1), Blank::new(1))
+fn long_texts_are_handed_out_whole(rt: HostRuntime) {
+    reported::<Brand, Brand, HostRuntime>(rt, rt.alloc(), Blank::new(1), Blank::new(1));
 }

@@ -13,9 +13,6 @@ use std::alloc::Global;
 use std::marker::Brand;
 use std::sync::Wait;
 use std::sync::ledger::{Blank, Ledger};
-use std::test::Fail;
-
-type Outcome = std::result::Result<(), Fail>;
 
 /// How many scopes a worker closes.
 pub(crate) const SCOPES: u32 = 500;
@@ -121,8 +118,8 @@ pub(crate) fn work<L: Ledger, M: Ledger, R: Wait + Drop>(
 }
 
 #[test]
-fn nine_shares_of_eight_workers_and_a_taker_of_frames(rt: HostRuntime) -> Outcome {
+fn nine_shares_of_eight_workers_and_a_taker_of_frames(rt: HostRuntime) {
     let alloc = rt.alloc();
     let (reported, handed) = (Blank::new(9), Blank::new(9));
-    workers::run::<Brand, Brand, HostRuntime>(rt, alloc, Kind::Wary, &NAMES, 9, reported, handed)
+    workers::run::<Brand, Brand, HostRuntime>(rt, alloc, Kind::Wary, &NAMES, 9, reported, handed);
 }

@@ -20,13 +20,10 @@ use std::marker::Brand;
 use std::process::Abort;
 use std::sync::ledger::{Blank, Ledger};
 use std::sync::{Arc, Wait};
-use std::test::Fail;
 use tests_support::frames::lists;
 use tests_support::samples::PACKET;
 use tests_support::streams::{bytes_of, id};
 use tests_support::threads::main_thread;
-
-type Outcome = std::result::Result<(), Fail>;
 
 type Thread = ThreadProfiler<ScriptClock>;
 
@@ -54,13 +51,12 @@ fn is_reported_once<L: Ledger, M: Ledger, R: Wait + Abort>(
     rt: &R,
     alloc: Global,
     reporter: &mut SharedReporter<L, M, R>,
-) -> Outcome {
-    let mut thread = main_thread(alloc, 5)?;
-    function_waits(&mut thread)?;
+) {
+    let mut thread = main_thread(alloc, 5).expect(rt, "memory");
+    function_waits(&mut thread).expect(rt, "a scope");
     for waits in [true, false] {
         equal(rt, reporter.report_closed(&mut thread), Ok(waits));
     }
-    Ok(())
 }
 
 /// Reports a scope whose guard is gone. Checks that the next frame has it and lists it.
@@ -69,13 +65,12 @@ fn closed_is_reported<L: Ledger, M: Ledger, R: Wait + Abort + Copy + Drop>(
     alloc: Global,
     profiler: &SharedProfiler<L, M>,
     share: Share<L, M>,
-) -> Outcome {
-    let mut reporter = SharedReporter::new(rt, profiler.clone()?, share);
-    is_reported_once(&rt, alloc, &mut reporter)?;
-    let frame = next_frame(&rt, profiler, &mut reporter.into_share())?;
+) {
+    let mut reporter = SharedReporter::new(rt, profiler.clone().expect(&rt, "memory"), share);
+    is_reported_once(&rt, alloc, &mut reporter);
+    let frame = next_frame(&rt, profiler, &mut reporter.into_share());
     equal(&rt, (frame.meta().num_scopes, frame.full_delta), (1, false));
     assert!(rt; lists(&frame, &[(1, "draw")]));
-    Ok(())
 }
 
 /// Takes three frames of one scope each. The first lists the scope that was registered, the second lists none, and the
@@ -85,28 +80,37 @@ fn snapshot_tells_all<L: Ledger, M: Ledger, R: Wait + Abort + Copy + Drop>(
     alloc: Global,
     profiler: &SharedProfiler<L, M>,
     share: Share<L, M>,
-) -> Outcome {
+) {
     let details = [ScopeDetails::from_scope_name(CowStr::Borrowed("u"))];
-    let _ids = profiler.register_user_scopes(&rt, &ScopeIds::new(), &details)?;
+    let _ids = profiler
+        .register_user_scopes(&rt, &ScopeIds::new(), &details)
+        .expect(&rt, "the ids");
     let mut share = share;
     for (wanted, scopes) in [(false, &[(1, "u")][..]), (false, &[]), (true, &[(1, "u")])] {
         if wanted {
             profiler.emit_scope_snapshot(&rt);
         }
-        share = shares::reported(rt, alloc, profiler, share, Form::Short, id(1)?, &[""])?;
-        let frame = next_frame(&rt, profiler, &mut share)?;
+        share = shares::reported(
+            rt,
+            alloc,
+            profiler,
+            share,
+            Form::Short,
+            id(1).expect(&rt, "an id"),
+            &[""],
+        );
+        let frame = next_frame(&rt, profiler, &mut share);
         equal(&rt, frame.full_delta, wanted);
         assert!(rt; lists(&frame, scopes));
     }
-    Ok(())
 }
 
 /// The frame of [`PACKET`], with the details of its scope.
-fn packed(alloc: Global) -> std::result::Result<FrameData, Fail> {
+fn packed(rt: &impl Abort, alloc: Global) -> FrameData {
     let details = b"\x15\0\0\0\x01\x01\x01\x01\x08my-scope\x01\x61\x04b.rs\x07";
-    let packet = bytes_of(alloc, &[&PACKET[..70], details])?;
-    let read = FrameData::read_next(alloc, &mut Counted::new(packet.as_slice())).ok();
-    Ok(read.ok_or("no fault")?.ok_or("a frame")?)
+    let packet = bytes_of(alloc, &[&PACKET[..70], details]).expect(rt, "memory");
+    let read = FrameData::read_next(alloc, &mut Counted::new(packet.as_slice()));
+    read.expect(rt, "no fault").expect(rt, "a frame")
 }
 
 /// The packet's frame is added, and no sink refuses it.
@@ -114,15 +118,14 @@ fn is_added<L: Ledger, M: Ledger, R: Wait + Abort>(
     rt: &R,
     alloc: Global,
     profiler: &SharedProfiler<L, M>,
-) -> Outcome {
-    let frame = Arc::new(alloc, packed(alloc)?)?;
-    equal(rt, profiler.add_frame(rt, frame)?, 0);
-    Ok(())
+) {
+    let frame = Arc::new(alloc, packed(rt, alloc)).expect(rt, "memory");
+    equal(rt, profiler.add_frame(rt, frame).expect(rt, "a frame"), 0);
 }
 
 /// A view has a frame and knows the packet's scope by its name.
-fn is_viewed<R: Wait + Abort>(rt: &R, view: &GlobalFrameView) -> Outcome {
-    let id = id(1)?;
+fn is_viewed<R: Wait + Abort>(rt: &R, view: &GlobalFrameView) {
+    let id = id(1).expect(rt, "an id");
     let lent = view.lock(rt);
     assert!(rt; lent.latest_frame().is_some());
     equal(
@@ -130,7 +133,6 @@ fn is_viewed<R: Wait + Abort>(rt: &R, view: &GlobalFrameView) -> Outcome {
         lent.scope_collection().fetch_by_name("my-scope"),
         Some(&id),
     );
-    Ok(())
 }
 
 /// Checks that a frame may be added where there is no sink, that it is handed to a view, and that its scope is listed by a
@@ -139,16 +141,23 @@ fn added_is_handed_on<
     L: Ledger + Send + Sync + 'static,
     M: Ledger + Send + Sync + 'static,
     R: Wait + Abort + Copy + Drop,
->(rt: R, alloc: Global, profiler: &SharedProfiler<L, M>, share: Share<L, M>) -> Outcome {
-    is_added(&rt, alloc, profiler)?;
-    let view = GlobalFrameView::attach(&rt, alloc, profiler)?;
-    is_added(&rt, alloc, profiler)?;
-    is_viewed(&rt, &view)?;
+>(rt: R, alloc: Global, profiler: &SharedProfiler<L, M>, share: Share<L, M>) {
+    is_added(&rt, alloc, profiler);
+    let view = GlobalFrameView::attach(&rt, alloc, profiler).expect(&rt, "a view");
+    is_added(&rt, alloc, profiler);
+    is_viewed(&rt, &view);
     profiler.emit_scope_snapshot(&rt);
-    let mut share = shares::reported(rt, alloc, profiler, share, Form::Short, id(1)?, &[""])?;
-    let frame = next_frame(&rt, profiler, &mut share)?;
+    let mut share = shares::reported(
+        rt,
+        alloc,
+        profiler,
+        share,
+        Form::Short,
+        id(1).expect(&rt, "an id"),
+        &[""],
+    );
+    let frame = next_frame(&rt, profiler, &mut share);
     assert!(rt; lists(&frame, &[(1, "my-scope")]));
-    Ok(())
 }
 
 /// A new profiler is called so.
@@ -156,14 +165,14 @@ fn called<
     L: Ledger + Send + Sync + 'static,
     M: Ledger + Send + Sync + 'static,
     R: Wait + Abort + Copy + Drop,
->(rt: R, alloc: Global, call: Call, reported: Blank, handed: Blank) -> Outcome
+>(rt: R, alloc: Global, call: Call, reported: Blank, handed: Blank)
     requires reported { (reported.name ≡ L.name)
         × (reported.parts ≡ L.parts)
         × (reported.parts ≡ 1) }
     requires handed { (handed.name ≡ M.name) × (handed.parts ≡ M.parts) × (handed.parts ≡ 1) }
 {
     let none = GlobalProfiler::new(alloc);
-    let (profiler, share, _) = opened::<L, M>(alloc, none, 1, reported, handed)?;
+    let (profiler, share, _) = opened::<L, M>(&rt, alloc, none, 1, reported, handed);
     match call {
         Call::ReportClosed => closed_is_reported(rt, alloc, &profiler, share),
         Call::Snapshot => snapshot_tells_all(rt, alloc, &profiler, share),
@@ -172,19 +181,19 @@ fn called<
 }
 
 #[test]
-fn scopes_that_wait_are_reported_with_details(rt: HostRuntime) -> Outcome {
+fn scopes_that_wait_are_reported_with_details(rt: HostRuntime) {
     let (reported, handed) = (Blank::new(1), Blank::new(1));
-    called::<Brand, Brand, HostRuntime>(rt, rt.alloc(), Call::ReportClosed, reported, handed)
+    called::<Brand, Brand, HostRuntime>(rt, rt.alloc(), Call::ReportClosed, reported, handed);
 }
 
 #[test]
-fn a_snapshot_tells_of_all_scopes(rt: HostRuntime) -> Outcome {
+fn a_snapshot_tells_of_all_scopes(rt: HostRuntime) {
     let (reported, handed) = (Blank::new(1), Blank::new(1));
-    called::<Brand, Brand, HostRuntime>(rt, rt.alloc(), Call::Snapshot, reported, handed)
+    called::<Brand, Brand, HostRuntime>(rt, rt.alloc(), Call::Snapshot, reported, handed);
 }
 
 #[test]
-fn an_added_frame_is_handed_on(rt: HostRuntime) -> Outcome {
+fn an_added_frame_is_handed_on(rt: HostRuntime) {
     let (reported, handed) = (Blank::new(1), Blank::new(1));
-    called::<Brand, Brand, HostRuntime>(rt, rt.alloc(), Call::AddFrame, reported, handed)
+    called::<Brand, Brand, HostRuntime>(rt, rt.alloc(), Call::AddFrame, reported, handed);
 }

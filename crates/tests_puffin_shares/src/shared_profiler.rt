@@ -17,9 +17,6 @@ use std::marker::Brand;
 use std::process::Abort;
 use std::sync::ledger::{Blank, Ledger};
 use std::sync::{Arc, Wait};
-use std::test::Fail;
-
-type Outcome = std::result::Result<(), Fail>;
 
 /// How many scopes a worker reports.
 pub(crate) const SCOPES: u32 = 1000;
@@ -74,27 +71,29 @@ pub(crate) fn work<L: Ledger, M: Ledger, R: Wait + Drop>(
 }
 
 #[test]
-fn shares_of_four_workers_and_a_taker_of_frames(rt: HostRuntime) -> Outcome {
+fn shares_of_four_workers_and_a_taker_of_frames(rt: HostRuntime) {
     let alloc = rt.alloc();
     let (reported, handed) = (Blank::new(5), Blank::new(5));
-    workers::run::<Brand, Brand, HostRuntime>(rt, alloc, Kind::Steady, &NAMES, 5, reported, handed)
+    workers::run::<Brand, Brand, HostRuntime>(rt, alloc, Kind::Steady, &NAMES, 5, reported, handed);
 }
 
 /// Registers a scope of the caller's own, the first one.
 fn registered<L: Ledger, M: Ledger, R: Wait + Abort>(
     rt: &R,
     profiler: &SharedProfiler<L, M>,
-) -> std::result::Result<ScopeId, Fail> {
+) -> ScopeId {
     let ids = ScopeIds::new();
     let details = [ScopeDetails::from_scope_name(CowStr::Borrowed("u"))];
-    let scope_ids = profiler.register_user_scopes(rt, &ids, &details)?;
-    let id = *scope_ids.first().ok_or("an id")?;
+    let scope_ids = profiler
+        .register_user_scopes(rt, &ids, &details)
+        .expect(rt, "the ids");
+    let id = *scope_ids.first().expect(rt, "an id");
     equal(rt, id.get(), 1);
-    Ok(id)
+    id
 }
 
 /// The first frame tells twice of the scope with this id: as of a new one, and as of all that are known.
-fn told<R: Abort>(rt: &R, frame: &FrameData, id: ScopeId) -> Outcome {
+fn told<R: Abort>(rt: &R, frame: &FrameData, id: ScopeId) {
     equal(rt, frame.frame_index(), 0);
     assert!(rt; frame.full_delta);
     equal(rt, frame.scope_delta.len(), 2);
@@ -105,7 +104,6 @@ fn told<R: Abort>(rt: &R, frame: &FrameData, id: ScopeId) -> Outcome {
             ("u", Some(id)),
         );
     }
-    Ok(())
 }
 
 /// A view has a frame, and finds the scope with this id by its name.
@@ -125,10 +123,10 @@ fn handed_on<L: Ledger, M: Ledger, R: Wait + Abort + Copy + Drop>(
     profiler: &SharedProfiler<L, M>,
     share: Share<L, M>,
     id: ScopeId,
-) -> std::result::Result<(Arc<FrameData>, Share<L, M>), Fail> {
-    let mut share = shares::reported(rt, alloc, profiler, share, Form::Short, id, &[""])?;
-    let frame = next_frame(&rt, profiler, &mut share)?;
-    Ok((frame, share))
+) -> (Arc<FrameData>, Share<L, M>) {
+    let mut share = shares::reported(rt, alloc, profiler, share, Form::Short, id, &[""]);
+    let frame = next_frame(&rt, profiler, &mut share);
+    (frame, share)
 }
 
 /// A scope of the caller's own, in a view that was attached before it was reported. A view that was removed gets no frame.
@@ -136,19 +134,18 @@ fn is_viewed<
     L: Ledger + Send + Sync + 'static,
     M: Ledger + Send + Sync + 'static,
     R: Wait + Abort + Copy + Send + Sync + 'static,
->(rt: R, alloc: Global, profiler: &SharedProfiler<L, M>, share: Share<L, M>) -> Outcome {
-    let id = registered(&rt, profiler)?;
-    let view = GlobalFrameView::attach(&rt, alloc, profiler)?;
-    let (frame, share) = handed_on(rt, alloc, profiler, share, id)?;
-    told(&rt, &frame, id)?;
+>(rt: R, alloc: Global, profiler: &SharedProfiler<L, M>, share: Share<L, M>) {
+    let id = registered(&rt, profiler);
+    let view = GlobalFrameView::attach(&rt, alloc, profiler).expect(&rt, "a view");
+    let (frame, share) = handed_on(rt, alloc, profiler, share, id);
+    told(&rt, &frame, id);
     found(&rt, &view, id);
     assert!(rt; profiler.remove_sink(&rt, view.sink_id()).is_some());
-    let (_next, _share) = handed_on(rt, alloc, profiler, share, id)?;
+    let (_next, _share) = handed_on(rt, alloc, profiler, share, id);
     equal(&rt, view.lock(&rt).stats().frames(), 1);
     assert!(rt; !view.detach(&rt, profiler));
-    let other = GlobalFrameView::attach(&rt, alloc, profiler)?;
+    let other = GlobalFrameView::attach(&rt, alloc, profiler).expect(&rt, "a view");
     assert!(rt; other.detach(&rt, profiler));
-    Ok(())
 }
 
 /// The same of a new profiler.
@@ -156,18 +153,18 @@ fn attached<
     L: Ledger + Send + Sync + 'static,
     M: Ledger + Send + Sync + 'static,
     R: Wait + Abort + Copy + Send + Sync + 'static,
->(rt: R, alloc: Global, reported: Blank, handed: Blank) -> Outcome
+>(rt: R, alloc: Global, reported: Blank, handed: Blank)
     requires reported { (reported.name ≡ L.name)
         × (reported.parts ≡ L.parts)
         × (reported.parts ≡ 1) }
     requires handed { (handed.name ≡ M.name) × (handed.parts ≡ M.parts) × (handed.parts ≡ 1) }
 {
     let none = GlobalProfiler::new(alloc);
-    let (profiler, share, _) = opened::<L, M>(alloc, none, 1, reported, handed)?;
-    is_viewed(rt, alloc, &profiler, share)
+    let (profiler, share, _) = opened::<L, M>(&rt, alloc, none, 1, reported, handed);
+    is_viewed(rt, alloc, &profiler, share);
 }
 
 #[test]
-fn a_view_finds_scopes_by_name(rt: HostRuntime) -> Outcome {
-    attached::<Brand, Brand, HostRuntime>(rt, rt.alloc(), Blank::new(1), Blank::new(1))
+fn a_view_finds_scopes_by_name(rt: HostRuntime) {
+    attached::<Brand, Brand, HostRuntime>(rt, rt.alloc(), Blank::new(1), Blank::new(1));
 }

@@ -12,19 +12,19 @@ use std::alloc::Global;
 use std::process::Abort;
 use std::sync::ledger::{Blank, Ledger};
 use std::sync::{Arc, Wait};
-use std::test::Fail;
 
 /// A profiler, the share of whoever takes frames, and those of all others.
 pub(crate) type Opened<L, M> = (SharedProfiler<L, M>, Share<L, M>, Vec<Share<L, M>>);
 
 /// A profiler that nothing was reported to, shared by so many.
 pub(crate) fn opened<L: Ledger, M: Ledger>(
+    rt: &impl Abort,
     alloc: Global,
     profiler: GlobalProfiler,
     parts: usize,
     reported: Blank,
     handed: Blank,
-) -> Result<Opened<L, M>, Fail>
+) -> Opened<L, M>
     requires fresh { ((collected_of profiler).reported ≡ 0)
         × ((collected_of profiler).emitted ≡ 0) }
     requires some { 0 < parts }
@@ -36,12 +36,9 @@ pub(crate) fn opened<L: Ledger, M: Ledger>(
         × (handed.parts ≡ parts) }
 {
     let opened = SharedProfiler::<L, M>::open(alloc, profiler, parts, reported, handed);
-    let Ok((profiler, shares)) = opened else {
-        return Err(Fail::new("no memory"));
-    };
-    let mut shares = shares;
-    let own = shares.pop().ok_or("a share")?;
-    Ok((profiler, own, shares))
+    let (profiler, mut shares) = opened.ok().expect(rt, "memory");
+    let own = shares.pop().expect(rt, "a share");
+    (profiler, own, shares)
 }
 
 /// Closes a scope for each text on a thread with the name "main", and each is reported at its end.
@@ -52,15 +49,16 @@ fn closed<L: Ledger, M: Ledger, R: Wait + Abort>(
     form: Form,
     id: ScopeId,
     texts: &[&str],
-) -> Result<(), Fail> {
-    let name = String::from_str(alloc, "main")?;
+) {
+    let name = String::from_str(alloc, "main").expect(rt, "memory");
     let mut thread = ThreadProfiler::with_form(alloc, name, ScriptClock::new(5), form);
     for text in texts {
-        let scope = thread.begin_scope(id, text)?;
-        let closed = reporter.end_scope(&mut thread, scope)?;
+        let scope = thread.begin_scope(id, text).expect(rt, "a scope");
+        let closed = reporter
+            .end_scope(&mut thread, scope)
+            .expect(rt, "a report");
         equal(rt, closed, Closed::Reported);
     }
-    Ok(())
 }
 
 /// Reports by this share a scope for each text, and gives the share back.
@@ -72,10 +70,10 @@ pub(crate) fn reported<L: Ledger, M: Ledger, R: Wait + Abort + Copy + Drop>(
     form: Form,
     id: ScopeId,
     texts: &[&str],
-) -> Result<Share<L, M>, Fail> {
-    let mut reporter = SharedReporter::new(rt, profiler.clone()?, share);
-    closed(&rt, alloc, &mut reporter, form, id, texts)?;
-    Ok(reporter.into_share())
+) -> Share<L, M> {
+    let mut reporter = SharedReporter::new(rt, profiler.clone().expect(&rt, "memory"), share);
+    closed(&rt, alloc, &mut reporter, form, id, texts);
+    reporter.into_share()
 }
 
 /// The next frame, which no sink refuses.
@@ -83,8 +81,8 @@ pub(crate) fn next_frame<L: Ledger, M: Ledger, R: Wait + Abort>(
     rt: &R,
     profiler: &SharedProfiler<L, M>,
     share: &mut Share<L, M>,
-) -> Result<Arc<FrameData>, Fail> {
-    let emitted = profiler.new_frame(rt, share)?;
+) -> Arc<FrameData> {
+    let emitted = profiler.new_frame(rt, share).expect(rt, "a frame");
     equal(rt, emitted.refused, 0);
-    Ok(emitted.frame.ok_or("a frame")?)
+    emitted.frame.expect(rt, "a frame")
 }

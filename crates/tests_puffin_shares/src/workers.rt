@@ -12,11 +12,8 @@ use std::alloc::{AllocError, Global};
 use std::process::Abort;
 use std::sync::ledger::{Blank, Ledger};
 use std::sync::{Arc, Wait};
-use std::test::Fail;
 use std::thread;
 use std::thread::{JoinHandle, Threads};
-
-type Outcome = std::result::Result<(), Fail>;
 
 /// The names of the workers, which are the texts of their scopes too.
 pub(crate) const NAMES: [&str; 8] = ["w0", "w1", "w2", "w3", "w4", "w5", "w6", "w7"];
@@ -105,39 +102,44 @@ fn start<
 fn started<
     L: Ledger + Send + Sync + 'static,
     M: Ledger + Send + Sync + 'static,
-    R: Threads + Wait + Copy + Send + Sync + 'static,
+    R: Threads + Wait + Abort + Copy + Send + Sync + 'static,
 >(
     rt: R,
     alloc: Global,
     kind: Kind,
     profiler: &SharedProfiler<L, M>,
     shares: Vec<Share<L, M>>,
-) -> std::result::Result<Workers<L, M>, Fail> {
+) -> Workers<L, M> {
     let mut workers = Vec::new(alloc);
     for (worker, share) in shares.into_iter().enumerate() {
-        workers.push(start(rt, alloc, profiler.clone()?, share, kind, worker)?)?;
+        let profiler = profiler.clone().expect(&rt, "memory");
+        let started = start(rt, alloc, profiler, share, kind, worker);
+        workers
+            .push(started.expect(&rt, "a thread"))
+            .expect(&rt, "memory");
     }
-    Ok(workers)
+    workers
 }
 
 /// Waits for the workers' ends, and gives their shares back.
-fn joined<L: Ledger, M: Ledger, R: Threads + Wait>(
+fn joined<L: Ledger, M: Ledger, R: Threads + Wait + Abort>(
     rt: &R,
     alloc: Global,
     workers: Workers<L, M>,
-) -> std::result::Result<Vec<Share<L, M>>, Fail> {
+) -> Vec<Share<L, M>> {
     let mut back = Vec::new(alloc);
     for worker in workers {
-        back.push(worker.join(rt).ok_or("a worker")?)?;
+        back.push(worker.join(rt).expect(rt, "a worker"))
+            .expect(rt, "memory");
     }
-    Ok(back)
+    back
 }
 
 /// Starts a worker with each share, takes frames meanwhile, and gives the shares back.
 fn worked<
     L: Ledger + Send + Sync + 'static,
     M: Ledger + Send + Sync + 'static,
-    R: Threads + Wait + Copy + Send + Sync + 'static,
+    R: Threads + Wait + Abort + Copy + Send + Sync + 'static,
 >(
     rt: R,
     alloc: Global,
@@ -146,9 +148,9 @@ fn worked<
     shares: Vec<Share<L, M>>,
     own: &mut Share<L, M>,
     frames: &mut Frames,
-) -> std::result::Result<Vec<Share<L, M>>, Fail> {
-    let workers = started(rt, alloc, kind, profiler, shares)?;
-    taken(&rt, profiler, own, 200, frames)?;
+) -> Vec<Share<L, M>> {
+    let workers = started(rt, alloc, kind, profiler, shares);
+    taken(&rt, profiler, own, 200, frames).expect(&rt, "frames");
     joined(&rt, alloc, workers)
 }
 
@@ -202,26 +204,24 @@ fn one_too_few<L: Ledger, M: Ledger, R: Wait + Abort>(
     profiler: &SharedProfiler<L, M>,
     shares: Vec<Share<L, M>>,
     workers: usize,
-) -> std::result::Result<Vec<Share<L, M>>, Fail> {
-    let Err(shares) = profiler.settle(rt, shares) else {
-        return Err(Fail::new("the workers' shares are all"));
-    };
+) -> Vec<Share<L, M>> {
+    let shares = profiler
+        .settle(rt, shares)
+        .err()
+        .expect(rt, "too few shares");
     equal(rt, shares.len(), workers);
-    Ok(shares)
+    shares
 }
 
 /// The frames have so many scopes of each of these threads, in order.
-fn are_in_order<R: Abort>(
-    rt: &R,
-    alloc: Global,
-    frames: &Frames,
-    names: &[&str],
-    scopes: u32,
-) -> Outcome {
+fn are_in_order<R: Abort>(rt: &R, alloc: Global, frames: &Frames, names: &[&str], scopes: u32) {
     for name in names {
-        equal(rt, in_order(alloc, frames, name)?, Some(scopes));
+        equal(
+            rt,
+            in_order(alloc, frames, name).expect(rt, "scopes"),
+            Some(scopes),
+        );
     }
-    Ok(())
 }
 
 /// These shares are all, and so many scopes were reported and handed out, by the totals of each share too.
@@ -231,9 +231,9 @@ fn are_all<L: Ledger, M: Ledger, R: Wait + Abort>(
     shares: Vec<Share<L, M>>,
     own: Share<L, M>,
     scopes: u64,
-) -> Outcome {
+) {
     let mut shares = shares;
-    shares.push(own)?;
+    shares.push(own).expect(rt, "memory");
     for share in &mut shares {
         let totals = profiler.totals(rt, share);
         equal(
@@ -242,16 +242,13 @@ fn are_all<L: Ledger, M: Ledger, R: Wait + Abort>(
             (scopes, 0, scopes),
         );
     }
-    let Ok(settled) = profiler.settle(rt, shares) else {
-        return Err(Fail::new("the shares aren't all"));
-    };
+    let settled = profiler.settle(rt, shares).ok().expect(rt, "all shares");
     let all = Settled {
         reported: scopes,
         handed: scopes,
         pending: 0,
     };
     equal(rt, settled, all);
-    Ok(())
 }
 
 /// Workers with these names report on their threads, and one more takes frames: all scopes are handed out, each once.
@@ -268,14 +265,14 @@ fn are_handed_out<
     profiler: &SharedProfiler<L, M>,
     shares: Vec<Share<L, M>>,
     own: &mut Share<L, M>,
-) -> std::result::Result<Vec<Share<L, M>>, Fail> {
+) -> Vec<Share<L, M>> {
     let mut frames = Vec::new(alloc);
-    let shares = worked(rt, alloc, kind, profiler, shares, own, &mut frames)?;
-    let shares = one_too_few(&rt, profiler, shares, names.len())?;
-    taken(&rt, profiler, own, 1, &mut frames)?;
-    are_in_order(&rt, alloc, &frames, names, kind.scopes())?;
+    let shares = worked(rt, alloc, kind, profiler, shares, own, &mut frames);
+    let shares = one_too_few(&rt, profiler, shares, names.len());
+    taken(&rt, profiler, own, 1, &mut frames).expect(&rt, "frames");
+    are_in_order(&rt, alloc, &frames, names, kind.scopes());
     equal(&rt, scopes_in(&frames), all_scopes(kind, names));
-    Ok(shares)
+    shares
 }
 
 /// The same of a new profiler, with a share for each worker and one for whoever takes frames.
@@ -283,15 +280,7 @@ pub(crate) fn run<
     L: Ledger + Send + Sync + 'static,
     M: Ledger + Send + Sync + 'static,
     R: Threads + Wait + Abort + Copy + Send + Sync + 'static,
->(
-    rt: R,
-    alloc: Global,
-    kind: Kind,
-    names: &[&str],
-    parts: usize,
-    reported: Blank,
-    handed: Blank,
-) -> Outcome
+>(rt: R, alloc: Global, kind: Kind, names: &[&str], parts: usize, reported: Blank, handed: Blank)
     requires some { 0 < parts }
     requires reported { (reported.name ≡ L.name)
         × (reported.parts ≡ L.parts)
@@ -301,7 +290,7 @@ pub(crate) fn run<
         × (handed.parts ≡ parts) }
 {
     let none = GlobalProfiler::new(alloc);
-    let (profiler, mut own, shares) = opened::<L, M>(alloc, none, parts, reported, handed)?;
-    let shares = are_handed_out(rt, alloc, kind, names, &profiler, shares, &mut own)?;
-    are_all(&rt, &profiler, shares, own, all_scopes(kind, names))
+    let (profiler, mut own, shares) = opened::<L, M>(&rt, alloc, none, parts, reported, handed);
+    let shares = are_handed_out(rt, alloc, kind, names, &profiler, shares, &mut own);
+    are_all(&rt, &profiler, shares, own, all_scopes(kind, names));
 }

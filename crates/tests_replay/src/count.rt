@@ -1,7 +1,7 @@
 ghost use Rattle.std.specs.Prelude.{◌≡◌, ◌+◌, ◌-◌, ◌^◌, ◌<◌, if◌then◌else◌};
 
 use crate::equal::equal;
-use crate::steps::{Outcome, texts};
+use crate::steps::texts;
 use puffin_data::data::{Counted, Drain, Source};
 use puffin_data::{Error, FileError};
 use puffin_replay::replay::*;
@@ -99,7 +99,7 @@ pub(crate) fn device<'a>(
 }
 
 #[test]
-fn std_readers_and_writers_are_counted(rt: HostRuntime) -> Outcome<()> {
+fn std_readers_and_writers_are_counted(rt: HostRuntime) {
     let mut written = Vec::new(rt.alloc());
     let answer = count_stream(
         rt.alloc(),
@@ -108,7 +108,6 @@ fn std_readers_and_writers_are_counted(rt: HostRuntime) -> Outcome<()> {
     );
     equal(&rt, answer, Ok(None));
     equal(&rt, written.as_slice(), ONE_LINES);
-    Ok(())
 }
 
 #[test]
@@ -173,11 +172,10 @@ fn is_replay(task: &Option<Task>, asked: &str, file: &str) -> bool {
 }
 
 #[test]
-fn replay_with_two_files_is_a_task(rt: HostRuntime) -> Outcome<()> {
-    let words = texts(rt.alloc(), &["replay", "a script", "b"])?;
-    let task = read_words(&words)?;
+fn replay_with_two_files_is_a_task(rt: HostRuntime) {
+    let words = texts(rt.alloc(), &["replay", "a script", "b"]).expect(&rt, "memory");
+    let task = read_words(&words).expect(&rt, "a task");
     assert!(rt; is_replay(&task, "a script", "b"));
-    Ok(())
 }
 
 const USAGE: &str = "usage: puffin-tool count | replay SCRIPT OUT | report FILE THREAD\n";

@@ -1,11 +1,10 @@
 use crate::equal::equal;
 use crate::session::is_no_frame;
 use crate::steps::Step::{Begin, End, NewFrame, Register, RegisterUser, Snapshot};
-use crate::steps::{Outcome, replies};
+use crate::steps::replies;
 use puffin_data::Error;
 use puffin_data::data::ScopeId;
 use puffin_replay::replay::Reply;
-use std::test::Fail;
 
 fn is_registered(reply: Option<&Reply>, number: u32) -> bool {
     match reply {
@@ -39,12 +38,20 @@ fn tells_of(
             .all(|(details, name)| details.name().as_str() == *name)
 }
 
+/// The ids in a reply to scopes of the user's own that were registered.
+fn registered(reply: Option<&Reply>) -> Option<&Vec<ScopeId>> {
+    match reply {
+        Some(Reply::RegisteredUser(ids)) => Some(ids),
+        _ => None,
+    }
+}
+
 #[test]
-fn a_name_keeps_its_id(rt: HostRuntime) -> Outcome<()> {
-    let replies = replies(rt.alloc(), &["a"], &[RegisterUser(&["u", "u", "v"])])?;
-    let Some(Reply::RegisteredUser(ids)) = replies.get(0) else {
-        return Err(Fail::new("not registered"));
-    };
+fn a_name_keeps_its_id(rt: HostRuntime) {
+    let replies = replies(rt.alloc(), &["a"], &[RegisterUser(&["u", "u", "v"])]).expect(
+        &rt, "replies",
+    );
+    let ids = registered(replies.get(0)).expect(&rt, "ids");
     equal(&rt, ids.len(), 3);
     equal(
         &rt,
@@ -61,11 +68,10 @@ fn a_name_keeps_its_id(rt: HostRuntime) -> Outcome<()> {
         ids.get(2).copied().map_or(0, |id: ScopeId| id.get()),
         2,
     );
-    Ok(())
 }
 
 #[test]
-fn a_function_comes_with_the_first_frame_after_its_report(rt: HostRuntime) -> Outcome<()> {
+fn a_function_comes_with_the_first_frame_after_its_report(rt: HostRuntime) {
     let replies = replies(
         rt.alloc(),
         &["a"],
@@ -76,16 +82,16 @@ fn a_function_comes_with_the_first_frame_after_its_report(rt: HostRuntime) -> Ou
             End(0, 200),
             NewFrame,
         ],
-    )?;
+    )
+    .expect(&rt, "replies");
     equal(&rt, replies.len(), 5);
     assert!(rt; is_registered(replies.get(0), 1));
     assert!(rt; is_no_frame(replies.get(1)));
     assert!(rt; tells_of(replies.get(4), (1, 31), &["f"], false));
-    Ok(())
 }
 
 #[test]
-fn a_snapshot_tells_of_what_was_known_before(rt: HostRuntime) -> Outcome<()> {
+fn a_snapshot_tells_of_what_was_known_before(rt: HostRuntime) {
     let replies = replies(
         rt.alloc(),
         &["a"],
@@ -105,17 +111,17 @@ fn a_snapshot_tells_of_what_was_known_before(rt: HostRuntime) -> Outcome<()> {
             End(0, 600),
             NewFrame,
         ],
-    )?;
+    )
+    .expect(&rt, "replies");
     equal(&rt, replies.len(), 13);
     assert!(rt; matches!(replies.get(4), Some(Reply::Snapshot)));
     assert!(rt; tells_of(replies.get(5), (1, 31), &["f"], true));
     assert!(rt; tells_of(replies.get(9), (1, 31), &["f"], true));
     assert!(rt; tells_of(replies.get(12), (1, 31), &[], false));
-    Ok(())
 }
 
 #[test]
-fn a_scope_in_a_function_twice(rt: HostRuntime) -> Outcome<()> {
+fn a_scope_in_a_function_twice(rt: HostRuntime) {
     let replies = replies(
         rt.alloc(),
         &["a"],
@@ -133,16 +139,16 @@ fn a_scope_in_a_function_twice(rt: HostRuntime) -> Outcome<()> {
             End(0, 800),
             NewFrame,
         ],
-    )?;
+    )
+    .expect(&rt, "replies");
     equal(&rt, replies.len(), 12);
     assert!(rt; is_registered(replies.get(1), 2));
     assert!(rt; tells_of(replies.get(6), (2, 62), &["f", "part"], false));
     assert!(rt; tells_of(replies.get(11), (2, 62), &[], false));
-    Ok(())
 }
 
 #[test]
-fn a_thread_that_is_not_there_registers_nothing(rt: HostRuntime) -> Outcome<()> {
+fn a_thread_that_is_not_there_registers_nothing(rt: HostRuntime) {
     let replies = replies(
         rt.alloc(),
         &["a"],
@@ -152,9 +158,9 @@ fn a_thread_that_is_not_there_registers_nothing(rt: HostRuntime) -> Outcome<()> 
             End(0, 200),
             NewFrame,
         ],
-    )?;
+    )
+    .expect(&rt, "replies");
     equal(&rt, replies.len(), 4);
     assert!(rt; matches!(replies.get(0), Some(Reply::Refused(Error::NoThread))));
     assert!(rt; tells_of(replies.get(3), (1, 31), &[], false));
-    Ok(())
 }

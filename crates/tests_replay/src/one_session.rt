@@ -3,7 +3,7 @@
 use crate::count::{NEVER, device};
 use crate::equal::equal;
 use crate::steps::Step::{Begin, End, NewFrame};
-use crate::steps::{Outcome, Step, commands, texts};
+use crate::steps::{Step, commands, texts};
 use puffin_replay::replay::{Session, record_session};
 use puffin_view::profile_view::FrameView;
 use std::alloc::AllocGlobal;
@@ -23,27 +23,26 @@ fn records(
     view: &mut FrameView,
     steps: &[Step],
     file: &[u8],
-) -> Outcome<()> {
-    let commands = commands(rt.alloc(), steps)?;
+) {
+    let commands = commands(rt.alloc(), steps).expect(rt, "commands");
     let mut drain = device(rt, b"", 1000, NEVER);
-    let replies = record_session(session, &commands, view, &mut drain)?;
+    let replies = record_session(session, &commands, view, &mut drain).expect(rt, "replies");
     equal(rt, replies.len(), steps.len());
     equal(rt, drain.written.as_slice(), file);
-    Ok(())
 }
 
 /// Records both frames into one view.
-fn records_both(
-    rt: &(impl AllocGlobal + Abort),
-    session: &mut Session,
-    view: &mut FrameView,
-) -> Outcome<()> {
-    records(rt, session, view, FIRST, &FILE[..ONE_FRAME])?;
-    records(rt, session, view, SECOND, &FILE)
+fn records_both(rt: &(impl AllocGlobal + Abort), session: &mut Session, view: &mut FrameView) {
+    records(rt, session, view, FIRST, &FILE[..ONE_FRAME]);
+    records(rt, session, view, SECOND, &FILE);
 }
 
 #[test]
-fn a_session_goes_on_with_the_next_index(rt: HostRuntime) -> Outcome<()> {
-    let mut session = Session::new(rt.alloc(), texts(rt.alloc(), &["main"])?)?;
-    records_both(&rt, &mut session, &mut FrameView::new(rt.alloc()))
+fn a_session_goes_on_with_the_next_index(rt: HostRuntime) {
+    let mut session = Session::new(
+        rt.alloc(),
+        texts(rt.alloc(), &["main"]).expect(&rt, "memory"),
+    )
+    .expect(&rt, "a session");
+    records_both(&rt, &mut session, &mut FrameView::new(rt.alloc()));
 }

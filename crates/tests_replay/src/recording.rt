@@ -1,6 +1,6 @@
 use crate::equal::equal;
 use crate::steps::Step::{Begin, End, NewFrame};
-use crate::steps::{Outcome, Step, commands, texts};
+use crate::steps::{Step, commands, texts};
 use puffin_data::NanoSecond;
 use puffin_data::data::Form;
 use puffin_frames::frame_data::{FrameData, UnpackedFrameData};
@@ -27,7 +27,7 @@ const THREE_FRAMES: &[Step] = &[
 ];
 
 /// The name of the thread, whose texts are short.
-fn main_thread(rt: &impl AllocGlobal) -> Outcome<Vec<(String, Form)>> {
+fn main_thread(rt: &impl AllocGlobal) -> puffin_data::Result<Vec<(String, Form)>> {
     let mut threads = Vec::new(rt.alloc());
     threads.push((String::from_str(rt.alloc(), "main")?, Form::Short))?;
     Ok(threads)
@@ -39,18 +39,23 @@ fn recorded(
     max_recent: usize,
     max_slow: usize,
     packs: bool,
-) -> Outcome<Recording> {
+) -> Recording {
     let limits = Limits {
         max_recent,
         max_slow,
         packs,
     };
-    let commands = commands(rt.alloc(), THREE_FRAMES)?;
-    let recording = record_and_read(rt.alloc(), main_thread(rt)?, &commands, limits).map_err(
-        |unread| unread.fault,
-    )?;
+    let commands = commands(rt.alloc(), THREE_FRAMES).expect(rt, "commands");
+    let recording = record_and_read(
+        rt.alloc(),
+        main_thread(rt).expect(rt, "memory"),
+        &commands,
+        limits,
+    )
+    .map_err(|unread| unread.fault)
+    .expect(rt, "a view");
     equal(rt, recording.replies.len(), 9);
-    Ok(recording)
+    recording
 }
 
 /// The number of a frame, the range of its scopes, and how many they are.
@@ -83,31 +88,29 @@ fn holds(rt: &impl Abort, frame: &UnpackedFrameData, bytes: &[u8]) {
 }
 
 /// The first frame that is read.
-fn first_read(recording: &Recording) -> Outcome<&Arc<FrameData>> {
-    Ok(recording.view.recent_frames().next().ok_or("no frame")?)
+fn first_read(recording: &Recording) -> Option<&Arc<FrameData>> {
+    recording.view.recent_frames().next()
 }
 
 /// A copy of a frame, unpacked.
-fn unpacked_copy(frame: &FrameData) -> Outcome<Arc<UnpackedFrameData>> {
-    let mut copy = frame.packed_copy()?;
-    Ok(copy.unpacked()?)
+fn unpacked_copy(rt: &impl Abort, frame: &FrameData) -> Arc<UnpackedFrameData> {
+    let mut copy = frame.packed_copy().expect(rt, "memory");
+    copy.unpacked().expect(rt, "streams")
 }
 
 /// The first frame that is read holds the longest scope.
-fn holds_longest(rt: &impl Abort, recording: &Recording) -> Outcome<()> {
-    let unpacked = unpacked_copy(first_read(recording)?)?;
+fn holds_longest(rt: &impl Abort, recording: &Recording) {
+    let unpacked = unpacked_copy(rt, first_read(recording).expect(rt, "a frame"));
     holds(rt, &unpacked, LONGEST);
-    Ok(())
 }
 
 #[test]
-fn the_last_and_the_slowest_frames_are_read_again(rt: HostRuntime) -> Outcome<()> {
+fn the_last_and_the_slowest_frames_are_read_again(rt: HostRuntime) {
     for packs in [true, false] {
-        let recording = recorded(&rt, 1, 1, packs)?;
+        let recording = recorded(&rt, 1, 1, packs);
         reads(&rt, &recording, &[(0, (100, 300)), (2, (500, 600))]);
-        holds_longest(&rt, &recording)?;
+        holds_longest(&rt, &recording);
     }
-    Ok(())
 }
 
 /// Where the last and the slowest so many frames are kept, just these are read, also where frames
@@ -117,24 +120,23 @@ fn keeps(
     max_recent: usize,
     max_slow: usize,
     frames: &[(u64, (NanoSecond, NanoSecond))],
-) -> Outcome<()> {
+) {
     for packs in [true, false] {
-        reads(rt, &recorded(rt, max_recent, max_slow, packs)?, frames);
+        reads(rt, &recorded(rt, max_recent, max_slow, packs), frames);
     }
-    Ok(())
 }
 
 #[test]
-fn as_many_frames_are_read_again_as_are_kept(rt: HostRuntime) -> Outcome<()> {
-    keeps(&rt, 2, 0, &[(1, (400, 450)), (2, (500, 600))])?;
-    keeps(&rt, 0, 2, &[(0, (100, 300)), (2, (500, 600))])?;
-    keeps(&rt, 0, 0, &[])?;
+fn as_many_frames_are_read_again_as_are_kept(rt: HostRuntime) {
+    keeps(&rt, 2, 0, &[(1, (400, 450)), (2, (500, 600))]);
+    keeps(&rt, 0, 2, &[(0, (100, 300)), (2, (500, 600))]);
+    keeps(&rt, 0, 0, &[]);
     keeps(
         &rt,
         2,
         1,
         &[(0, (100, 300)), (1, (400, 450)), (2, (500, 600))],
-    )
+    );
 }
 
 /// A scope in a frame of its own, and the begin of another one.
@@ -155,34 +157,33 @@ fn goes_on(
     view: &mut FrameView,
     steps: &[Step],
     frames: &[(u64, (NanoSecond, NanoSecond))],
-) -> Outcome<()> {
-    let commands = commands(rt.alloc(), steps)?;
-    let recording = record_session_and_read(rt.alloc(), session, &commands, view).map_err(
-        |unread| unread.fault,
-    )?;
+) {
+    let commands = commands(rt.alloc(), steps).expect(rt, "commands");
+    let recording = record_session_and_read(rt.alloc(), session, &commands, view)
+        .map_err(|unread| unread.fault)
+        .expect(rt, "a view");
     equal(rt, recording.replies.len(), steps.len());
     reads(rt, &recording, frames);
-    Ok(())
 }
 
 /// A scope that was begun in one recording is read again of the next one, behind the frame that the view holds already.
-fn goes_on_twice(
-    rt: &(impl AllocGlobal + Abort),
-    session: &mut Session,
-    view: &mut FrameView,
-) -> Outcome<()> {
-    goes_on(rt, session, view, ONE_AND_A_BEGIN, &[(0, (100, 300))])?;
+fn goes_on_twice(rt: &(impl AllocGlobal + Abort), session: &mut Session, view: &mut FrameView) {
+    goes_on(rt, session, view, ONE_AND_A_BEGIN, &[(0, (100, 300))]);
     goes_on(
         rt,
         session,
         view,
         AN_END,
         &[(0, (100, 300)), (1, (400, 450))],
-    )
+    );
 }
 
 #[test]
-fn a_session_and_a_view_go_on(rt: HostRuntime) -> Outcome<()> {
-    let mut session = Session::new(rt.alloc(), texts(rt.alloc(), &["main"])?)?;
-    goes_on_twice(&rt, &mut session, &mut FrameView::new(rt.alloc()))
+fn a_session_and_a_view_go_on(rt: HostRuntime) {
+    let mut session = Session::new(
+        rt.alloc(),
+        texts(rt.alloc(), &["main"]).expect(&rt, "memory"),
+    )
+    .expect(&rt, "a session");
+    goes_on_twice(&rt, &mut session, &mut FrameView::new(rt.alloc()));
 }

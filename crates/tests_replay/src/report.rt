@@ -1,7 +1,6 @@
 use crate::count::{NEVER, device};
 use crate::equal::equal;
 use crate::run::{Written, run_of_text};
-use crate::steps::Outcome;
 use puffin_data::FileError;
 use puffin_data::data::Counted;
 use puffin_replay::replay::print_report;
@@ -47,7 +46,7 @@ const SCRIPTS: [(&[u8], &[u8], &[u8]); 3] = [
 ];
 
 /// The run of the script with this text.
-fn run(rt: &(impl AllocGlobal + Abort), text: &[u8]) -> Outcome<Written> {
+fn run(rt: &(impl AllocGlobal + Abort), text: &[u8]) -> Written {
     run_of_text(rt, text, 1000)
 }
 
@@ -66,21 +65,24 @@ fn reported(
 }
 
 /// Checks what is printed of a file for the thread of these scripts.
-fn reports(rt: &(impl AllocGlobal + Abort), file: &[u8], lines: &[u8]) -> Outcome<()> {
-    let (answer, written) = reported(rt, file, NEVER, &packet_thread(rt.alloc())?);
+fn reports(rt: &(impl AllocGlobal + Abort), file: &[u8], lines: &[u8]) {
+    let (answer, written) = reported(
+        rt,
+        file,
+        NEVER,
+        &packet_thread(rt.alloc()).expect(rt, "memory"),
+    );
     equal(rt, answer, Ok(()));
     equal(rt, written.as_slice(), lines);
-    Ok(())
 }
 
 #[test]
-fn the_file_that_a_script_writes_is_reported(rt: HostRuntime) -> Outcome<()> {
+fn the_file_that_a_script_writes_is_reported(rt: HostRuntime) {
     for (script, lines, report) in SCRIPTS {
-        let run = run(&rt, script)?;
+        let run = run(&rt, script);
         equal(&rt, run.lines.as_slice(), lines);
-        reports(&rt, &run.file, report)?;
+        reports(&rt, &run.file, report);
     }
-    Ok(())
 }
 
 /// Whether the whole report is written where this call of its writer fails. If not, its
@@ -98,15 +100,14 @@ fn is_whole(rt: &(impl AllocGlobal + Abort), file: &[u8], thread: &ThreadInfo, c
 }
 
 #[test]
-fn a_report_that_is_not_written_whole_is_told(rt: HostRuntime) -> Outcome<()> {
-    let file = run(&rt, ONE)?.file;
-    let main = packet_thread(rt.alloc())?;
+fn a_report_that_is_not_written_whole_is_told(rt: HostRuntime) {
+    let file = run(&rt, ONE).file;
+    let main = packet_thread(rt.alloc()).expect(&rt, "memory");
     let mut whole = false;
     for call in 0..60u64 {
         whole = is_whole(&rt, &file, &main, call);
     }
     assert!(rt; whole);
-    Ok(())
 }
 
 /// Reading the file of [`ONE`] in pieces of three bytes takes so many calls, the last of which finds its end.
@@ -124,9 +125,9 @@ fn is_read(rt: &(impl AllocGlobal + Abort), file: &[u8], thread: &ThreadInfo, ca
 }
 
 #[test]
-fn a_file_that_is_not_read_whole_is_told(rt: HostRuntime) -> Outcome<()> {
-    let file = run(&rt, ONE)?.file;
-    let main = packet_thread(rt.alloc())?;
+fn a_file_that_is_not_read_whole_is_told(rt: HostRuntime) {
+    let file = run(&rt, ONE).file;
+    let main = packet_thread(rt.alloc()).expect(&rt, "memory");
     for call in 0..READS + 1 {
         equal(
             &rt,
@@ -134,5 +135,4 @@ fn a_file_that_is_not_read_whole_is_told(rt: HostRuntime) -> Outcome<()> {
             (call, call == READS),
         );
     }
-    Ok(())
 }

@@ -2,7 +2,6 @@
 
 use crate::count::{NEVER, device};
 use crate::equal::equal;
-use crate::steps::Outcome;
 use puffin_data::FileError;
 use puffin_data::data::Counted;
 use puffin_replay::replay::{Script, read_script, run_script};
@@ -40,9 +39,9 @@ pub(crate) fn run_of_text(
     rt: &(impl AllocGlobal + Abort),
     text: &[u8],
     lines_piece: usize,
-) -> Outcome<Written> {
-    let script = read_script(rt.alloc(), &mut Counted::new(text))?;
+) -> Written {
+    let script = read_script(rt.alloc(), &mut Counted::new(text)).expect(rt, "a script");
     let run = run(rt, &script, (1000, NEVER), (lines_piece, NEVER));
     equal(rt, run.answer, Ok(()));
-    Ok(run)
+    run
 }

@@ -1,5 +1,4 @@
 use crate::equal::equal;
-use crate::steps::Outcome;
 use puffin_data::FileError;
 use puffin_data::data::{Counted, Form, Source};
 use puffin_replay::replay::{Command, Script, ToolFault, read_script};
@@ -116,15 +115,14 @@ fn are_two(texts: &[String], one: &str, other: &str) -> bool {
 }
 
 #[test]
-fn each_form_of_line_is_a_command(rt: HostRuntime) -> Outcome<()> {
-    let script = script(&rt, FORMS.as_bytes())?;
+fn each_form_of_line_is_a_command(rt: HostRuntime) {
+    let script = script(&rt, FORMS.as_bytes()).expect(&rt, "a script");
     has_scopes(&rt, &script.commands);
     has_details(&rt, &script.commands);
     has_frames(&rt, &script.commands);
     let lines = [1, 4, 5, 6, 7, 8, 9, 10, 11];
     equal(&rt, script.lines.as_slice(), lines.as_slice());
     assert!(rt; are_two(&script.names, "main", "other"));
-    Ok(())
 }
 
 /// The first of the commands end scopes of these threads at these times.
@@ -135,14 +133,13 @@ fn are_ends(rt: &impl Abort, commands: &[Command], ends: &[(usize, i64)]) {
 }
 
 #[test]
-fn threads_are_numbered_as_they_appear(rt: HostRuntime) -> Outcome<()> {
+fn threads_are_numbered_as_they_appear(rt: HostRuntime) {
     let text = "end c 1\nend a 1\nend b 1\nend a 2\nend c 2\nfunction d f g 1\n";
-    let script = script(&rt, text.as_bytes())?;
+    let script = script(&rt, text.as_bytes()).expect(&rt, "a script");
     let ends = [(0, 1), (1, 1), (2, 1), (1, 2), (0, 2)];
     are_ends(&rt, &script.commands, &ends);
     assert!(rt; is_register(script.commands.get(5), 3, None, ("f", "g", 1)));
     equal(&rt, script.names.len(), 4);
-    Ok(())
 }
 
 /// Lines that are no commands.
@@ -194,12 +191,11 @@ fn other_lines_are_refused(rt: HostRuntime) {
 }
 
 #[test]
-fn a_long_line_gives_a_thread_its_form(rt: HostRuntime) -> Outcome<()> {
-    let long = script(&rt, b"long b\nbegin a 1 1\nbegin b 2 1\nlong c")?;
+fn a_long_line_gives_a_thread_its_form(rt: HostRuntime) {
+    let long = script(&rt, b"long b\nbegin a 1 1\nbegin b 2 1\nlong c").expect(&rt, "a script");
     let forms = [Form::Long, Form::Short, Form::Long];
     equal(&rt, long.forms.as_slice(), forms.as_slice());
     equal(&rt, long.lines.as_slice(), [2, 3].as_slice());
-    Ok(())
 }
 
 /// A reader that fails at once.

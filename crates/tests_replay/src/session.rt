@@ -1,6 +1,6 @@
 use crate::equal::equal;
 use crate::steps::Step::{Begin, End, EndOuter, NewFrame, Report};
-use crate::steps::{Outcome, replies, replies_in_two_forms, replies_of, session};
+use crate::steps::{replies, replies_in_two_forms, replies_of, session};
 use puffin_data::data::Form;
 use puffin_data::{Error, NanoSecond};
 use puffin_replay::replay::Reply;
@@ -47,7 +47,7 @@ pub(crate) fn is_no_frame(reply: Option<&Reply>) -> bool {
 }
 
 #[test]
-fn a_scope_comes_with_the_frame_after_its_end(rt: HostRuntime) -> Outcome<()> {
+fn a_scope_comes_with_the_frame_after_its_end(rt: HostRuntime) {
     let replies = replies(
         rt.alloc(),
         &["a", "b"],
@@ -59,7 +59,8 @@ fn a_scope_comes_with_the_frame_after_its_end(rt: HostRuntime) -> Outcome<()> {
             End(0, 300),
             NewFrame,
         ],
-    )?;
+    )
+    .expect(&rt, "replies");
     equal(&rt, replies.len(), 6);
     assert!(rt; matches!(replies.get(0), Some(Reply::Began(14))));
     assert!(rt; matches!(replies.get(1), Some(Reply::Began(15))));
@@ -67,7 +68,6 @@ fn a_scope_comes_with_the_frame_after_its_end(rt: HostRuntime) -> Outcome<()> {
     assert!(rt; is_frame(replies.get(3), 0, Some(150), "b", 32, (150, 250)));
     assert!(rt; matches!(replies.get(4), Some(Reply::Ended(Closed::Reported))));
     assert!(rt; is_frame(replies.get(5), 1, Some(100), "a", 31, (100, 300)));
-    Ok(())
 }
 
 /// One scope with the id 1 and no text, from the least time to the least time.
@@ -95,7 +95,7 @@ fn holds(reply: Option<&Reply>, bytes: &[u8]) -> bool {
 }
 
 #[test]
-fn what_was_kept_back_comes_with_the_next_report(rt: HostRuntime) -> Outcome<()> {
+fn what_was_kept_back_comes_with_the_next_report(rt: HostRuntime) {
     let replies = replies(
         rt.alloc(),
         &["a"],
@@ -108,7 +108,8 @@ fn what_was_kept_back_comes_with_the_next_report(rt: HostRuntime) -> Outcome<()>
             End(0, 400),
             NewFrame,
         ],
-    )?;
+    )
+    .expect(&rt, "replies");
     equal(&rt, replies.len(), 7);
     assert!(rt; matches!(replies.get(0), Some(Reply::Reported)));
     assert!(rt;
@@ -124,24 +125,23 @@ fn what_was_kept_back_comes_with_the_next_report(rt: HostRuntime) -> Outcome<()>
     assert!(rt; matches!(replies.get(5), Some(Reply::Ended(Closed::Reported))));
     assert!(rt; is_frame(replies.get(6), 1, Some(100), "a", 62, (100, 400)));
     assert!(rt; holds(replies.get(6), BOTH));
-    Ok(())
 }
 
 #[test]
-fn a_frame_without_scopes_has_a_number(rt: HostRuntime) -> Outcome<()> {
+fn a_frame_without_scopes_has_a_number(rt: HostRuntime) {
     let replies = replies(
         rt.alloc(),
         &["a"],
         &[NewFrame, Begin(0, 5, 1, ""), End(0, 5), NewFrame],
-    )?;
+    )
+    .expect(&rt, "replies");
     equal(&rt, replies.len(), 4);
     assert!(rt; is_no_frame(replies.get(0)));
     assert!(rt; is_frame(replies.get(3), 1, Some(5), "a", 31, (5, 5)));
-    Ok(())
 }
 
 #[test]
-fn an_outer_scope_is_not_ended(rt: HostRuntime) -> Outcome<()> {
+fn an_outer_scope_is_not_ended(rt: HostRuntime) {
     let replies = replies(
         rt.alloc(),
         &["a"],
@@ -154,17 +154,17 @@ fn an_outer_scope_is_not_ended(rt: HostRuntime) -> Outcome<()> {
             End(0, 5),
             End(0, 6),
         ],
-    )?;
+    )
+    .expect(&rt, "replies");
     equal(&rt, replies.len(), 6);
     assert!(rt; matches!(replies.get(2), Some(Reply::Refused(Error::MismatchedEnd))));
     assert!(rt; matches!(replies.get(3), Some(Reply::Ended(Closed::Inner))));
     assert!(rt; matches!(replies.get(4), Some(Reply::Ended(Closed::Reported))));
     assert!(rt; matches!(replies.get(5), Some(Reply::Refused(Error::MismatchedEnd))));
-    Ok(())
 }
 
 #[test]
-fn refused_commands_change_nothing(rt: HostRuntime) -> Outcome<()> {
+fn refused_commands_change_nothing(rt: HostRuntime) {
     let replies = replies(
         rt.alloc(),
         &["a"],
@@ -175,31 +175,33 @@ fn refused_commands_change_nothing(rt: HostRuntime) -> Outcome<()> {
             End(0, 3),
             NewFrame,
         ],
-    )?;
+    )
+    .expect(&rt, "replies");
     equal(&rt, replies.len(), 5);
     assert!(rt; matches!(replies.get(0), Some(Reply::Refused(Error::NoThread))));
     assert!(rt; matches!(replies.get(1), Some(Reply::Refused(Error::NoThread))));
     assert!(rt; matches!(replies.get(2), Some(Reply::Refused(Error::PrematureEnd))));
     assert!(rt; matches!(replies.get(3), Some(Reply::Refused(Error::MismatchedEnd))));
     assert!(rt; is_no_frame(replies.get(4)));
-    Ok(())
 }
 
 #[test]
-fn a_clock_that_falls_stands_still(rt: HostRuntime) -> Outcome<()> {
+fn a_clock_that_falls_stands_still(rt: HostRuntime) {
     let alloc = rt.alloc();
-    let mut session = session(alloc, &["a"])?;
+    let mut session = session(alloc, &["a"]).expect(&rt, "a session");
     let first = replies_of(
         alloc,
         &mut session,
         &[Begin(0, -7, 1, ""), Begin(0, 50, 2, "")],
-    )?;
+    )
+    .expect(&rt, "replies");
     equal(&rt, first.len(), 2);
     // The session goes on where it stood.
-    let replies = replies_of(alloc, &mut session, &[End(0, 20), End(0, 30), NewFrame])?;
+    let replies = replies_of(alloc, &mut session, &[End(0, 20), End(0, 30), NewFrame]).expect(
+        &rt, "replies",
+    );
     equal(&rt, replies.len(), 3);
     assert!(rt; is_frame(replies.get(2), 0, Some(0), "a", 62, (0, 50)));
-    Ok(())
 }
 
 /// The form of a frame's first stream.
@@ -213,7 +215,7 @@ fn form_in(reply: Option<&Reply>) -> Option<Form> {
 }
 
 #[test]
-fn unlike_forms_under_one_info_come_in_frames_of_their_own(rt: HostRuntime) -> Outcome<()> {
+fn unlike_forms_under_one_info_come_in_frames_of_their_own(rt: HostRuntime) {
     let replies = replies_in_two_forms(
         rt.alloc(),
         &[
@@ -226,7 +228,8 @@ fn unlike_forms_under_one_info_come_in_frames_of_their_own(rt: HostRuntime) -> O
             End(1, 400),
             NewFrame,
         ],
-    )?;
+    )
+    .expect(&rt, "replies");
     assert!(rt; matches!(replies.get(1), Some(Reply::Ended(Closed::Reported))));
     assert!(rt;
         matches!(
@@ -239,5 +242,4 @@ fn unlike_forms_under_one_info_come_in_frames_of_their_own(rt: HostRuntime) -> O
     assert!(rt; is_frame(replies.get(7), 1, Some(100), "t", 62, (100, 400)));
     equal(&rt, form_in(replies.get(4)), Some(Form::Short));
     equal(&rt, form_in(replies.get(7)), Some(Form::Long));
-    Ok(())
 }

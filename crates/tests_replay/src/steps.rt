@@ -1,14 +1,11 @@
 //! What is done with a session, as plain values: tests list it, and compare the replies or what is recorded.
 
-use puffin_data::NanoSecond;
 use puffin_data::data::Form;
+use puffin_data::{NanoSecond, Result};
 use puffin_replay::replay::{Command, Reply, Session};
 use std::alloc::Global;
-use std::test::Fail;
 use tests_support::streams::{id, stream_of};
 use tests_support::threads::thread_info;
-
-pub(crate) type Outcome<T> = Result<T, Fail>;
 
 /// A command.
 #[derive(Clone, Copy)]
@@ -29,11 +26,11 @@ pub(crate) enum Step {
     NewFrame,
 }
 
-fn text(alloc: Global, text: &str) -> Outcome<String> {
+fn text(alloc: Global, text: &str) -> Result<String> {
     Ok(String::from_str(alloc, text)?)
 }
 
-pub(crate) fn texts(alloc: Global, texts: &[&str]) -> Outcome<Vec<String>> {
+pub(crate) fn texts(alloc: Global, texts: &[&str]) -> Result<Vec<String>> {
     let mut owned = Vec::new(alloc);
     for one in texts {
         owned.push(text(alloc, one)?)?;
@@ -41,13 +38,7 @@ pub(crate) fn texts(alloc: Global, texts: &[&str]) -> Outcome<Vec<String>> {
     Ok(owned)
 }
 
-fn begin(
-    alloc: Global,
-    thread: usize,
-    at: NanoSecond,
-    number: u32,
-    name: &str,
-) -> Outcome<Command> {
+fn begin(alloc: Global, thread: usize, at: NanoSecond, number: u32, name: &str) -> Result<Command> {
     let id = id(number)?;
     let text = text(alloc, name)?;
     Ok(Command::Begin {
@@ -58,7 +49,7 @@ fn begin(
     })
 }
 
-fn register(alloc: Global, thread: usize, name: Option<&str>, function: &str) -> Outcome<Command> {
+fn register(alloc: Global, thread: usize, name: Option<&str>, function: &str) -> Result<Command> {
     let name = match name {
         Some(name) => Some(text(alloc, name)?),
         None => None,
@@ -72,7 +63,7 @@ fn register(alloc: Global, thread: usize, name: Option<&str>, function: &str) ->
     })
 }
 
-fn report(alloc: Global, name: &str, bytes: &[u8]) -> Outcome<Command> {
+fn report(alloc: Global, name: &str, bytes: &[u8]) -> Result<Command> {
     let info = thread_info(alloc, None, name)?;
     let stream = stream_of(alloc, bytes)?;
     Ok(Command::ReportUser { info, stream })
@@ -82,7 +73,7 @@ fn end(thread: usize, at: NanoSecond, back: usize) -> Command {
     Command::End { thread, at, back }
 }
 
-fn command(alloc: Global, step: Step) -> Outcome<Command> {
+fn command(alloc: Global, step: Step) -> Result<Command> {
     match step {
         Step::Begin(thread, at, id, name) => begin(alloc, thread, at, id, name),
         Step::End(thread, at) => Ok(end(thread, at, 0)),
@@ -97,7 +88,7 @@ fn command(alloc: Global, step: Step) -> Outcome<Command> {
     }
 }
 
-pub(crate) fn commands(alloc: Global, steps: &[Step]) -> Outcome<Vec<Command>> {
+pub(crate) fn commands(alloc: Global, steps: &[Step]) -> Result<Vec<Command>> {
     let mut commands = Vec::new(alloc);
     for step in steps {
         commands.push(command(alloc, *step)?)?;
@@ -106,16 +97,16 @@ pub(crate) fn commands(alloc: Global, steps: &[Step]) -> Outcome<Vec<Command>> {
 }
 
 /// A session of short threads with these names.
-pub(crate) fn session(alloc: Global, names: &[&str]) -> Outcome<Session> {
-    Ok(Session::new(alloc, texts(alloc, names)?)?)
+pub(crate) fn session(alloc: Global, names: &[&str]) -> Result<Session> {
+    Session::new(alloc, texts(alloc, names)?)
 }
 
 /// A session of two threads named `t`, the first of which is short and the second long.
-fn two_forms(alloc: Global) -> Outcome<Session> {
+fn two_forms(alloc: Global) -> Result<Session> {
     let mut threads = Vec::new(alloc);
     threads.push((text(alloc, "t")?, Form::Short))?;
     threads.push((text(alloc, "t")?, Form::Long))?;
-    Ok(Session::with_forms(alloc, threads)?)
+    Session::with_forms(alloc, threads)
 }
 
 /// What a session replies to these commands.
@@ -123,17 +114,17 @@ pub(crate) fn replies_of(
     alloc: Global,
     session: &mut Session,
     steps: &[Step],
-) -> Outcome<Vec<Reply>> {
+) -> Result<Vec<Reply>> {
     let commands = commands(alloc, steps)?;
-    Ok(session.run(&commands)?)
+    session.run(&commands)
 }
 
 /// What a new session of short threads with these names replies.
-pub(crate) fn replies(alloc: Global, names: &[&str], steps: &[Step]) -> Outcome<Vec<Reply>> {
+pub(crate) fn replies(alloc: Global, names: &[&str], steps: &[Step]) -> Result<Vec<Reply>> {
     replies_of(alloc, &mut session(alloc, names)?, steps)
 }
 
 /// What a new session of two threads named `t` replies, the first of which is short and the second long.
-pub(crate) fn replies_in_two_forms(alloc: Global, steps: &[Step]) -> Outcome<Vec<Reply>> {
+pub(crate) fn replies_in_two_forms(alloc: Global, steps: &[Step]) -> Result<Vec<Reply>> {
     replies_of(alloc, &mut two_forms(alloc)?, steps)
 }

@@ -1,21 +1,20 @@
 use crate::equal::equal;
-use crate::steps::Outcome;
 use puffin_data::data::Counted;
 use puffin_data::{Error, FileError, NanoSecond};
 use puffin_replay::replay::{Summary, summarize};
-use std::alloc::AllocGlobal;
+use std::alloc::{AllocError, AllocGlobal};
 use std::process::Abort;
 use tests_support::samples::{FILE, ONE_FRAME};
 use tests_support::threads::thread_info;
 
 /// A file summed up for the thread `main` that started then.
 fn summed(
-    rt: &impl AllocGlobal,
+    rt: &(impl AllocGlobal + Abort),
     file: &[u8],
     start: Option<NanoSecond>,
-) -> Outcome<Result<Summary, FileError>> {
-    let thread = thread_info(rt.alloc(), start, "main")?;
-    Ok(summarize(rt.alloc(), &mut Counted::new(file), &thread))
+) -> Result<Summary, FileError> {
+    let thread = thread_info(rt.alloc(), start, "main").expect(rt, "memory");
+    summarize(rt.alloc(), &mut Counted::new(file), &thread)
 }
 
 /// The scope `data` of id 1, from 100 to 300, is all that was merged of the one frame.
@@ -36,23 +35,23 @@ fn has_data_alone(rt: &impl Abort, summary: &Summary) {
 }
 
 #[test]
-fn a_thread_s_scopes_are_merged(rt: HostRuntime) -> Outcome<()> {
-    has_data_alone(&rt, &summed(&rt, &FILE[..ONE_FRAME], Some(100))??);
-    Ok(())
+fn a_thread_s_scopes_are_merged(rt: HostRuntime) {
+    has_data_alone(
+        &rt,
+        &summed(&rt, &FILE[..ONE_FRAME], Some(100)).expect(&rt, "a summary"),
+    );
 }
 
 #[test]
-fn another_thread_has_no_scopes(rt: HostRuntime) -> Outcome<()> {
-    let summary = summed(&rt, &FILE[..ONE_FRAME], None)??;
+fn another_thread_has_no_scopes(rt: HostRuntime) {
+    let summary = summed(&rt, &FILE[..ONE_FRAME], None).expect(&rt, "a summary");
     equal(&rt, summary.frames, 1);
     assert!(rt; summary.merged.is_empty());
-    Ok(())
 }
 
 /// A file isn't summed up, for this cause.
-fn refuses(rt: &(impl AllocGlobal + Abort), file: &[u8], cause: FileError) -> Outcome<()> {
-    equal(rt, summed(rt, file, Some(100))?.err(), Some(cause));
-    Ok(())
+fn refuses(rt: &(impl AllocGlobal + Abort), file: &[u8], cause: FileError) {
+    equal(rt, summed(rt, file, Some(100)).err(), Some(cause));
 }
 
 /// The file of one frame with these bytes at these places.
@@ -68,22 +67,17 @@ fn changed(changes: &[(usize, u8)]) -> [u8; ONE_FRAME] {
 }
 
 /// Nor is the file where one of its bytes is another.
-fn refuses_byte(
-    rt: &(impl AllocGlobal + Abort),
-    place: usize,
-    byte: u8,
-    cause: FileError,
-) -> Outcome<()> {
-    refuses(rt, &changed(&[(place, byte)]), cause)
+fn refuses_byte(rt: &(impl AllocGlobal + Abort), place: usize, byte: u8, cause: FileError) {
+    refuses(rt, &changed(&[(place, byte)]), cause);
 }
 
 #[test]
-fn what_is_not_unpacked_or_merged_is_refused(rt: HostRuntime) -> Outcome<()> {
-    refuses_byte(&rt, 0, 0, FileError::NoMagic)?;
-    refuses_byte(&rt, 23, 2, FileError::Compressed(2))?;
-    refuses_byte(&rt, 24, 2, FileError::BadStreams)?;
-    refuses_byte(&rt, 33, 0, FileError::Refused(Error::InvalidStream))?;
-    refuses(&rt, &FILE[..78], FileError::Truncated)
+fn what_is_not_unpacked_or_merged_is_refused(rt: HostRuntime) {
+    refuses_byte(&rt, 0, 0, FileError::NoMagic);
+    refuses_byte(&rt, 23, 2, FileError::Compressed(2));
+    refuses_byte(&rt, 24, 2, FileError::BadStreams);
+    refuses_byte(&rt, 33, 0, FileError::Refused(Error::InvalidStream));
+    refuses(&rt, &FILE[..78], FileError::Truncated);
 }
 
 /// The frame's index is 1, so it comes after the first of [`FILE`].
@@ -101,7 +95,7 @@ fn two_frames(
     first: &[(usize, u8)],
     second: &[(usize, u8)],
     cut: usize,
-) -> Outcome<Vec<u8>> {
+) -> Result<Vec<u8>, AllocError> {
     let mut file = Vec::new(rt.alloc());
     file.extend_from_slice(&changed(first))?;
     file.extend_from_slice(&changed(second)[4..])?;
@@ -114,18 +108,17 @@ fn forgets_the_first(
     rt: &(impl AllocGlobal + Abort),
     first: &[(usize, u8)],
     second: &[(usize, u8)],
-) -> Outcome<()> {
-    let file = two_frames(rt, first, second, 0)?;
-    has_data_alone(rt, &summed(rt, &file, Some(100))??);
-    Ok(())
+) {
+    let file = two_frames(rt, first, second, 0).expect(rt, "memory");
+    has_data_alone(rt, &summed(rt, &file, Some(100)).expect(rt, "a summary"));
 }
 
 #[test]
-fn a_frame_whose_index_does_not_rise_begins_anew(rt: HostRuntime) -> Outcome<()> {
-    forgets_the_first(&rt, &[ZSTD], &[])?;
-    forgets_the_first(&rt, &[NO_SCOPE], &[])?;
-    forgets_the_first(&rt, &[LATER, ZSTD], &[])?;
-    forgets_the_first(&rt, &[LATER], &[LATER])
+fn a_frame_whose_index_does_not_rise_begins_anew(rt: HostRuntime) {
+    forgets_the_first(&rt, &[ZSTD], &[]);
+    forgets_the_first(&rt, &[NO_SCOPE], &[]);
+    forgets_the_first(&rt, &[LATER, ZSTD], &[]);
+    forgets_the_first(&rt, &[LATER], &[LATER]);
 }
 
 /// Two frames aren't summed up, for this cause.
@@ -135,33 +128,37 @@ fn refuses_two(
     second: &[(usize, u8)],
     cut: usize,
     cause: FileError,
-) -> Outcome<()> {
-    refuses(rt, &two_frames(rt, first, second, cut)?, cause)
+) {
+    refuses(
+        rt,
+        &two_frames(rt, first, second, cut).expect(rt, "memory"),
+        cause,
+    );
 }
 
 #[test]
-fn the_file_s_fault_comes_before_that_of_a_frame(rt: HostRuntime) -> Outcome<()> {
-    refuses_two(&rt, &[ZSTD], &[LATER], 1, FileError::Truncated)?;
-    refuses_two(&rt, &[NO_SCOPE], &[LATER], 1, FileError::Truncated)
+fn the_file_s_fault_comes_before_that_of_a_frame(rt: HostRuntime) {
+    refuses_two(&rt, &[ZSTD], &[LATER], 1, FileError::Truncated);
+    refuses_two(&rt, &[NO_SCOPE], &[LATER], 1, FileError::Truncated);
 }
 
 #[test]
-fn a_frame_that_is_not_unpacked_comes_before_the_merge(rt: HostRuntime) -> Outcome<()> {
+fn a_frame_that_is_not_unpacked_comes_before_the_merge(rt: HostRuntime) {
     let invalid = FileError::Refused(Error::InvalidStream);
-    refuses_two(&rt, &[ZSTD], &[LATER], 0, FileError::Compressed(2))?;
+    refuses_two(&rt, &[ZSTD], &[LATER], 0, FileError::Compressed(2));
     refuses_two(
         &rt,
         &[NO_SCOPE],
         &[LATER, ZSTD],
         0,
         FileError::Compressed(2),
-    )?;
+    );
     refuses_two(
         &rt,
         &[ZSTD],
         &[LATER, NO_SCOPE],
         0,
         FileError::Compressed(2),
-    )?;
-    refuses_two(&rt, &[NO_SCOPE], &[LATER], 0, invalid)
+    );
+    refuses_two(&rt, &[NO_SCOPE], &[LATER], 0, invalid);
 }

@@ -1,21 +1,20 @@
 //! Calls that the crates above make.
 
 use crate::equal::equal;
-use crate::rig::{Outcome, Rig};
+use crate::rig::Rig;
 use puffin_data::{Error, NanoSecond, Result};
 use puffin_threads::thread_profiler::Closed;
 use std::process::Abort;
 use tests_support::samples::ONE_SCOPE;
 
 #[test]
-fn a_thread_s_allocator_makes_a_text_of_its_scope(rt: HostRuntime) -> Outcome {
-    let mut rig = Rig::new(rt.alloc(), 100, 0)?;
-    let text = String::from_str(rig.thread.allocator(), "data")?;
+fn a_thread_s_allocator_makes_a_text_of_its_scope(rt: HostRuntime) {
+    let mut rig = Rig::new(rt.alloc(), 100, 0).expect(&rt, "memory");
+    let text = String::from_str(rig.thread.allocator(), "data").expect(&rt, "memory");
     rig.begins(&rt, (1, &text), 18);
     rig.set(300);
     rig.ends(&rt, 18, Ok(Closed::Reported));
-    equal(&rt, rig.bytes(0)?, ONE_SCOPE.as_slice());
-    Ok(())
+    equal(&rt, rig.bytes(0).expect(&rt, "bytes"), ONE_SCOPE.as_slice());
 }
 
 /// What ending a scope without a report returns is as expected.
@@ -29,8 +28,8 @@ fn closes(rt: &impl Abort, rig: &mut Rig, at: NanoSecond, offset: usize, expecte
 }
 
 #[test]
-fn closed_scopes_wait_for_a_report(rt: HostRuntime) -> Outcome {
-    let mut rig = Rig::new(rt.alloc(), 100, 0)?;
+fn closed_scopes_wait_for_a_report(rt: HostRuntime) {
+    let mut rig = Rig::new(rt.alloc(), 100, 0).expect(&rt, "memory");
     rig.begins(&rt, (1, ""), 14);
     rig.begins(&rt, (2, ""), 36);
     closes(&rt, &mut rig, 200, 14, Err(Error::MismatchedEnd));
@@ -39,6 +38,5 @@ fn closed_scopes_wait_for_a_report(rt: HostRuntime) -> Outcome {
     rig.has(&rt, (0, 0, 0));
     rig.reports(&rt, Ok(true));
     rig.has(&rt, (0, 1, 0));
-    equal(&rt, rig.bytes(0)?.len(), 62);
-    Ok(())
+    equal(&rt, rig.bytes(0).expect(&rt, "bytes").len(), 62);
 }

@@ -1,5 +1,4 @@
 use crate::equal::equal;
-use crate::rig::Outcome;
 use puffin_data::NanoSecond;
 use puffin_threads::thread_profiler::{NsSource, ScriptClock, SystemClock};
 use std::cell::Cell;
@@ -52,9 +51,9 @@ fn first_time(
 }
 
 #[test]
-fn the_system_clock_counts_from_its_start(rt: HostRuntime) -> Outcome {
+fn the_system_clock_counts_from_its_start(rt: HostRuntime) {
     let runtime = clock_reading(Ok(Duration::from_nanos(1000)), Some(7));
-    let mut clock = SystemClock::new(&runtime)?;
+    let mut clock = SystemClock::new(&runtime).expect(&rt, "a clock");
     equal(&rt, clock.now_ns(), 1000);
     for (monotonic, expected) in [
         (Some(27), 1020),
@@ -64,7 +63,6 @@ fn the_system_clock_counts_from_its_start(rt: HostRuntime) -> Outcome {
         runtime.monotonic.set(monotonic);
         equal(&rt, clock.now_ns(), expected);
     }
-    Ok(())
 }
 
 #[test]
@@ -93,13 +91,12 @@ fn a_script_clock_is_never_below_0(rt: HostRuntime) {
 }
 
 #[test]
-fn another_clock_has_the_same_start(rt: HostRuntime) -> Outcome {
+fn another_clock_has_the_same_start(rt: HostRuntime) {
     let runtime = clock_reading(Ok(Duration::from_nanos(1000)), Some(7));
-    let first = SystemClock::new(&runtime)?;
+    let first = SystemClock::new(&runtime).expect(&rt, "a clock");
     runtime.monotonic.set(Some(27));
     let mut other = first.another();
     equal(&rt, other.now_ns(), 1020);
-    Ok(())
 }
 
 /// Whose turn it is to read a clock, the last time that was read, and how often a time was less than the one before.
@@ -140,8 +137,8 @@ fn read_in_turn<R: Wait>(
 }
 
 #[test]
-fn two_threads_that_read_clocks_in_turn_never_go_back(rt: HostRuntime) -> Outcome {
-    let mut first = SystemClock::new(rt)?;
+fn two_threads_that_read_clocks_in_turn_never_go_back(rt: HostRuntime) {
+    let mut first = SystemClock::new(rt).expect(&rt, "a clock");
     let mut second = first.another();
     let turns = Mutex::new(Turns {
         next: 0,
@@ -155,5 +152,4 @@ fn two_threads_that_read_clocks_in_turn_never_go_back(rt: HostRuntime) -> Outcom
         || read_in_turn(&rt, 1, &mut second, &turns, &changed),
     );
     equal(&rt, turns.lock(&rt).back, 0);
-    Ok(())
 }

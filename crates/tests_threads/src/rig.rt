@@ -9,11 +9,8 @@ use puffin_threads::thread_profiler::{
 };
 use std::alloc::Global;
 use std::process::Abort;
-use std::test::Fail;
 use tests_support::streams::id;
 use tests_support::threads::main_thread;
-
-pub(crate) type Outcome = std::result::Result<(), Fail>;
 
 /// Refuses so many reports, and keeps those after them.
 #[derive(Drop)]

@@ -1,5 +1,4 @@
 use crate::equal::equal;
-use crate::rig::Outcome;
 use puffin_data::data::ScopeId;
 use puffin_data::{Error, Result};
 use puffin_threads::scope_details::{ScopeCollection, ScopeDetails, ScopeIds, ScopeType};
@@ -7,7 +6,6 @@ use std::alloc::Global;
 use std::borrow::CowStr;
 use std::process::Abort;
 use std::sync::Arc;
-use std::test::Fail;
 use std::thread;
 use tests_support::streams::id;
 use tests_support::threads::named;
@@ -21,10 +19,23 @@ fn function(line_nr: u32) -> ScopeDetails {
 }
 
 #[test]
-fn a_file_and_its_line(rt: HostRuntime) -> Outcome {
-    equal(&rt, function(7).location(rt.alloc())?.as_str(), "b.rs:7");
-    equal(&rt, function(0).location(rt.alloc())?.as_str(), "b.rs");
-    Ok(())
+fn a_file_and_its_line(rt: HostRuntime) {
+    equal(
+        &rt,
+        function(7)
+            .location(rt.alloc())
+            .expect(&rt, "a text")
+            .as_str(),
+        "b.rs:7",
+    );
+    equal(
+        &rt,
+        function(0)
+            .location(rt.alloc())
+            .expect(&rt, "a text")
+            .as_str(),
+        "b.rs",
+    );
 }
 
 /// What details say of the kind of scope, its name, and its id.
@@ -44,14 +55,18 @@ fn kinds_of_scopes(rt: HostRuntime) {
 }
 
 #[test]
-fn a_function_and_a_scope_in_it(rt: HostRuntime) -> Outcome {
+fn a_function_and_a_scope_in_it(rt: HostRuntime) {
     let whole = function(7);
     equal(&rt, facts(&whole), (ScopeType::Function, "f", None));
-    let name = String::from_str(rt.alloc(), "part")?;
+    let name = String::from_str(rt.alloc(), "part").expect(&rt, "memory");
     let part = ScopeDetails::from_scope_name(CowStr::Owned(name))
         .with_function_name(CowStr::Borrowed("f"))
-        .with_scope_id(id(3)?);
-    equal(&rt, facts(&part), (ScopeType::Named, "part", Some(id(3)?)));
+        .with_scope_id(id(3).expect(&rt, "an id"));
+    equal(
+        &rt,
+        facts(&part),
+        (ScopeType::Named, "part", Some(id(3).expect(&rt, "an id"))),
+    );
     equal(
         &rt,
         (
@@ -61,7 +76,6 @@ fn a_function_and_a_scope_in_it(rt: HostRuntime) -> Outcome {
         ),
         ("f", "", 0),
     );
-    Ok(())
 }
 
 /// Whether details without an id stand before those with these ids, and before those with a name.
@@ -79,12 +93,11 @@ fn is_its_copy(details: &ScopeDetails) -> Result<bool> {
 }
 
 #[test]
-fn details_in_order(rt: HostRuntime) -> Outcome {
-    let (first, second) = (id(1)?, id(2)?);
+fn details_in_order(rt: HostRuntime) {
+    let (first, second) = (id(1).expect(&rt, "an id"), id(2).expect(&rt, "an id"));
     assert!(rt; are_in_order(first, second));
-    assert!(rt; is_its_copy(&function(7))?);
-    assert!(rt; is_its_copy(&function(7).with_scope_id(first))?);
-    Ok(())
+    assert!(rt; is_its_copy(&function(7)).expect(&rt, "memory"));
+    assert!(rt; is_its_copy(&function(7).with_scope_id(first)).expect(&rt, "memory"));
 }
 
 /// Inserts a named scope, after which the details that are kept have its number and a name that is expected.
@@ -94,14 +107,15 @@ fn is_inserted(
     alloc: Global,
     scope: (u32, &'static str),
     expected: &str,
-) -> Outcome {
-    let kept = scopes.insert(named(alloc, scope.0, scope.1)?)?;
+) {
+    let kept = scopes
+        .insert(named(alloc, scope.0, scope.1).expect(rt, "details"))
+        .expect(rt, "an id");
     equal(
         rt,
         (kept.name().as_str(), kept.scope_id()),
         (expected, ScopeId::new(scope.0)),
     );
-    Ok(())
 }
 
 /// The name that a collection has under an id.
@@ -121,34 +135,29 @@ fn sizes(scopes: &ScopeCollection) -> (usize, usize) {
 }
 
 #[test]
-fn first_by_id_and_last_by_name(rt: HostRuntime) -> Outcome {
+fn first_by_id_and_last_by_name(rt: HostRuntime) {
     let mut scopes = ScopeCollection::new(rt.alloc());
     equal(&rt, name_of(&scopes, 1), None);
     for scope in [(1, "a"), (1, "b"), (2, "a")] {
-        is_inserted(&rt, &mut scopes, rt.alloc(), scope, "a")?;
+        is_inserted(&rt, &mut scopes, rt.alloc(), scope, "a");
     }
     equal(&rt, name_of(&scopes, 1), Some("a"));
     for (name, number) in [("a", Some(2)), ("b", Some(1)), ("c", None)] {
         equal(&rt, number_of(&scopes, name), number);
     }
     equal(&rt, sizes(&scopes), (2, 2));
-    Ok(())
 }
 
 #[test]
-fn details_without_an_id_are_refused(rt: HostRuntime) -> Outcome {
+fn details_without_an_id_are_refused(rt: HostRuntime) {
     let mut scopes = ScopeCollection::new(rt.alloc());
-    let details = Arc::new(rt.alloc(), function(7))?;
+    let details = Arc::new(rt.alloc(), function(7)).expect(&rt, "memory");
     equal(&rt, scopes.insert(details).err(), Some(Error::MissingId));
     equal(&rt, sizes(&scopes), (0, 0));
-    Ok(())
 }
 
 /// Named scopes with these numbers.
-fn all_named(
-    alloc: Global,
-    scopes: &[(u32, &'static str)],
-) -> std::result::Result<Vec<Arc<ScopeDetails>>, Fail> {
+fn all_named(alloc: Global, scopes: &[(u32, &'static str)]) -> Result<Vec<Arc<ScopeDetails>>> {
     let mut details = Vec::new(alloc);
     for (number, name) in scopes {
         details.push(named(alloc, *number, *name)?)?;
@@ -157,72 +166,79 @@ fn all_named(
 }
 
 #[test]
-fn details_are_inserted_in_order(rt: HostRuntime) -> Outcome {
-    let details = all_named(rt.alloc(), &[(1, "a"), (1, "b"), (2, "a")])?;
+fn details_are_inserted_in_order(rt: HostRuntime) {
+    let details = all_named(rt.alloc(), &[(1, "a"), (1, "b"), (2, "a")]).expect(&rt, "details");
     let mut scopes = ScopeCollection::new(rt.alloc());
-    scopes.insert_all(&details)?;
+    scopes.insert_all(&details).expect(&rt, "ids");
     equal(
         &rt,
         (name_of(&scopes, 1), number_of(&scopes, "a")),
         (Some("a"), Some(2)),
     );
     equal(&rt, sizes(&scopes), (2, 2));
-    Ok(())
 }
 
 #[test]
-fn of_details_without_an_id_none_are_inserted(rt: HostRuntime) -> Outcome {
-    let mut details = all_named(rt.alloc(), &[(3, "c")])?;
-    details.push(Arc::new(rt.alloc(), function(7))?)?;
+fn of_details_without_an_id_none_are_inserted(rt: HostRuntime) {
+    let mut details = all_named(rt.alloc(), &[(3, "c")]).expect(&rt, "details");
+    details
+        .push(Arc::new(rt.alloc(), function(7)).expect(&rt, "memory"))
+        .expect(&rt, "memory");
     let mut scopes = ScopeCollection::new(rt.alloc());
-    is_inserted(&rt, &mut scopes, rt.alloc(), (1, "a"), "a")?;
+    is_inserted(&rt, &mut scopes, rt.alloc(), (1, "a"), "a");
     equal(
         &rt,
         scopes.insert_all(&details).err(),
         Some(Error::MissingId),
     );
     equal(&rt, sizes(&scopes), (1, 1));
-    Ok(())
 }
 
 #[test]
-fn a_copy_of_a_collection(rt: HostRuntime) -> Outcome {
+fn a_copy_of_a_collection(rt: HostRuntime) {
     let mut scopes = ScopeCollection::new(rt.alloc());
-    is_inserted(&rt, &mut scopes, rt.alloc(), (1, "a"), "a")?;
-    let copy = scopes.clone()?;
-    is_inserted(&rt, &mut scopes, rt.alloc(), (2, "a"), "a")?;
+    is_inserted(&rt, &mut scopes, rt.alloc(), (1, "a"), "a");
+    let copy = scopes.clone().expect(&rt, "memory");
+    is_inserted(&rt, &mut scopes, rt.alloc(), (2, "a"), "a");
     equal(&rt, sizes(&copy).0, 1);
     equal(
         &rt,
         (number_of(&copy, "a"), number_of(&scopes, "a")),
         (Some(1), Some(2)),
     );
-    Ok(())
 }
 
 #[test]
-fn ids_rise_from_1(rt: HostRuntime) -> Outcome {
+fn ids_rise_from_1(rt: HostRuntime) {
     let ids = ScopeIds::new();
-    equal(&rt, (ids.draw()?.get(), ids.draw()?.get()), (1, 2));
-    equal(&rt, ScopeIds::default().draw()?.get(), 1);
-    Ok(())
+    equal(
+        &rt,
+        (
+            ids.draw().expect(&rt, "an id").get(),
+            ids.draw().expect(&rt, "an id").get(),
+        ),
+        (1, 2),
+    );
+    equal(
+        &rt,
+        ScopeIds::default().draw().expect(&rt, "an id").get(),
+        1,
+    );
 }
 
 #[test]
-fn the_last_id(rt: HostRuntime) -> Outcome {
+fn the_last_id(rt: HostRuntime) {
     let ids = ScopeIds::starting_at(4294967295);
-    equal(&rt, ids.draw()?.get(), 4294967295);
+    equal(&rt, ids.draw().expect(&rt, "an id").get(), 4294967295);
     equal(&rt, ids.draw().err(), Some(Error::IdsExhausted));
     equal(&rt, ids.draw().err(), Some(Error::IdsExhausted));
-    Ok(())
 }
 
 #[test]
-fn the_number_0_is_no_id(rt: HostRuntime) -> Outcome {
+fn the_number_0_is_no_id(rt: HostRuntime) {
     let ids = ScopeIds::starting_at(0);
     equal(&rt, ids.draw().err(), Some(Error::IdsExhausted));
-    equal(&rt, ids.draw()?.get(), 1);
-    Ok(())
+    equal(&rt, ids.draw().expect(&rt, "an id").get(), 1);
 }
 
 /// The sum of so many ids, or `None` where one isn't above the one before it.
@@ -242,7 +258,7 @@ fn sum_of_rising(ids: &ScopeIds, draws: u32) -> Option<u64> {
 
 /// The sums of what both threads drew are those of 1 to 2,000 only where each number was drawn once.
 #[test]
-fn two_threads_draw_different_ids(rt: HostRuntime) -> Outcome {
+fn two_threads_draw_different_ids(rt: HostRuntime) {
     let ids = ScopeIds::new();
     let (mine, theirs) = thread::join(
         &rt,
@@ -255,6 +271,5 @@ fn two_threads_draw_different_ids(rt: HostRuntime) -> Outcome {
             .map(|(mine, theirs)| mine.checked_add(theirs)),
         Some(Some(2_001_000)),
     );
-    equal(&rt, ids.draw()?.get(), 2001);
-    Ok(())
+    equal(&rt, ids.draw().expect(&rt, "an id").get(), 2001);
 }

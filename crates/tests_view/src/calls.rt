@@ -1,10 +1,10 @@
 //! Statistics of frames that are packed or not, and the faults of packets.
 
-use crate::files::{Outcome, has_fault};
+use crate::files::has_fault;
 use puffin_data::{Error, FileError, FrameIndex};
 use puffin_view::profile_view::{FrameStats, FrameView};
+use std::process::Abort;
 use std::sync::Arc;
-use std::test::Fail;
 use tests_support::frames::packet_frame;
 use tests_support::samples::{FILE, ONE_FRAME};
 
@@ -15,25 +15,25 @@ fn counts(stats: FrameStats) -> (usize, usize) {
 
 /// How many frames both calls for statistics count with this frame more, and how many of them unpacked.
 fn counts_with(
-    rt: &HostRuntime,
+    rt: &(impl AllocGlobal + Abort),
     view: &mut FrameView,
     index: FrameIndex,
-) -> std::result::Result<[(usize, usize); 2], Fail> {
-    let frame = packet_frame(rt.alloc(), index)?;
-    view.add_frame(Arc::new(rt.alloc(), frame)?)?;
+) -> [(usize, usize); 2] {
+    let frame = packet_frame(rt.alloc(), index).expect(rt, "a frame");
+    view.add_frame(Arc::new(rt.alloc(), frame).expect(rt, "memory"))
+        .expect(rt, "a frame");
     let stats = FrameStats::from_frames(view.all_uniq());
-    Ok([counts(view.stats()), counts(stats)])
+    [counts(view.stats()), counts(stats)]
 }
 
 #[test]
-fn the_newest_frame_is_packed_where_packing_is_on(rt: HostRuntime) -> Outcome {
+fn the_newest_frame_is_packed_where_packing_is_on(rt: HostRuntime) {
     let mut view = FrameView::new(rt.alloc());
     for (index, expected) in [(0, (1, 1)), (1, (2, 2)), (2, (3, 2))] {
         view.set_pack_frames(index == 2);
-        let found = counts_with(&rt, &mut view, index)?;
+        let found = counts_with(&rt, &mut view, index);
         assert!(rt; found == [expected, expected]);
     }
-    Ok(())
 }
 
 /// Up to where a packet is kept, what stands there, from where on it is kept again, and its fault.
@@ -79,35 +79,39 @@ const CHANGED: [Changed; 11] = [
 ];
 
 /// The first frame's packet is at fault where it is so changed, alone in a file and behind a good one.
-fn is_at_fault(rt: &HostRuntime, (end, bytes, begin, fault): Changed) -> Outcome {
-    let front = FILE.get(4..end).ok_or("a beginning")?;
-    let back = FILE.get(begin..ONE_FRAME).ok_or("an end")?;
-    has_fault(rt, &[b"PUF0", front, bytes, back], Some(fault))?;
-    has_fault(rt, &[&FILE[..ONE_FRAME], front, bytes, back], Some(fault))
+fn is_at_fault(rt: &(impl AllocGlobal + Abort), (end, bytes, begin, fault): Changed) {
+    let front = FILE.get(4..end).expect(rt, "a beginning");
+    let back = FILE.get(begin..ONE_FRAME).expect(rt, "an end");
+    has_fault(rt, &[b"PUF0", front, bytes, back], Some(fault));
+    has_fault(rt, &[&FILE[..ONE_FRAME], front, bytes, back], Some(fault));
 }
 
 #[test]
-fn each_fault_of_a_packet_is_the_file_s(rt: HostRuntime) -> Outcome {
+fn each_fault_of_a_packet_is_the_file_s(rt: HostRuntime) {
     for changed in CHANGED {
-        is_at_fault(&rt, changed)?;
+        is_at_fault(&rt, changed);
     }
-    Ok(())
 }
 
 /// A legacy frame of so many bytes, the first frame's streams with this end, is at fault.
-fn legacy_frame_is_at_fault(rt: &HostRuntime, size: u8, end: &[u8], fault: FileError) -> Outcome {
-    let streams = FILE.get(24..74).ok_or("the streams")?;
+fn legacy_frame_is_at_fault(
+    rt: &(impl AllocGlobal + Abort),
+    size: u8,
+    end: &[u8],
+    fault: FileError,
+) {
+    let streams = FILE.get(24..74).expect(rt, "the streams");
     has_fault(
         rt,
         &[b"PUF0", &[size, 0, 0, 0, 0], streams, end],
         Some(fault),
-    )
+    );
 }
 
 #[test]
-fn each_fault_of_a_legacy_frame_is_the_file_s(rt: HostRuntime) -> Outcome {
+fn each_fault_of_a_legacy_frame_is_the_file_s(rt: HostRuntime) {
     let range = b"\xfb\x58\x02\xc8\x23\x01";
-    legacy_frame_is_at_fault(&rt, 57, range, FileError::BadRange)?;
+    legacy_frame_is_at_fault(&rt, 57, range, FileError::BadRange);
     let left_over = b"\xc8\xfb\x58\x02\x23\x01\0";
-    legacy_frame_is_at_fault(&rt, 58, left_over, FileError::BadStreams)
+    legacy_frame_is_at_fault(&rt, 58, left_over, FileError::BadStreams);
 }

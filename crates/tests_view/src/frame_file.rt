@@ -3,7 +3,7 @@
 ghost use Rattle.std.specs.Prelude.{◌≡◌};
 
 use crate::devices::Full;
-use crate::files::{Outcome, view};
+use crate::files::view;
 use puffin_data::data::{Counted, Drain, Source};
 use puffin_data::{Error, FileError};
 use puffin_frames::frame_data::{FrameData, FrameIndex};
@@ -11,7 +11,7 @@ use puffin_view::profile_view::{FrameReader, FrameView, FrameWriter, next_frame,
 use std::alloc::Global;
 use std::io;
 use std::io::{ErrorKind, Write};
-use std::test::Fail;
+use std::process::Abort;
 use tests_support::samples::{FILE, ONE_FRAME};
 use tests_support::streams::bytes_of;
 
@@ -32,7 +32,7 @@ fn next_index<S: Source>(
 fn given(
     alloc: Global,
     bytes: &[u8],
-) -> std::result::Result<(Vec<FrameIndex>, Option<FileError>), Fail> {
+) -> std::result::Result<(Vec<FrameIndex>, Option<FileError>), FileError> {
     let mut reader = FrameReader::new(alloc, Counted::new(bytes))?;
     let mut indices = Vec::new(alloc);
     'frames: for _ in 0..3 {
@@ -42,61 +42,58 @@ fn given(
             Err(fault) => return Ok((indices, Some(fault))),
         }
     }
-    Err(Fail::new("more frames than there are"))
+    Ok((indices, None))
 }
 
 /// A reader gives frames of these indices, and then this refusal or the end.
 fn are_given(
-    rt: &HostRuntime,
+    rt: &(impl AllocGlobal + Abort),
     bytes: &[u8],
     indices: &[FrameIndex],
     refusal: Option<FileError>,
-) -> Outcome {
-    let (found, end) = given(rt.alloc(), bytes)?;
-    if found.as_slice() == indices && end == refusal {
-        Ok(())
-    } else {
-        Err(Fail::new("other frames or another end"))
-    }
+) {
+    let (found, end) = given(rt.alloc(), bytes).expect(rt, "frames");
+    assert!(rt; found.as_slice() == indices && end == refusal);
 }
 
 #[test]
-fn a_file_is_read_one_frame_at_a_time(rt: HostRuntime) -> Outcome {
-    let bytes = bytes_of(rt.alloc(), &[&FILE[..ONE_FRAME], &[0, 0, 0, 0], b"more"])?;
-    let mut reader = FrameReader::new(rt.alloc(), Counted::new(bytes.as_slice()))?;
-    let first = reader.next()?;
+fn a_file_is_read_one_frame_at_a_time(rt: HostRuntime) {
+    let bytes = bytes_of(rt.alloc(), &[&FILE[..ONE_FRAME], &[0, 0, 0, 0], b"more"]).expect(
+        &rt, "memory",
+    );
+    let mut reader = FrameReader::new(rt.alloc(), Counted::new(bytes.as_slice())).expect(
+        &rt, "a file",
+    );
+    let first = reader.next().expect(&rt, "a frame");
     assert!(rt; index_of(&first) == Some(0));
-    let end = reader.next()?;
+    let end = reader.next().expect(&rt, "a frame");
     assert!(rt; end.is_none());
-    let behind = reader.next()?;
+    let behind = reader.next().expect(&rt, "a frame");
     assert!(rt; behind.is_none());
     // What stands behind the end is left.
     let mut source = reader.into_source();
     let mut left = [0; 6];
-    let count = source.read(&mut left)?;
+    let count = source.read(&mut left).expect(&rt, "bytes");
     assert!(rt; (count, left) == (4, *b"more\0\0"));
-    Ok(())
 }
 
 #[test]
-fn frames_are_read_without_a_reader(rt: HostRuntime) -> Outcome {
+fn frames_are_read_without_a_reader(rt: HostRuntime) {
     let mut source = Counted::new(&FILE[..ONE_FRAME]);
-    read_magic(&mut source)?;
-    let first = index_of(&next_frame(rt.alloc(), &mut source)?);
+    read_magic(&mut source).expect(&rt, "a file");
+    let first = index_of(&next_frame(rt.alloc(), &mut source).expect(&rt, "a frame"));
     assert!(rt; first == Some(0));
-    let end = index_of(&next_frame(rt.alloc(), &mut source)?);
+    let end = index_of(&next_frame(rt.alloc(), &mut source).expect(&rt, "a frame"));
     assert!(rt; end.is_none());
     assert!(rt; source.faults() == 0);
-    Ok(())
 }
 
 #[test]
-fn a_reader_begins_with_the_letters_of_a_file(rt: HostRuntime) -> Outcome {
+fn a_reader_begins_with_the_letters_of_a_file(rt: HostRuntime) {
     for letters in [b"".as_slice(), b"PUF", b"PUF1", &FILE[4..]] {
         let refused = FrameReader::new(rt.alloc(), Counted::new(letters)).err();
         assert!(rt; refused == Some(FileError::NoMagic));
     }
-    Ok(())
 }
 
 /// What a reader gives of the first so many bytes of the file.
@@ -123,34 +120,38 @@ fn given_of_cut(len: usize) -> (&'static [FrameIndex], Option<FileError>) {
 }
 
 #[test]
-fn a_file_that_is_cut_gives_its_whole_frames(rt: HostRuntime) -> Outcome {
+fn a_file_that_is_cut_gives_its_whole_frames(rt: HostRuntime) {
     for len in 4..FILE.len() + 1 {
         let (whole, refusal) = given_of_cut(len);
-        are_given(&rt, &FILE[..len], whole, refusal)?;
+        are_given(&rt, &FILE[..len], whole, refusal);
     }
-    Ok(())
 }
 
 #[test]
-fn a_fault_comes_behind_the_frames_before_it(rt: HostRuntime) -> Outcome {
-    let newer = bytes_of(rt.alloc(), &[&FILE[..ONE_FRAME], b"PFD9", &FILE[83..]])?;
-    are_given(&rt, &newer, &[0], Some(FileError::Newer))?;
+fn a_fault_comes_behind_the_frames_before_it(rt: HostRuntime) {
+    let newer = bytes_of(rt.alloc(), &[&FILE[..ONE_FRAME], b"PFD9", &FILE[83..]]).expect(
+        &rt, "memory",
+    );
+    are_given(&rt, &newer, &[0], Some(FileError::Newer));
     let no_id = b"\x07\0\0\0\x01\0\0\x01f\0\0";
-    let missing = bytes_of(rt.alloc(), &[&FILE, &FILE[4..74], no_id, &FILE[4..]])?;
+    let missing = bytes_of(rt.alloc(), &[&FILE, &FILE[4..74], no_id, &FILE[4..]]).expect(
+        &rt, "memory",
+    );
     let refused = Some(FileError::Refused(Error::MissingId));
-    are_given(&rt, &missing, &[0, 1], refused)
+    are_given(&rt, &missing, &[0, 1], refused);
 }
 
 #[test]
-fn a_reader_stops_at_a_fault(rt: HostRuntime) -> Outcome {
-    let bytes = bytes_of(rt.alloc(), &[b"PUF0PFD9", &FILE[4..]])?;
-    let mut reader = FrameReader::new(rt.alloc(), Counted::new(bytes.as_slice()))?;
+fn a_reader_stops_at_a_fault(rt: HostRuntime) {
+    let bytes = bytes_of(rt.alloc(), &[b"PUF0PFD9", &FILE[4..]]).expect(&rt, "memory");
+    let mut reader = FrameReader::new(rt.alloc(), Counted::new(bytes.as_slice())).expect(
+        &rt, "a file",
+    );
     let fault = next_index(&mut reader).err();
     assert!(rt; fault == Some(FileError::Newer));
     // The frames behind the fault are left.
-    let behind = next_index(&mut reader)?;
+    let behind = next_index(&mut reader).expect(&rt, "a frame");
     assert!(rt; behind.is_none());
-    Ok(())
 }
 
 /// Writes the frames of a view, one at a time.
@@ -176,17 +177,22 @@ fn written_frames(
 }
 
 #[test]
-fn a_file_is_written_one_frame_at_a_time(rt: HostRuntime) -> Outcome {
+fn a_file_is_written_one_frame_at_a_time(rt: HostRuntime) {
     for len in [4, ONE_FRAME, FILE.len()] {
-        let (bytes, faults) = written_frames(rt.alloc(), &view(&rt, &FILE[..len])?)?;
+        let (bytes, faults) = written_frames(rt.alloc(), &view(&rt, &FILE[..len])).expect(
+            &rt, "frames",
+        );
         assert!(rt; faults == 0);
         assert!(rt; Some(bytes.as_slice()) == FILE.get(..len));
     }
-    Ok(())
 }
 
 /// What is written of the file's frames to a writer that takes so much and then fails.
-fn written_to_full(rt: &HostRuntime, view: &FrameView, room: usize) -> (Vec<u8>, bool) {
+fn written_to_full(
+    rt: &(impl AllocGlobal + Abort),
+    view: &FrameView,
+    room: usize,
+) -> (Vec<u8>, bool) {
     let mut full = Full {
         step: 5,
         room,
@@ -198,14 +204,13 @@ fn written_to_full(rt: &HostRuntime, view: &FrameView, room: usize) -> (Vec<u8>,
 }
 
 #[test]
-fn a_refused_write_leaves_a_beginning_of_its_packet(rt: HostRuntime) -> Outcome {
-    let view = view(&rt, &FILE)?;
+fn a_refused_write_leaves_a_beginning_of_its_packet(rt: HostRuntime) {
+    let view = view(&rt, &FILE);
     for room in 0..FILE.len() + 1 {
         let (written, refused) = written_to_full(&rt, &view, room);
         assert!(rt; refused == (room < FILE.len()));
         assert!(rt; Some(written.as_slice()) == FILE.get(..room));
     }
-    Ok(())
 }
 
 /// A writer that fails at most once, at this call.
@@ -232,39 +237,39 @@ impl Write for Flaky {
 
 /// What is refused where two frames are written to such a writer.
 fn refused_by(
+    rt: &(impl AllocGlobal + Abort),
     flaky: &mut Flaky,
     view: &FrameView,
-) -> std::result::Result<Vec<Option<FileError>>, Fail> {
-    let mut refused = Vec::new(*flaky.written.allocator());
-    let mut writer = FrameWriter::new(Counted::new(flaky))?;
+) -> Vec<Option<FileError>> {
+    let mut refused = Vec::new(rt.alloc());
+    let mut writer = FrameWriter::new(Counted::new(flaky)).expect(rt, "a file");
     for frame in view.recent_frames() {
-        refused.push(writer.write(frame).err())?;
+        refused.push(writer.write(frame).err()).expect(rt, "memory");
     }
-    Ok(refused)
+    refused
 }
 
 /// What is written of a view to a writer that fails at this call, and what is refused.
 fn written_to_flaky(
-    rt: &HostRuntime,
+    rt: &(impl AllocGlobal + Abort),
     view: &FrameView,
     calls: usize,
-) -> std::result::Result<(Vec<u8>, Vec<Option<FileError>>), Fail> {
+) -> (Vec<u8>, Vec<Option<FileError>>) {
     let mut flaky = Flaky {
         calls,
         written: Vec::new(rt.alloc()),
     };
-    let refused = refused_by(&mut flaky, view)?;
-    Ok((flaky.written, refused))
+    let refused = refused_by(rt, &mut flaky, view);
+    (flaky.written, refused)
 }
 
 #[test]
-fn nothing_is_written_behind_a_packet_that_was_cut(rt: HostRuntime) -> Outcome {
+fn nothing_is_written_behind_a_packet_that_was_cut(rt: HostRuntime) {
     // The letters are the first call, and the second call of the first packet fails.
-    let (written, refused) = written_to_flaky(&rt, &view(&rt, &FILE)?, 2)?;
+    let (written, refused) = written_to_flaky(&rt, &view(&rt, &FILE), 2);
     let io = Some(FileError::Io);
     assert!(rt; refused.as_slice() == [io, io].as_slice());
     let len = written.len();
     assert!(rt; len < ONE_FRAME);
     assert!(rt; Some(written.as_slice()) == FILE.get(..len));
-    Ok(())
 }

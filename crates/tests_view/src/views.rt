@@ -4,121 +4,114 @@ use puffin_frames::frame_data::{FrameData, FrameIndex};
 use puffin_threads::scope_details::ScopeDetails;
 use puffin_view::profile_view::{FrameStats, FrameView, select_slowest};
 use std::borrow::CowStr;
+use std::process::Abort;
 use std::sync::Arc;
-use std::test::Fail;
 use tests_support::frames::{one_stream, packet_frame};
 use tests_support::streams::bytes_of;
 use tests_support::threads::{named, thread_info};
 
-type Outcome = std::result::Result<(), Fail>;
-
 /// One scope without a text, as long as is asked, in the stream of the thread `main`, whose start isn't known.
-fn frame(rt: &HostRuntime, index: FrameIndex, duration: NanoSecond) -> Result<Arc<FrameData>> {
+fn frame(
+    rt: &(impl AllocGlobal + Abort),
+    index: FrameIndex,
+    duration: NanoSecond,
+) -> Arc<FrameData> {
     telling_frame(rt, index, duration, Vec::new(rt.alloc()))
 }
 
 /// The same, with details that it tells.
 fn telling_frame(
-    rt: &HostRuntime,
+    rt: &(impl AllocGlobal + Abort),
     index: FrameIndex,
     duration: NanoSecond,
     details: Vec<Arc<ScopeDetails>>,
-) -> Result<Arc<FrameData>> {
+) -> Arc<FrameData> {
     let alloc = rt.alloc();
     let front = b"(\x01\0\0\0\0\0\0\0\0\0\0\0\0\0\0\0\0\0\0\0\0)";
-    let bytes = bytes_of(alloc, &[front, &duration.to_le_bytes()])?;
-    let info = StreamInfo::parse(alloc, Stream::from(bytes))?;
-    let streams = one_stream(alloc, thread_info(alloc, None, "main")?, info)?;
-    let frame = FrameData::new(alloc, index, streams, details, false)?;
-    Ok(Arc::new(alloc, frame)?)
+    let bytes = bytes_of(alloc, &[front, &duration.to_le_bytes()]).expect(rt, "memory");
+    let info = StreamInfo::parse(alloc, Stream::from(bytes)).expect(rt, "a scope");
+    let thread = thread_info(alloc, None, "main").expect(rt, "memory");
+    let streams = one_stream(alloc, thread, info).expect(rt, "memory");
+    let frame = FrameData::new(alloc, index, streams, details, false).expect(rt, "a frame");
+    Arc::new(alloc, frame).expect(rt, "memory")
 }
 
 /// Adds a frame of one scope without a text to a view.
 fn add(
-    rt: &HostRuntime,
+    rt: &(impl AllocGlobal + Abort),
     view: &mut FrameView,
     index: FrameIndex,
     duration: NanoSecond,
-) -> Result<()> {
-    view.add_frame(frame(rt, index, duration)?)
+) {
+    view.add_frame(frame(rt, index, duration))
+        .expect(rt, "a frame");
 }
 
 /// One scope of 35 bytes with a text, of a thread whose start is known. Packed, its stream has 50 bytes.
-fn known_frame(rt: &HostRuntime, index: FrameIndex) -> Result<Arc<FrameData>> {
-    Ok(Arc::new(rt.alloc(), packet_frame(rt.alloc(), index)?)?)
+fn known_frame(rt: &(impl AllocGlobal + Abort), index: FrameIndex) -> Arc<FrameData> {
+    let frame = packet_frame(rt.alloc(), index).expect(rt, "a frame");
+    Arc::new(rt.alloc(), frame).expect(rt, "memory")
 }
 
 /// The indices of the recent frames.
-fn recent(rt: &HostRuntime, view: &FrameView) -> Result<Vec<FrameIndex>> {
+fn recent(rt: &(impl AllocGlobal + Abort), view: &FrameView) -> Vec<FrameIndex> {
     let mut all = Vec::new(rt.alloc());
     for frame in view.recent_frames() {
-        all.push(frame.frame_index())?;
+        all.push(frame.frame_index()).expect(rt, "memory");
     }
-    Ok(all)
+    all
 }
 
 /// The indices of the slowest frames.
-fn slowest(rt: &HostRuntime, view: &FrameView) -> Result<Vec<FrameIndex>> {
+fn slowest(rt: &(impl AllocGlobal + Abort), view: &FrameView) -> Vec<FrameIndex> {
     let mut all = Vec::new(rt.alloc());
     for frame in view.slowest_frames_chronological() {
-        all.push(frame.frame_index())?;
+        all.push(frame.frame_index()).expect(rt, "memory");
     }
-    Ok(all)
+    all
 }
 
 /// The indices of all frames.
-fn all(rt: &HostRuntime, view: &FrameView) -> Result<Vec<FrameIndex>> {
+fn all(rt: &(impl AllocGlobal + Abort), view: &FrameView) -> Vec<FrameIndex> {
     let mut all = Vec::new(rt.alloc());
     for frame in view.all_uniq() {
-        all.push(frame.frame_index())?;
+        all.push(frame.frame_index()).expect(rt, "memory");
     }
-    Ok(all)
+    all
 }
 
 /// The recent frames have these indices.
-fn are_recent(rt: &HostRuntime, view: &FrameView, indices: &[FrameIndex]) -> Outcome {
-    let found = recent(rt, view)?;
-    if found.as_slice() == indices {
-        Ok(())
-    } else {
-        Err(Fail::new("other frames are recent"))
-    }
+fn are_recent(rt: &(impl AllocGlobal + Abort), view: &FrameView, indices: &[FrameIndex]) {
+    let found = recent(rt, view);
+    assert!(rt; found.as_slice() == indices);
 }
 
 /// The slowest frames have these indices.
-fn are_slowest(rt: &HostRuntime, view: &FrameView, indices: &[FrameIndex]) -> Outcome {
-    let found = slowest(rt, view)?;
-    if found.as_slice() == indices {
-        Ok(())
-    } else {
-        Err(Fail::new("other frames are the slowest"))
-    }
+fn are_slowest(rt: &(impl AllocGlobal + Abort), view: &FrameView, indices: &[FrameIndex]) {
+    let found = slowest(rt, view);
+    assert!(rt; found.as_slice() == indices);
 }
 
 /// All frames have these indices.
-fn are_all(rt: &HostRuntime, view: &FrameView, indices: &[FrameIndex]) -> Outcome {
-    let found = all(rt, view)?;
-    if found.as_slice() == indices {
-        Ok(())
-    } else {
-        Err(Fail::new("other frames are held"))
-    }
+fn are_all(rt: &(impl AllocGlobal + Abort), view: &FrameView, indices: &[FrameIndex]) {
+    let found = all(rt, view);
+    assert!(rt; found.as_slice() == indices);
 }
 
 /// A view with these limits that took frames of these durations, from index 0 on.
 fn view(
-    rt: &HostRuntime,
+    rt: &(impl AllocGlobal + Abort),
     max_recent: usize,
     max_slow: usize,
     durations: &[NanoSecond],
-) -> Result<FrameView> {
+) -> FrameView {
     let mut view = FrameView::new(rt.alloc());
     view.set_max_recent(max_recent);
     view.set_max_slow(max_slow);
     for index in 0..durations.len() {
-        add(rt, &mut view, index as u64, durations[index])?;
+        add(rt, &mut view, index as u64, durations[index]);
     }
-    Ok(view)
+    view
 }
 
 /// How many frames a view holds, how many of them unpacked, and in how many bytes.
@@ -131,99 +124,96 @@ fn numbers(stats: FrameStats) -> (usize, usize, usize) {
 }
 
 #[test]
-fn a_packed_frame_counts_its_packed_bytes(rt: HostRuntime) -> Outcome {
+fn a_packed_frame_counts_its_packed_bytes(rt: HostRuntime) {
     let mut frames = FrameView::new(rt.alloc());
-    frames.add_frame(known_frame(&rt, 0)?)?;
+    frames.add_frame(known_frame(&rt, 0)).expect(&rt, "a frame");
     assert!(rt; numbers(frames.stats()) == (1, 1, 35));
-    frames.add_frame(known_frame(&rt, 1)?)?;
+    frames.add_frame(known_frame(&rt, 1)).expect(&rt, "a frame");
     assert!(rt; numbers(frames.stats()) == (2, 1, 85));
     assert!(rt; numbers(frames.stats_full()) == (2, 1, 85));
-    Ok(())
 }
 
 #[test]
-fn ties_stay_with_the_earlier(rt: HostRuntime) -> Outcome {
-    are_slowest(&rt, &view(&rt, 1000, 2, &[10, 10, 10])?, &[0, 1])?;
-    are_slowest(&rt, &view(&rt, 1000, 2, &[5, 9, 7, 9])?, &[1, 3])
+fn ties_stay_with_the_earlier(rt: HostRuntime) {
+    are_slowest(&rt, &view(&rt, 1000, 2, &[10, 10, 10]), &[0, 1]);
+    are_slowest(&rt, &view(&rt, 1000, 2, &[5, 9, 7, 9]), &[1, 3]);
 }
 
 #[test]
-fn an_index_that_does_not_rise_empties_the_view(rt: HostRuntime) -> Outcome {
+fn an_index_that_does_not_rise_empties_the_view(rt: HostRuntime) {
     let mut frames = FrameView::new(rt.alloc());
     for index in [5, 6, 6] {
-        add(&rt, &mut frames, index, 1)?;
+        add(&rt, &mut frames, index, 1);
     }
-    are_all(&rt, &frames, &[6])?;
+    are_all(&rt, &frames, &[6]);
     // The index of a frame that emptied the view is the last one taken.
     for index in [3, 2] {
-        add(&rt, &mut frames, index, 1)?;
-        are_all(&rt, &frames, &[index])?;
+        add(&rt, &mut frames, index, 1);
+        are_all(&rt, &frames, &[index]);
     }
-    Ok(())
 }
 
 #[test]
-fn a_view_of_slow_frames_alone_is_emptied_too(rt: HostRuntime) -> Outcome {
+fn a_view_of_slow_frames_alone_is_emptied_too(rt: HostRuntime) {
     let mut frames = FrameView::new(rt.alloc());
     frames.set_max_recent(0);
-    add(&rt, &mut frames, 3, 1)?;
-    add(&rt, &mut frames, 0, 1)?;
-    are_slowest(&rt, &frames, &[0])?;
-    are_recent(&rt, &frames, &[])?;
+    add(&rt, &mut frames, 3, 1);
+    add(&rt, &mut frames, 0, 1);
+    are_slowest(&rt, &frames, &[0]);
+    are_recent(&rt, &frames, &[]);
     assert!(rt; frames.latest_frame().is_none());
-    Ok(())
 }
 
 #[test]
-fn a_frame_that_is_recent_and_slow_is_held_once(rt: HostRuntime) -> Outcome {
-    let mut frames = view(&rt, 2, 1, &[9, 1, 2, 3])?;
-    are_all(&rt, &frames, &[0, 2, 3])?;
+fn a_frame_that_is_recent_and_slow_is_held_once(rt: HostRuntime) {
+    let mut frames = view(&rt, 2, 1, &[9, 1, 2, 3]);
+    are_all(&rt, &frames, &[0, 2, 3]);
     assert!(rt; frames.stats().frames() == 3);
     frames.clear_slowest();
-    are_all(&rt, &frames, &[2, 3])?;
+    are_all(&rt, &frames, &[2, 3]);
     assert!(rt; frames.stats().frames() == 2);
-    are_slowest(&rt, &frames, &[])
+    are_slowest(&rt, &frames, &[]);
 }
 
 #[test]
-fn a_limit_of_recent_frames_holds_from_the_next_on(rt: HostRuntime) -> Outcome {
-    let mut frames = view(&rt, 1000, 256, &[1, 1, 1])?;
+fn a_limit_of_recent_frames_holds_from_the_next_on(rt: HostRuntime) {
+    let mut frames = view(&rt, 1000, 256, &[1, 1, 1]);
     frames.set_max_recent(1);
     assert!(rt; frames.max_recent() == 1);
-    are_recent(&rt, &frames, &[0, 1, 2])?;
-    add(&rt, &mut frames, 3, 1)?;
-    are_recent(&rt, &frames, &[3])
+    are_recent(&rt, &frames, &[0, 1, 2]);
+    add(&rt, &mut frames, 3, 1);
+    are_recent(&rt, &frames, &[3]);
 }
 
 /// Two frames are the slowest, of which there may be one from now on.
-fn with_fewer_slow(rt: &HostRuntime) -> Result<FrameView> {
-    let mut slow = view(rt, 1000, 2, &[9, 7])?;
+fn with_fewer_slow(rt: &(impl AllocGlobal + Abort)) -> FrameView {
+    let mut slow = view(rt, 1000, 2, &[9, 7]);
     slow.set_max_slow(1);
-    Ok(slow)
+    slow
 }
 
 #[test]
-fn a_limit_of_slow_frames_holds_from_the_next_slow_one_on(rt: HostRuntime) -> Outcome {
-    let mut slow = with_fewer_slow(&rt)?;
+fn a_limit_of_slow_frames_holds_from_the_next_slow_one_on(rt: HostRuntime) {
+    let mut slow = with_fewer_slow(&rt);
     assert!(rt; slow.max_slow() == 1);
-    are_slowest(&rt, &slow, &[0, 1])?;
-    add(&rt, &mut slow, 2, 8)?;
-    are_slowest(&rt, &slow, &[0])
+    are_slowest(&rt, &slow, &[0, 1]);
+    add(&rt, &mut slow, 2, 8);
+    are_slowest(&rt, &slow, &[0]);
 }
 
 #[test]
-fn a_limit_of_slow_frames_waits_for_a_slow_one(rt: HostRuntime) -> Outcome {
-    let mut slow = with_fewer_slow(&rt)?.clone()?;
-    add(&rt, &mut slow, 2, 5)?;
-    are_slowest(&rt, &slow, &[0, 1])
+fn a_limit_of_slow_frames_waits_for_a_slow_one(rt: HostRuntime) {
+    let mut slow = with_fewer_slow(&rt).clone().expect(&rt, "memory");
+    add(&rt, &mut slow, 2, 5);
+    are_slowest(&rt, &slow, &[0, 1]);
 }
 
 #[test]
-fn with_the_limit_0_no_frame_is_slow(rt: HostRuntime) -> Outcome {
-    let mut none = view(&rt, 1000, 1, &[9])?;
+fn with_the_limit_0_no_frame_is_slow(rt: HostRuntime) {
+    let mut none = view(&rt, 1000, 1, &[9]);
     none.set_max_slow(0);
-    add(&rt, &mut none, 1, 10)?;
-    are_slowest(&rt, &none, &[])
+    add(&rt, &mut none, 1, 10);
+    are_slowest(&rt, &none, &[]);
 }
 
 /// The last so many recent frames have these indices.
@@ -238,59 +228,61 @@ fn are_latest(view: &FrameView, count: usize, indices: &[FrameIndex]) -> bool {
 }
 
 #[test]
-fn the_latest_frames_are_the_last_ones(rt: HostRuntime) -> Outcome {
-    let frames = view(&rt, 1000, 256, &[1, 1, 1])?;
+fn the_latest_frames_are_the_last_ones(rt: HostRuntime) {
+    let frames = view(&rt, 1000, 256, &[1, 1, 1]);
     assert!(rt; are_latest(&frames, 0, &[]));
     assert!(rt; are_latest(&frames, 1, &[2]));
     assert!(rt; are_latest(&frames, 2, &[1, 2]));
     assert!(rt; are_latest(&frames, 4, &[0, 1, 2]));
     assert!(rt; frames.pack_frames() && !frames.is_empty());
     assert!(rt; frames.scope_collection().scopes_by_id().is_empty());
-    Ok(())
 }
 
 #[test]
-fn cleared_statistics_are_zeros(rt: HostRuntime) -> Outcome {
-    let mut stats = view(&rt, 1000, 256, &[1])?.stats();
+fn cleared_statistics_are_zeros(rt: HostRuntime) {
+    let mut stats = view(&rt, 1000, 256, &[1]).stats();
     assert!(rt; numbers(stats) == (1, 1, 31));
     stats.clear();
     assert!(rt; numbers(stats) == (0, 0, 0));
-    Ok(())
 }
 
 #[test]
-fn selections_are_by_index(rt: HostRuntime) -> Outcome {
+fn selections_are_by_index(rt: HostRuntime) {
     let mut frames = Vec::new(rt.alloc());
     for (index, duration) in [(0, 5), (1, 9), (2, 7), (3, 9)] {
-        frames.push(frame(&rt, index, duration)?)?;
+        frames
+            .push(frame(&rt, index, duration))
+            .expect(&rt, "memory");
     }
-    let chosen = select_slowest(rt.alloc(), &frames, 3)?;
+    let chosen = select_slowest(rt.alloc(), &frames, 3).expect(&rt, "a frame");
     assert!(rt; chosen.len() == 3);
     for place in 0..3 {
         assert!(rt; chosen[place].frame_index() == place as u64 + 1);
     }
-    let none = select_slowest(rt.alloc(), &frames, 0)?;
+    let none = select_slowest(rt.alloc(), &frames, 0).expect(&rt, "a frame");
     assert!(rt; none.is_empty());
-    Ok(())
 }
 
 /// Two recent frames, the first of which lists a scope, and a slow one. All three are unpacked.
-fn telling_view(rt: &HostRuntime) -> Result<FrameView> {
-    let mut frames = view(rt, 2, 1, &[9, 1, 2])?;
+fn telling_view(rt: &(impl AllocGlobal + Abort)) -> FrameView {
+    let mut frames = view(rt, 2, 1, &[9, 1, 2]);
     frames.set_pack_frames(false);
     let mut details = Vec::new(rt.alloc());
-    details.push(named(rt.alloc(), 7, "a")?)?;
-    frames.add_frame(telling_frame(rt, 3, 1, details)?)?;
-    add(rt, &mut frames, 4, 3)?;
-    Ok(frames)
+    let details_of_a = named(rt.alloc(), 7, "a").expect(rt, "details");
+    details.push(details_of_a).expect(rt, "memory");
+    frames
+        .add_frame(telling_frame(rt, 3, 1, details))
+        .expect(rt, "a frame");
+    add(rt, &mut frames, 4, 3);
+    frames
 }
 
 /// A copy of a view that is emptied behind it.
-fn copied(rt: &HostRuntime) -> Result<FrameView> {
-    let mut frames = telling_view(rt)?;
-    let copy = frames.clone()?;
-    add(rt, &mut frames, 0, 1)?;
-    Ok(copy)
+fn copied(rt: &(impl AllocGlobal + Abort)) -> FrameView {
+    let mut frames = telling_view(rt);
+    let copy = frames.clone().expect(rt, "memory");
+    add(rt, &mut frames, 0, 1);
+    copy
 }
 
 /// Whether a view has the limits and the scope of [`telling_view`], and as many frames.
@@ -304,52 +296,55 @@ fn is_telling(view: &FrameView) -> bool {
 }
 
 #[test]
-fn copies_of_views(rt: HostRuntime) -> Outcome {
-    let mut copy = copied(&rt)?;
+fn copies_of_views(rt: HostRuntime) {
+    let mut copy = copied(&rt);
     assert!(rt; is_telling(&copy) && copy.stats().frames() == 3);
-    are_recent(&rt, &copy, &[3, 4])?;
-    are_slowest(&rt, &copy, &[0])?;
+    are_recent(&rt, &copy, &[3, 4]);
+    are_slowest(&rt, &copy, &[0]);
     // The copy knows how slow its slowest frame is, and which index it took last.
-    add(&rt, &mut copy, 5, 8)?;
-    are_all(&rt, &copy, &[0, 4, 5])?;
-    let mut other = copied(&rt)?;
-    add(&rt, &mut other, 4, 1)?;
-    are_all(&rt, &other, &[4])
+    add(&rt, &mut copy, 5, 8);
+    are_all(&rt, &copy, &[0, 4, 5]);
+    let mut other = copied(&rt);
+    add(&rt, &mut other, 4, 1);
+    are_all(&rt, &other, &[4]);
 }
 
 /// Details with the id 7, and details without an id.
-fn two_details(rt: &HostRuntime) -> Result<Vec<Arc<ScopeDetails>>> {
-    let alloc = rt.alloc();
-    let mut details = Vec::new(alloc);
-    details.push(named(alloc, 7, "a")?)?;
+fn two_details(rt: &(impl AllocGlobal + Abort)) -> Vec<Arc<ScopeDetails>> {
+    let mut details = Vec::new(rt.alloc());
+    let with_id = named(rt.alloc(), 7, "a").expect(rt, "details");
+    details.push(with_id).expect(rt, "memory");
     let no_id = ScopeDetails::from_scope_name(CowStr::Borrowed("b"));
-    details.push(Arc::new(alloc, no_id)?)?;
-    Ok(details)
+    let no_id = Arc::new(rt.alloc(), no_id).expect(rt, "memory");
+    details.push(no_id).expect(rt, "memory");
+    details
 }
 
 /// The first frame alone is held, and no scope is known.
-fn has_one_frame_and_no_scope(rt: &HostRuntime, frames: &FrameView) -> Outcome {
-    are_all(rt, frames, &[0])?;
+fn has_one_frame_and_no_scope(rt: &(impl AllocGlobal + Abort), frames: &FrameView) {
+    are_all(rt, frames, &[0]);
     let scopes = frames.scope_collection();
     let empty = scopes.scopes_by_id().is_empty() && scopes.scopes_by_name().is_empty();
-    if empty && numbers(frames.stats()) == (1, 1, 31) {
-        Ok(())
-    } else {
-        Err(Fail::new("more is held"))
-    }
+    assert!(rt; empty && numbers(frames.stats()) == (1, 1, 31));
 }
 
 #[test]
-fn details_without_an_id_change_nothing(rt: HostRuntime) -> Outcome {
-    let mut frames = view(&rt, 1000, 256, &[1])?;
-    let mut details = two_details(&rt)?;
+fn details_without_an_id_change_nothing(rt: HostRuntime) {
+    let mut frames = view(&rt, 1000, 256, &[1]);
+    let mut details = two_details(&rt);
     for index in [0, 1] {
-        let refused = frames.add_frame(telling_frame(&rt, index, 1, details.clone()?)?);
+        let refused = frames.add_frame(telling_frame(
+            &rt,
+            index,
+            1,
+            details.clone().expect(&rt, "memory"),
+        ));
         assert!(rt; refused.err() == Some(Error::MissingId));
-        has_one_frame_and_no_scope(&rt, &frames)?;
+        has_one_frame_and_no_scope(&rt, &frames);
     }
     let _no_id = details.pop();
-    frames.add_frame(telling_frame(&rt, 1, 1, details)?)?;
+    frames
+        .add_frame(telling_frame(&rt, 1, 1, details))
+        .expect(&rt, "a frame");
     assert!(rt; frames.scope_collection().scopes_by_id().len() == 1);
-    Ok(())
 }
