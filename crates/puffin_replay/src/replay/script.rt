@@ -311,7 +311,12 @@ fn script_of(alloc: Global, bytes: &[u8]) -> Result<Script, ToolFault>
     let mut lines = Lines { left: Some(bytes) };
     'lines: while let Some(line) = lines.next() {
         number += 1;
-        if let Some(statement) = &parse_line(number, line)? {
+        // The kit's borrow checker doesn't cover `?` here.
+        let statement = match parse_line(number, line) {
+            Ok(statement) => statement,
+            Err(fault) => return Err(fault),
+        };
+        if let Some(statement) = &statement {
             if reading.threads.is_late(statement) {
                 return Err(ToolFault::Line(number));
             }
