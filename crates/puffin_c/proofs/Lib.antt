@@ -8,6 +8,7 @@ pub mod Named
 pub mod ProfilerSlots
 pub mod RawBoxes
 pub mod Reports
+pub mod ScopesListed
 pub mod Sending
 pub mod StreamLists
 pub mod ThreadSlots

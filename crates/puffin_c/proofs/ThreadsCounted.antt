@@ -19,6 +19,7 @@ use Rattle.puffin_frames.specs.declared.frame_data.frame.FrameData.{FrameData}
 use Rattle.puffin_frames.specs.declared.frame_data.held.Held.TheVariants.{Own, Shared, Packed, Both}
 use Rattle.puffin_frames.specs.declared.frame_data.held.Held as way
 use Rattle.puffin_frames.specs.declared.frame_data.meta.FrameMeta.{FrameMeta}
+use Rattle.puffin_frames.specs.Frame.Variants.{HasMeta}
 use Rattle.puffin_frames.specs.Frame.Contents.{shared_streams, packet_fields}
 use Rattle.puffin_frames.specs.Frame.Streams.{Streams}
 use Rattle.puffin_frames.specs.Packet.Stored.{Stored}
@@ -65,15 +66,15 @@ first_said m form streams ds = record { fields = record { meta = m; form = form;
 true_is_not_false : true ≡ false → ⊥
 true_is_not_false e = cc
 
-fresh_by : (frame : FrameData) (h : way.Held) → IsFresh (record frame { held = h }) → frame_of (record frame { held = h }) ≡ frame_stored (stored_of (record frame { held = h }))
-fresh_by frame (Own u) fresh = ap (first_said _ _ _) (fresh.no_details refl)
-fresh_by frame (Shared u) fresh = ap (first_said _ _ _) (fresh.no_details refl)
-fresh_by frame (Packed p) fresh = refl
-fresh_by frame (Both b) fresh = absurd (true_is_not_false fresh.one_way)
+fresh_by : (frame : FrameData) (h : way.Held) (same : HasMeta h frame.meta) → IsFresh (record frame { held = h; same_meta = same }) → frame_of (record frame { held = h; same_meta = same }) ≡ frame_stored (stored_of (record frame { held = h; same_meta = same }))
+fresh_by frame (Own u) same fresh = ap (first_said _ _ _) (fresh.no_details refl)
+fresh_by frame (Shared u) same fresh = ap (first_said _ _ _) (fresh.no_details refl)
+fresh_by frame (Packed p) same fresh = refl
+fresh_by frame (Both b) same fresh = absurd (true_is_not_false fresh.one_way)
 
 -- what it is opened as
 pub opened_fresh : (frame : FrameData) → IsFresh frame → streams_in_fields (packet_fields frame) ≡ opened (stored_of frame)
-opened_fresh frame fresh = ap (λ (f : Frame). streams_in_fields (fields_of f)) (fresh_by frame frame.held fresh)
+opened_fresh frame fresh = ap (λ (f : Frame). streams_in_fields (fields_of f)) (fresh_by frame frame.held frame.same_meta fresh)
 
 pub opened_more : (ss : List Stored) (os : List Streams) (s : Stored) (o : Streams) → AreOpened ss os → opened s ≡ Ok o → AreOpened (ss ++ s ∷ []) (os ++ o ∷ [])
 opened_more [] [] s o h is = (is, tt)

@@ -11,5 +11,4 @@ pub mod Recording
 pub mod Reporting
 pub mod ScopeLists
 pub mod Threads
-pub mod Times
 pub mod Version

@@ -6,11 +6,10 @@ use Rattle.puffin_data.specs.declared.error.Error.TheVariants as error
 use Rattle.puffin_data.specs.Text.{cut_text}
 use Rattle.puffin_threads.specs.Details.{Details, default_details, with_id}
 use Rattle.puffin_data.specs.Forest.Words.{open_after}
-use Rattle.puffin_threads.specs.Thread.Calls.{Thread, new_thread, after_begin, after_end, after_registering, offsets_of, num_ended}
+use Rattle.puffin_threads.specs.Thread.Calls.{Thread, new_thread, after_begin, after_end, after_registering, offsets_of, num_ended, clock_time, begun_place}
 use Rattle.puffin_threads.specs.Thread.Discarding.{after_discarding}
 use Rattle.puffin_c.specs.declared.fault.Fault.{Fault}
 use Rattle.puffin_c.specs.declared.fault.Fault.TheVariants as fault
-use Rattle.puffin_c.specs.Times.{clock_time, begun_place}
 
 -- why a text is refused: the first cause that applies
 abbrev pub IsNoText : List ℕ → Fault → Type 0

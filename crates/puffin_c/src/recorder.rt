@@ -5,12 +5,11 @@ ghost use Rattle.puffin_data.specs.declared.error.Error.TheVariants.{Memory, Mis
 ghost use Rattle.puffin_data.specs.Text.{cut_text};
 ghost use Rattle.puffin_data.specs.Forest.Words.{open_after};
 ghost use Rattle.puffin_threads.specs.Thread.Calls.{new_thread, after_begin, after_end, offsets_of, num_ended};
-ghost use Rattle.puffin_threads.specs.Thread.Calls.{RegistersScope};
+ghost use Rattle.puffin_threads.specs.Thread.Calls.{RegistersScope, clock_time, begun_place};
 ghost use Rattle.puffin_threads.specs.Thread.Closing.{Reports};
 ghost use Rattle.puffin_threads.specs.Thread.Discarding.{after_discarding};
 ghost use Rattle.puffin_threads.specs.Details.{default_details};
 ghost use Rattle.puffin_collector.specs.Collector.State.{AcceptsReport, RefusesReport};
-ghost use Rattle.puffin_c.specs.Times.{clock_time, begun_place};
 
 use crate::shared_ids::SharedIds;
 use puffin_collector::Collector;

@@ -23,7 +23,7 @@ use puffin_data::data::{Form, StreamInfo};
 use puffin_data::{Error, FileError};
 use puffin_frames::frame_data::laws::each_frame_is_read_again;
 use puffin_frames::frame_data::{FrameData, UnpackedFrameData};
-use puffin_frames::thread_profiler::ThreadInfo;
+use puffin_threads::thread_profiler::ThreadInfo;
 use puffin_view::profile_view::{next_frame, read_magic};
 use std::alloc::{AllocError, Global};
 use std::sync::Arc;

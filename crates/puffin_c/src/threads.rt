@@ -22,7 +22,7 @@ use crate::unread::lay_over;
 use puffin_data::data::StreamInfo;
 use puffin_data::{Error, FileError, Result as Answer};
 use puffin_frames::frame_data::{FrameData, UnpackedFrameData};
-use puffin_frames::thread_profiler::ThreadInfo;
+use puffin_threads::thread_profiler::ThreadInfo;
 use puffin_view::profile_view::{next_frame, read_magic};
 use std::alloc::{AllocError, Global};
 use std::collections::BTreeMap;
