@@ -90,13 +90,17 @@ fn run_threads(rt: &HostRuntime, mode: Mode) -> Result<()> {
     Ok(())
 }
 
-/// Makes scopes with the system's clock: those of a thread profiler, and those of macros.
+/// Makes scopes of a thread profiler with the system's clock.
 fn run_clocked(rt: HostRuntime, mode: Mode) -> Result<()> {
     let mut profiling = Profiling {
         thread: clocked_thread(rt)?,
         text: "",
     };
-    run(&rt, mode, "real_empty", REAL_ROUNDS, &mut profiling)?;
+    run(&rt, mode, "real_empty", REAL_ROUNDS, &mut profiling)
+}
+
+/// Makes scopes of macros with the system's clock.
+fn run_clocked_macros(rt: HostRuntime, mode: Mode) -> Result<()> {
     let mut nesting = Nesting {
         thread: clocked_thread(rt)?,
         scopes: Scopes::new(true),
@@ -151,24 +155,51 @@ fn run_all(rt: HostRuntime, mode: Mode) -> Result<()> {
     run_names(&rt, mode)?;
     run_files(&rt, mode)?;
     run_frames(&rt, mode)?;
-    run_clocked(rt, mode)
+    run_clocked(rt, mode)?;
+    run_clocked_macros(rt, mode)
+}
+
+/// What the arguments ask for.
+#[derive(Clone, Copy)]
+enum Task {
+    /// Everything, counted.
+    Count,
+    /// Everything, timed.
+    Time,
+    /// Threads that share a profiler, timed.
+    Threads,
+    /// Merging and views, timed.
+    Frames,
+}
+
+/// Reads the arguments.
+fn asked(rt: &HostRuntime) -> Result<Task> {
+    let mut words = env::args(rt)?.skip(1);
+    match words.next() {
+        Some(word) if word.as_str() == "frames" => return Ok(Task::Frames),
+        Some(word) if word.as_str() == "time" => {}
+        _ => return Ok(Task::Count),
+    }
+    match words.next() {
+        Some(prefix) if prefix.as_str().starts_with("threads_") => Ok(Task::Threads),
+        _ => Ok(Task::Time),
+    }
 }
 
 fn main(rt: HostRuntime) -> Result<()> {
-    let mut words = env::args(&rt)?.skip(1);
-    let mode = match words.next() {
-        Some(word) if word.as_str() == "frames" => return run_frames(&rt, Mode::Time),
-        Some(word) if word.as_str() == "time" => Mode::Time,
-        _ => Mode::Count,
-    };
-    let prefix = words.next();
-    if !prefix.is_some_and(|prefix| prefix.as_str().starts_with("threads_")) {
-        run_reports(&rt, mode)?;
-        run_all(rt, mode)?;
-        run_shared_views(&rt, mode)?;
-    }
-    match mode {
-        Mode::Count => Ok(()),
-        Mode::Time => time_threads(rt),
+    match asked(&rt)? {
+        Task::Count => {
+            run_reports(&rt, Mode::Count)?;
+            run_all(rt, Mode::Count)?;
+            run_shared_views(&rt, Mode::Count)
+        }
+        Task::Time => {
+            run_reports(&rt, Mode::Time)?;
+            run_all(rt, Mode::Time)?;
+            run_shared_views(&rt, Mode::Time)?;
+            time_threads(rt)
+        }
+        Task::Threads => time_threads(rt),
+        Task::Frames => run_frames(&rt, Mode::Time),
     }
 }

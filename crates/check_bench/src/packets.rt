@@ -40,24 +40,19 @@ fn frame(alloc: Global, index: u32) -> Result<FrameData> {
 }
 
 /// Makes `count` frames.
-fn frames(alloc: Global, count: u32) -> Result<Vec<FrameData>> {
-    let mut frames = Vec::new(alloc);
+fn add_frames(alloc: Global, count: u32, frames: &mut Vec<FrameData>) -> Result<()> {
     for index in 0..count {
         frames.push(frame(alloc, index)?)?;
     }
-    Ok(frames)
+    Ok(())
 }
 
-/// Returns packed copies of frames.
-fn packed(alloc: Global, frames: &[FrameData]) -> std::result::Result<Vec<FrameData>, FileError> {
-    let mut packed = Vec::new(alloc);
+/// Makes packed copies of frames.
+fn add_packed(frames: &[FrameData], packed: &mut Vec<FrameData>) -> Result<()> {
     for frame in frames {
-        match frame.packed_copy() {
-            Ok(copy) => packed.push(copy)?,
-            Err(cause) => return Err(FileError::Refused(cause)),
-        }
+        packed.push(frame.packed_copy()?)?;
     }
-    Ok(packed)
+    Ok(())
 }
 
 /// A kind of work with the frames of a file.
@@ -123,26 +118,28 @@ pub struct Files {
 impl Files {
     /// Makes `count` frames, and files of them.
     pub fn new(alloc: Global, count: u32) -> std::result::Result<Files, FileError> {
-        let frames = match frames(alloc, count) {
-            Ok(frames) => frames,
-            Err(cause) => return Err(FileError::Refused(cause)),
-        };
-        let packed = packed(alloc, &frames)?;
-        let mut file = Vec::new(alloc);
-        let _count = written(&frames, &mut file)?;
-        let view = view(alloc, &packed)?;
-        let mut view_file = Vec::new(alloc);
-        let _count = view_written(&view, &mut view_file)?;
-        Ok(Files {
+        let mut files = Files {
             alloc,
             work: FileWork::Write,
-            frames,
-            packed,
-            file,
+            frames: Vec::new(alloc),
+            packed: Vec::new(alloc),
+            file: Vec::new(alloc),
             copy: Vec::new(alloc),
-            view,
-            view_file,
-        })
+            view: FrameView::new(alloc),
+            view_file: Vec::new(alloc),
+        };
+        files.fill(count)?;
+        Ok(files)
+    }
+
+    /// Makes `count` frames, and adds copies of them to the view, which is empty.
+    fn fill(&mut self, count: u32) -> std::result::Result<(), FileError> {
+        add_frames(self.alloc, count, &mut self.frames)?;
+        add_packed(&self.frames, &mut self.packed)?;
+        let _count = written(&self.frames, &mut self.file)?;
+        add_to_view(self.alloc, &self.packed, &mut self.view)?;
+        let _count = view_written(&self.view, &mut self.view_file)?;
+        Ok(())
     }
 
     /// Does the work, and returns the number of frames it was done on.
@@ -216,19 +213,12 @@ fn read_unpacked(alloc: Global, file: &[u8]) -> std::result::Result<usize, FileE
     Ok(frames.len())
 }
 
-/// Makes a view of copies of these frames.
-fn view(alloc: Global, frames: &[FrameData]) -> std::result::Result<FrameView, FileError> {
-    let mut view = FrameView::new(alloc);
+/// Adds copies of these frames to a view.
+fn add_to_view(alloc: Global, frames: &[FrameData], view: &mut FrameView) -> Result<()> {
     for frame in frames {
-        let copy = match frame.clone() {
-            Ok(copy) => Arc::new(alloc, copy)?,
-            Err(cause) => return Err(FileError::Refused(cause)),
-        };
-        if let Err(cause) = view.add_frame(copy) {
-            return Err(FileError::Refused(cause));
-        }
+        view.add_frame(Arc::new(alloc, frame.clone()?)?)?;
     }
-    Ok(view)
+    Ok(())
 }
 
 /// Writes the file of a view into memory that is reused, and returns how many frames the view holds.

@@ -5,7 +5,7 @@ ghost use Rattle.puffin_data.specs.Forest.{Forest};
 ghost use Rattle.puffin_data.specs.Honesty.{IsHonest};
 
 use crate::reports::two_scopes;
-use anyhow::Result;
+use anyhow::{Context, Result};
 use puffin::global_profiler::{GlobalFrameView, GlobalProfiler, Share, SharedProfiler};
 use puffin::thread_profiler::ThreadInfo;
 use puffin_data::data::StreamInfo;
@@ -65,7 +65,23 @@ fn fastest<L: Ledger, M: Ledger, R: Wait + Clock>(
     Ok(best)
 }
 
-/// Attaches a view, fills it, and takes frames in `runs` more runs. Returns the nanoseconds of the fastest.
+/// Attaches a view, fills it, and takes frames with the one share in `runs` more runs. Returns the nanoseconds of the fastest.
+fn attached<L: Ledger, M: Ledger, R: Wait + Clock>(
+    rt: &R,
+    alloc: Global,
+    runs: u32,
+    profiler: &SharedProfiler<L, M>,
+    shares: Vec<Share<L, M>>,
+) -> Result<u128> {
+    let mut shares = shares;
+    let mut share = shares.pop().context("a share")?;
+    let view = GlobalFrameView::attach(rt, alloc, profiler)?;
+    let best = fastest(rt, alloc, runs, profiler, &mut share);
+    let _was_attached = view.detach(rt, profiler);
+    best
+}
+
+/// Shares a profiler with one share, and takes frames of it with a view attached. Returns the nanoseconds of the fastest run.
 fn viewed<L: Ledger, M: Ledger, R: Wait + Clock>(
     rt: &R,
     alloc: Global,
@@ -79,17 +95,10 @@ fn viewed<L: Ledger, M: Ledger, R: Wait + Clock>(
     requires handed { (handed.name ≡ M.name) × (handed.parts ≡ M.parts) × (handed.parts ≡ 1) }
 {
     let profiler = GlobalProfiler::new(alloc);
-    let Ok((profiler, shares)) = SharedProfiler::<L, M>::open(alloc, profiler, 1, reported, handed)
-    else {
-        return Err(AllocError.into());
-    };
-    let view = GlobalFrameView::attach(rt, alloc, &profiler)?;
-    let mut best = u128::MAX;
-    for mut share in shares {
-        best = fastest(rt, alloc, runs, &profiler, &mut share)?;
+    match SharedProfiler::<L, M>::open(alloc, profiler, 1, reported, handed) {
+        Ok((profiler, shares)) => attached(rt, alloc, runs, &profiler, shares),
+        Err(_) => Err(AllocError.into()),
     }
-    let _was_attached = view.detach(rt, &profiler);
-    Ok(best)
 }
 
 /// Takes frames of a profiler that one view is attached to, in `runs` runs. Returns the nanoseconds of the fastest.

@@ -171,7 +171,36 @@ fn joined<R: Threads + Wait>(
     Ok(whole(laps.as_slice()))
 }
 
+/// Starts a thread for each share, and takes frames with the share `own`.
+fn beside<
+    L: Ledger + Send + Sync + 'static,
+    M: Ledger + Send + Sync + 'static,
+    R: Threads + Wait + Clock + Copy + Send + Sync + 'static,
+>(
+    rt: R,
+    alloc: Global,
+    profiler: &SharedProfiler<L, M>,
+    shares: Vec<Share<L, M>>,
+    own: &mut Share<L, M>,
+) -> Result<u128> {
+    let scopes = shares.len().saturating_mul(REPORTS).saturating_mul(SCOPES);
+    let workers = start_all(rt, alloc, profiler, shares)?;
+    take_frames(&rt, profiler, own, scopes)?;
+    joined(&rt, alloc, workers)
+}
+
 /// Starts a thread for each share but one, and takes frames with that one.
+fn shared<
+    L: Ledger + Send + Sync + 'static,
+    M: Ledger + Send + Sync + 'static,
+    R: Threads + Wait + Clock + Copy + Send + Sync + 'static,
+>(rt: R, alloc: Global, profiler: &SharedProfiler<L, M>, shares: Vec<Share<L, M>>) -> Result<u128> {
+    let mut shares = shares;
+    let mut own = shares.pop().context("a share")?;
+    beside(rt, alloc, profiler, shares, &mut own)
+}
+
+/// Shares a profiler, and lets all threads but one report while that one takes frames.
 fn round<
     L: Ledger + Send + Sync + 'static,
     M: Ledger + Send + Sync + 'static,
@@ -186,17 +215,10 @@ fn round<
         × (handed.parts ≡ parts) }
 {
     let profiler = GlobalProfiler::new(alloc);
-    let Ok((profiler, shares)) = SharedProfiler::<L, M>::open(
-        alloc, profiler, parts, reported, handed,
-    ) else {
-        return Err(AllocError.into());
-    };
-    let mut shares = shares;
-    let mut own = shares.pop().context("a share")?;
-    let workers = start_all(rt, alloc, &profiler, shares)?;
-    let scopes = workers.len().saturating_mul(REPORTS).saturating_mul(SCOPES);
-    take_frames(&rt, &profiler, &mut own, scopes)?;
-    joined(&rt, alloc, workers)
+    match SharedProfiler::<L, M>::open(alloc, profiler, parts, reported, handed) {
+        Ok((profiler, shares)) => shared(rt, alloc, &profiler, shares),
+        Err(_) => Err(AllocError.into()),
+    }
 }
 
 /// Lets `threads` threads report while one more takes frames. Returns the nanoseconds from the earliest beginning to the latest

@@ -3,14 +3,11 @@
 use crate::equal::equal;
 use crate::samples::NONE;
 use puffin_data::data::{Counted, Form, Stream, StreamInfo, read_to_end, text_of, write_all};
-use puffin_data::{Error, FileError};
+use puffin_data::{Error, FileError, Result};
 use std::alloc::Global;
 use std::process::Abort;
-use std::test::Fail;
 use tests_support::samples::{ONE_SCOPE, THREE_SCOPES};
 use tests_support::streams::stream_of;
-
-type Outcome = std::result::Result<(), Fail>;
 
 #[test]
 fn a_text_ends_before_bytes_that_are_no_utf_8(rt: HostRuntime) {
@@ -32,7 +29,7 @@ fn each_file_error_has_a_name(rt: HostRuntime) {
 }
 
 /// A text of so many letters.
-fn letters(alloc: Global, count: usize) -> std::result::Result<String, Fail> {
+fn letters(alloc: Global, count: usize) -> Result<String> {
     let mut text = String::new(alloc);
     for _ in 0..count {
         text.push('a')?;
@@ -41,7 +38,7 @@ fn letters(alloc: Global, count: usize) -> std::result::Result<String, Fail> {
 }
 
 #[test]
-fn the_beginning_of_a_scope_fits_its_limit(rt: HostRuntime) -> Outcome {
+fn the_beginning_of_a_scope_fits_its_limit(rt: HostRuntime) {
     // 22 bytes stand around a text of the short form, and the length of one from 128 bytes on takes another.
     for (form, count, size) in [
         (Form::Short, 4, 26),
@@ -50,11 +47,10 @@ fn the_beginning_of_a_scope_fits_its_limit(rt: HostRuntime) -> Outcome {
         (Form::Long, 128, 151),
         (Form::Long, 16_384, 16_406),
     ] {
-        let text = letters(rt.alloc(), count)?;
+        let text = letters(rt.alloc(), count).expect(&rt, "memory");
         let limit = form.begin_limit(text.as_str());
         assert!(rt; size <= limit && limit < 32_768);
     }
-    Ok(())
 }
 
 #[test]
@@ -74,11 +70,15 @@ fn unlike(rt: &impl Abort, first: &StreamInfo, second: &StreamInfo, expected: bo
 }
 
 #[test]
-fn only_infos_with_bytes_are_unlike(rt: HostRuntime) -> Outcome {
+fn only_infos_with_bytes_are_unlike(rt: HostRuntime) {
     let alloc = rt.alloc();
-    let short = StreamInfo::parse(alloc, stream_of(alloc, &ONE_SCOPE)?)?;
-    let bytes = Vec::from_slice(alloc, &THREE_SCOPES)?;
-    let long = StreamInfo::parse(alloc, Stream::from_bytes(bytes, Form::Long))?;
+    let short = StreamInfo::parse(alloc, stream_of(alloc, &ONE_SCOPE).expect(&rt, "memory")).expect(
+        &rt, "scopes",
+    );
+    let bytes = Vec::from_slice(alloc, &THREE_SCOPES).expect(&rt, "memory");
+    let long = StreamInfo::parse(alloc, Stream::from_bytes(bytes, Form::Long)).expect(
+        &rt, "scopes",
+    );
     unlike(&rt, &short, &long, true);
     unlike(&rt, &long, &long, false);
     unlike(
@@ -87,11 +87,10 @@ fn only_infos_with_bytes_are_unlike(rt: HostRuntime) -> Outcome {
         &StreamInfo::with_form(alloc, Form::Long),
         false,
     );
-    Ok(())
 }
 
 #[test]
-fn all_bytes_are_written_and_read(rt: HostRuntime) -> Outcome {
+fn all_bytes_are_written_and_read(rt: HostRuntime) {
     let mut bytes = Vec::new(rt.alloc());
     equal(
         &rt,
@@ -102,8 +101,7 @@ fn all_bytes_are_written_and_read(rt: HostRuntime) -> Outcome {
     let read = read_to_end(rt.alloc(), &mut Counted::new(bytes.as_slice())).ok();
     equal(
         &rt,
-        read.ok_or("no fault")?.as_slice(),
+        read.expect(&rt, "no fault").as_slice(),
         THREE_SCOPES.as_slice(),
     );
-    Ok(())
 }

@@ -4,7 +4,6 @@ use crate::equal::equal;
 use puffin_data::data::{Buffered, Counted, Drain, Source};
 use std::io;
 use std::io::{BufReader, Read, Write};
-use std::test::Fail;
 
 /// Gives or takes one byte, then fails once, and so on.
 #[derive(Drop)]
@@ -107,18 +106,19 @@ impl Read for Failing {
 }
 
 #[test]
-fn the_last_error_is_told(rt: HostRuntime) -> std::result::Result<(), Fail> {
+fn the_last_error_is_told(rt: HostRuntime) {
     let mut source = Counted::new(Failing { found: false });
     equal(&rt, source.last_error().is_none(), true);
     equal(&rt, read_twice(&mut source, &mut [0]), (None, None));
-    let last = source.last_error().ok_or("an error")?;
+    let last = source.last_error().expect(&rt, "an error");
     equal(&rt, last.kind(), io::ErrorKind::BrokenPipe);
     let failing = Failing { found: false };
-    let mut source = Buffered::new(BufReader::with_capacity(rt.alloc(), 4, failing)?);
+    let mut source = Buffered::new(BufReader::with_capacity(rt.alloc(), 4, failing).expect(
+        &rt, "memory",
+    ));
     equal(&rt, source.last_error().is_none(), true);
     let mut bytes = Vec::new(rt.alloc());
     equal(&rt, source.read_to_len(&mut bytes, 2).is_err(), true);
-    let last = source.last_error().ok_or("an error")?;
+    let last = source.last_error().expect(&rt, "an error");
     equal(&rt, last.kind(), io::ErrorKind::NotFound);
-    Ok(())
 }

@@ -2,16 +2,10 @@ use crate::equal::equal;
 use puffin_data::data::{Form, Reader, Stream};
 use puffin_data::{Error, Result};
 use std::alloc::Global;
-use std::test::Fail;
 use tests_support::streams::{end, id};
 
 /// A scope of id 1 from 100 to 300 whose text is so many letters and then one character, and its offset.
-fn lettered(
-    alloc: Global,
-    form: Form,
-    letters: usize,
-    last: char,
-) -> std::result::Result<(usize, Stream), Fail> {
+fn lettered(alloc: Global, form: Form, letters: usize, last: char) -> Result<(usize, Stream)> {
     let mut text = String::new(alloc);
     for _ in 0..letters {
         text.push('a')?;
@@ -36,8 +30,8 @@ fn walked(alloc: Global, bytes: &[u8]) -> Result<usize> {
 }
 
 #[test]
-fn texts_of_128_letters_in_both_forms(rt: HostRuntime) -> std::result::Result<(), Fail> {
-    let (offset, long) = lettered(rt.alloc(), Form::Long, 127, 'a')?;
+fn texts_of_128_letters_in_both_forms(rt: HostRuntime) {
+    let (offset, long) = lettered(rt.alloc(), Form::Long, 127, 'a').expect(&rt, "memory");
     equal(&rt, offset, 143);
     equal(
         &rt,
@@ -45,27 +39,25 @@ fn texts_of_128_letters_in_both_forms(rt: HostRuntime) -> std::result::Result<()
         (160, Some(b"\x80\x01".as_slice())),
     );
     equal(&rt, walked(rt.alloc(), long.bytes()), Ok(1));
-    let (_, short) = lettered(rt.alloc(), Form::Short, 127, 'a')?;
+    let (_, short) = lettered(rt.alloc(), Form::Short, 127, 'a').expect(&rt, "memory");
     equal(&rt, length_bytes(&short), (158, Some(b"\x7fa".as_slice())));
-    Ok(())
 }
 
 #[test]
-fn a_long_text_is_whole_or_cut_at_16383(rt: HostRuntime) -> std::result::Result<(), Fail> {
-    let (_, whole) = lettered(rt.alloc(), Form::Long, 126, 'é')?;
+fn a_long_text_is_whole_or_cut_at_16383(rt: HostRuntime) {
+    let (_, whole) = lettered(rt.alloc(), Form::Long, 126, 'é').expect(&rt, "memory");
     equal(
         &rt,
         length_bytes(&whole),
         (160, Some(b"\x80\x01".as_slice())),
     );
-    let (_, cut) = lettered(rt.alloc(), Form::Long, 16383, 'a')?;
+    let (_, cut) = lettered(rt.alloc(), Form::Long, 16383, 'a').expect(&rt, "memory");
     equal(
         &rt,
         length_bytes(&cut),
         (16415, Some(b"\xff\x7f".as_slice())),
     );
     equal(&rt, walked(rt.alloc(), cut.bytes()), Ok(1));
-    Ok(())
 }
 
 /// What a walk over so many of a stream's bytes comes to, where a text's length is written in these two groups.
@@ -81,8 +73,8 @@ fn walked_with(alloc: Global, stream: &Stream, groups: (u8, u8), size: usize) ->
 }
 
 #[test]
-fn only_the_shortest_length_is_read(rt: HostRuntime) -> std::result::Result<(), Fail> {
-    let (_, stream) = lettered(rt.alloc(), Form::Long, 127, 'a')?;
+fn only_the_shortest_length_is_read(rt: HostRuntime) {
+    let (_, stream) = lettered(rt.alloc(), Form::Long, 127, 'a').expect(&rt, "memory");
     for (groups, size, expected) in [
         ((0x80, 0), 160, Err(Error::InvalidStream)),
         ((0x80, 0x80), 160, Err(Error::InvalidStream)),
@@ -101,16 +93,14 @@ fn only_the_shortest_length_is_read(rt: HostRuntime) -> std::result::Result<(), 
             expected,
         );
     }
-    Ok(())
 }
 
 #[test]
-fn a_copy_and_a_cleared_stream_keep_the_form(rt: HostRuntime) -> std::result::Result<(), Fail> {
+fn a_copy_and_a_cleared_stream_keep_the_form(rt: HostRuntime) {
     equal(&rt, Stream::new(rt.alloc()).form(), Form::Short);
     equal(&rt, Stream::from(Vec::new(rt.alloc())).form(), Form::Short);
-    let (_, mut stream) = lettered(rt.alloc(), Form::Long, 0, 'a')?;
-    equal(&rt, stream.clone()?.form(), Form::Long);
+    let (_, mut stream) = lettered(rt.alloc(), Form::Long, 0, 'a').expect(&rt, "memory");
+    equal(&rt, stream.clone().expect(&rt, "memory").form(), Form::Long);
     stream.clear();
     equal(&rt, (stream.form(), stream.len()), (Form::Long, 0));
-    Ok(())
 }

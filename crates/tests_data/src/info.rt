@@ -4,7 +4,6 @@ use puffin_data::data::{Form, Stream, StreamInfo};
 use puffin_data::{Error, NanoSecond, Result};
 use std::alloc::Global;
 use std::process::Abort;
-use std::test::Fail;
 use tests_support::samples::{ONE_SCOPE, THREE_SCOPES};
 use tests_support::streams::stream_of;
 
@@ -28,33 +27,34 @@ fn extended(alloc: Global) -> Result<StreamInfo> {
 }
 
 #[test]
-fn a_borrowed_info_says_the_same(rt: HostRuntime) -> std::result::Result<(), Fail> {
-    let other = StreamInfo::parse(rt.alloc(), stream_of(rt.alloc(), &THREE_SCOPES)?)?;
+fn a_borrowed_info_says_the_same(rt: HostRuntime) {
+    let other = StreamInfo::parse(
+        rt.alloc(),
+        stream_of(rt.alloc(), &THREE_SCOPES).expect(&rt, "memory"),
+    )
+    .expect(&rt, "scopes");
     let borrowed = other.as_stream_into_ref();
     assert!(rt; borrowed.stream == THREE_SCOPES.as_slice());
     assert!(rt; (borrowed.num_scopes, borrowed.depth) == (3, 2));
     assert!(rt; borrowed.range_ns == (100, 400));
-    Ok(())
 }
 
 #[test]
-fn an_info_is_extended_by_another(rt: HostRuntime) -> std::result::Result<(), Fail> {
-    let info = extended(rt.alloc())?;
+fn an_info_is_extended_by_another(rt: HostRuntime) {
+    let info = extended(rt.alloc()).expect(&rt, "scopes");
     is_info(&rt, &info, (162, 4, 2), (100, 400));
-    Ok(())
 }
 
 #[test]
-fn a_copy_stays_when_an_info_is_cleared(rt: HostRuntime) -> std::result::Result<(), Fail> {
-    let mut info = extended(rt.alloc())?;
-    let copy = info.clone()?;
+fn a_copy_stays_when_an_info_is_cleared(rt: HostRuntime) {
+    let mut info = extended(rt.alloc()).expect(&rt, "scopes");
+    let copy = info.clone().expect(&rt, "memory");
     info.clear();
     is_info(&rt, &info, (0, 0, 0), NONE);
     is_info(&rt, &copy, (162, 4, 2), (100, 400));
-    let mut both = Vec::from_slice(rt.alloc(), &ONE_SCOPE)?;
-    both.extend_from_slice(&THREE_SCOPES)?;
+    let mut both = Vec::from_slice(rt.alloc(), &ONE_SCOPE).expect(&rt, "memory");
+    both.extend_from_slice(&THREE_SCOPES).expect(&rt, "memory");
     assert!(rt; copy.stream.bytes() == both.as_slice());
-    Ok(())
 }
 
 /// The info of one scope in the long form. Its text is short, so its bytes are those of the short form.
@@ -64,16 +64,19 @@ fn long_one(alloc: Global) -> Result<StreamInfo> {
 }
 
 #[test]
-fn unlike_forms_are_not_joined(rt: HostRuntime) -> std::result::Result<(), Fail> {
-    let mut info = StreamInfo::parse(rt.alloc(), stream_of(rt.alloc(), &THREE_SCOPES)?)?;
-    let long = long_one(rt.alloc())?;
+fn unlike_forms_are_not_joined(rt: HostRuntime) {
+    let mut info = StreamInfo::parse(
+        rt.alloc(),
+        stream_of(rt.alloc(), &THREE_SCOPES).expect(&rt, "memory"),
+    )
+    .expect(&rt, "scopes");
+    let long = long_one(rt.alloc()).expect(&rt, "scopes");
     equal(
         &rt,
         info.extend(&long.as_stream_into_ref()),
         Err(Error::UnlikeForms),
     );
     is_info(&rt, &info, (127, 3, 2), (100, 400));
-    Ok(())
 }
 
 /// Extends an info by another. Returns the form that it has then.

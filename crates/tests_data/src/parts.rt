@@ -11,7 +11,6 @@ use std::alloc::Global;
 use std::io;
 use std::io::{BufReader, Read};
 use std::process::Abort;
-use std::test::Fail;
 
 /// Gives the bytes 0, 1, 2 and so on up to an end, at most three at once. Behind its end it fails, where it is to.
 #[derive(Drop)]
@@ -59,21 +58,28 @@ fn buffered(alloc: Global, end: u8, fails: bool) -> io::Result<Buffered<BufReade
 }
 
 #[test]
-fn a_part_comes_in_small_reads(rt: HostRuntime) -> Result<(), Fail> {
+fn a_part_comes_in_small_reads(rt: HostRuntime) {
     let mut source = source_of(12, false);
-    equal(&rt, read_byte(&mut source)?, 0);
-    equal(&rt, read_length(&mut source)?, 0x04030201);
-    let part = read_part(rt.alloc(), &mut source, 5)?;
+    equal(&rt, read_byte(&mut source).expect(&rt, "a byte"), 0);
+    equal(
+        &rt,
+        read_length(&mut source).expect(&rt, "a length"),
+        0x04030201,
+    );
+    let part = read_part(rt.alloc(), &mut source, 5).expect(&rt, "a part");
     equal(&rt, part.as_slice(), b"\x05\x06\x07\x08\x09".as_slice());
     let mut piece = [9; 4];
-    equal(&rt, read_up_to(&mut source, &mut piece)?, 2);
+    equal(
+        &rt,
+        read_up_to(&mut source, &mut piece).expect(&rt, "bytes"),
+        2,
+    );
     equal(&rt, piece, [10, 11, 9, 9]);
     equal(&rt, Source::faults(&source), 0);
-    Ok(())
 }
 
 #[test]
-fn a_part_that_ends_too_early(rt: HostRuntime) -> Result<(), Fail> {
+fn a_part_that_ends_too_early(rt: HostRuntime) {
     let mut source = source_of(5, false);
     equal(
         &rt,
@@ -86,11 +92,10 @@ fn a_part_that_ends_too_early(rt: HostRuntime) -> Result<(), Fail> {
         read_length(&mut source_of(3, false)),
         Err(FileError::Truncated),
     );
-    Ok(())
 }
 
 #[test]
-fn a_failure_is_told_and_counted(rt: HostRuntime) -> Result<(), Fail> {
+fn a_failure_is_told_and_counted(rt: HostRuntime) {
     let mut source = source_of(5, true);
     equal(
         &rt,
@@ -100,63 +105,58 @@ fn a_failure_is_told_and_counted(rt: HostRuntime) -> Result<(), Fail> {
     equal(&rt, Source::faults(&source), 1);
     equal(&rt, read_up_to(&mut source, &mut [0]), Err(FileError::Io));
     equal(&rt, Source::faults(&source), 2);
-    Ok(())
 }
 
 #[test]
-fn a_counted_part(rt: HostRuntime) -> Result<(), Fail> {
+fn a_counted_part(rt: HostRuntime) {
     let mut source = Counted::new(b"\x04\0\0\0data\0\0\0\0\xff\xff\xff\xffa".as_slice());
-    let part = read_counted_part(rt.alloc(), &mut source)?;
+    let part = read_counted_part(rt.alloc(), &mut source).expect(&rt, "a part");
     equal(&rt, part.as_slice(), b"data".as_slice());
-    let empty = read_counted_part(rt.alloc(), &mut source)?;
+    let empty = read_counted_part(rt.alloc(), &mut source).expect(&rt, "a part");
     assert!(rt; empty.is_empty());
     let lies = read_counted_part(rt.alloc(), &mut source);
     equal(&rt, lies.err(), Some(FileError::Truncated));
-    Ok(())
 }
 
 #[test]
-fn a_part_from_a_buffer(rt: HostRuntime) -> Result<(), Fail> {
-    let mut source = buffered(rt.alloc(), 12, false)?;
-    equal(&rt, read_byte(&mut source)?, 0);
-    let part = read_part(rt.alloc(), &mut source, 8)?;
+fn a_part_from_a_buffer(rt: HostRuntime) {
+    let mut source = buffered(rt.alloc(), 12, false).expect(&rt, "memory");
+    equal(&rt, read_byte(&mut source).expect(&rt, "a byte"), 0);
+    let part = read_part(rt.alloc(), &mut source, 8).expect(&rt, "a part");
     equal(
         &rt,
         part.as_slice(),
         b"\x01\x02\x03\x04\x05\x06\x07\x08".as_slice(),
     );
-    let rest = read_to_end(rt.alloc(), &mut source)?;
+    let rest = read_to_end(rt.alloc(), &mut source).expect(&rt, "bytes");
     equal(&rt, rest.as_slice(), b"\x09\x0a\x0b".as_slice());
     let none = read_part(rt.alloc(), &mut source, 1);
     equal(&rt, none.err(), Some(FileError::Truncated));
     equal(&rt, Source::faults(&source), 0);
     let mut memory = Buffered::new(b"\x04\0\0\0datab".as_slice());
-    let part = read_counted_part(rt.alloc(), &mut memory)?;
+    let part = read_counted_part(rt.alloc(), &mut memory).expect(&rt, "a part");
     equal(&rt, part.as_slice(), b"data".as_slice());
-    equal(&rt, read_byte(&mut memory)?, b'b');
-    Ok(())
+    equal(&rt, read_byte(&mut memory).expect(&rt, "a byte"), b'b');
 }
 
 #[test]
-fn a_buffer_that_fails(rt: HostRuntime) -> Result<(), Fail> {
-    let mut source = buffered(rt.alloc(), 5, true)?;
+fn a_buffer_that_fails(rt: HostRuntime) {
+    let mut source = buffered(rt.alloc(), 5, true).expect(&rt, "memory");
     let part = read_part(rt.alloc(), &mut source, 6);
     equal(&rt, part.err(), Some(FileError::Io));
     equal(&rt, Source::faults(&source), 1);
     equal(&rt, read_byte(&mut source), Err(FileError::Io));
     equal(&rt, Source::faults(&source), 2);
-    Ok(())
 }
 
 #[test]
-fn a_part_of_more_than_a_piece(rt: HostRuntime) -> Result<(), Fail> {
+fn a_part_of_more_than_a_piece(rt: HostRuntime) {
     let mut bytes = Vec::new(rt.alloc());
-    bytes.resize(65540, 7)?;
-    bytes.push(8)?;
+    bytes.resize(65540, 7).expect(&rt, "memory");
+    bytes.push(8).expect(&rt, "memory");
     let mut source = Counted::new(bytes.as_slice());
-    let part = read_part(rt.alloc(), &mut source, 65540)?;
+    let part = read_part(rt.alloc(), &mut source, 65540).expect(&rt, "a part");
     equal(&rt, part.len(), 65540);
     assert!(rt; part.iter().all(|byte| *byte == 7));
-    equal(&rt, read_byte(&mut source)?, 8);
-    Ok(())
+    equal(&rt, read_byte(&mut source).expect(&rt, "a byte"), 8);
 }

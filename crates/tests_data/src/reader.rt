@@ -2,7 +2,7 @@ use crate::equal::equal;
 use puffin_data::data::{Reader, Scope, Stream};
 use puffin_data::{Error, Result};
 use std::alloc::Global;
-use std::test::Fail;
+use std::process::Abort;
 use tests_support::samples::{ONE_SCOPE, THREE_SCOPES};
 use tests_support::streams::{end, id, stream_of};
 
@@ -33,17 +33,15 @@ fn fault_at(stream: &Stream, at: usize, end: usize) -> Option<Error> {
 
 /// The scopes of a reader, up to its end or its first fault. After either it has to give nothing.
 pub(crate) fn top_scopes<'s>(
-    rt: &HostRuntime,
+    rt: &(impl AllocGlobal + Abort),
     mut reader: Reader<'s>,
-) -> std::result::Result<(Vec<Scope<'s>>, Option<Error>), Fail> {
+) -> (Vec<Scope<'s>>, Option<Error>) {
     let mut scopes = Vec::new(rt.alloc());
     let mut fault = None;
     while let Some(next) = reader.next() {
         match next {
             Ok(scope) => {
-                if scopes.push(scope).is_err() {
-                    return Err(Fail::from("no memory"));
-                }
+                scopes.push(scope).expect(rt, "memory");
             }
             Err(found) => {
                 fault = Some(found);
@@ -51,10 +49,8 @@ pub(crate) fn top_scopes<'s>(
             }
         }
     }
-    if reader.next().is_some() {
-        return Err(Fail::from("something after the end"));
-    }
-    Ok((scopes, fault))
+    assert!(rt; reader.next().is_none());
+    (scopes, fault)
 }
 
 /// Writes a scope without children.
@@ -88,24 +84,28 @@ fn places(scope: &Scope<'_>) -> (i64, i64, u64, u64, u64) {
 }
 
 #[test]
-fn the_positions_of_a_scope_with_two_children(rt: HostRuntime) -> std::result::Result<(), Fail> {
+fn the_positions_of_a_scope_with_two_children(rt: HostRuntime) {
     let mut stream = Stream::new(rt.alloc());
-    write_two_children(&mut stream)?;
+    write_two_children(&mut stream).expect(&rt, "scopes");
     equal(&rt, stream.bytes(), THREE_SCOPES.as_slice());
-    let scopes = Reader::from_start(&stream).read_top_scopes(rt.alloc())?;
+    let scopes = Reader::from_start(&stream)
+        .read_top_scopes(rt.alloc())
+        .expect(&rt, "scopes");
     equal(&rt, scopes.len(), 1);
     equal(
         &rt,
         scopes.first().map(|scope| places(scope)),
         Some((100, 300, 30, 118, 127)),
     );
-    Ok(())
 }
 
 #[test]
-fn the_times_of_two_children(rt: HostRuntime) -> std::result::Result<(), Fail> {
-    let stream = stream_of(rt.alloc(), &THREE_SCOPES)?;
-    let (inner, fault) = top_scopes(&rt, Reader::with_offset(&stream, 30)?)?;
+fn the_times_of_two_children(rt: HostRuntime) {
+    let stream = stream_of(rt.alloc(), &THREE_SCOPES).expect(&rt, "memory");
+    let (inner, fault) = top_scopes(
+        &rt,
+        Reader::with_offset(&stream, 30).expect(&rt, "a reader"),
+    );
     equal(&rt, fault, None);
     equal(&rt, inner.len(), 2);
     for (scope, start) in inner.iter().zip([200, 300]) {
@@ -115,21 +115,19 @@ fn the_times_of_two_children(rt: HostRuntime) -> std::result::Result<(), Fail> {
             (start, 100),
         );
     }
-    Ok(())
 }
 
 #[test]
-fn the_regions_of_two_children(rt: HostRuntime) -> std::result::Result<(), Fail> {
-    let stream = stream_of(rt.alloc(), &THREE_SCOPES)?;
+fn the_regions_of_two_children(rt: HostRuntime) {
+    let stream = stream_of(rt.alloc(), &THREE_SCOPES).expect(&rt, "memory");
     equal(&rt, next_of(&stream, 30, 118), Some(74));
     equal(&rt, next_of(&stream, 118, 118), None);
     equal(&rt, fault_at(&stream, 118, 118), None);
     equal(&rt, fault_at(&stream, 30, 73), Some(Error::PrematureEnd));
-    Ok(())
 }
 
 #[test]
-fn offsets_of_an_empty_stream(rt: HostRuntime) -> std::result::Result<(), Fail> {
+fn offsets_of_an_empty_stream(rt: HostRuntime) {
     let stream = Stream::new(rt.alloc());
     assert!(rt; Reader::with_offset(&stream, 0).is_ok());
     equal(
@@ -138,36 +136,37 @@ fn offsets_of_an_empty_stream(rt: HostRuntime) -> std::result::Result<(), Fail> 
         Some(Error::InvalidOffset),
     );
     assert!(rt; Reader::from_start(&stream).next().is_none());
-    Ok(())
 }
 
 #[test]
-fn a_byte_left_over_ends_the_reader(rt: HostRuntime) -> std::result::Result<(), Fail> {
-    let mut bytes = Vec::from_slice(rt.alloc(), &ONE_SCOPE)?;
-    bytes.push(0)?;
+fn a_byte_left_over_ends_the_reader(rt: HostRuntime) {
+    let mut bytes = Vec::from_slice(rt.alloc(), &ONE_SCOPE).expect(&rt, "memory");
+    bytes.push(0).expect(&rt, "memory");
     let stream = Stream::from(bytes);
-    let scopes = Reader::from_start(&stream).read_top_scopes(rt.alloc())?;
+    let scopes = Reader::from_start(&stream)
+        .read_top_scopes(rt.alloc())
+        .expect(&rt, "scopes");
     equal(&rt, scopes.len(), 1);
     equal(
         &rt,
         Reader::count_scope_and_depth(rt.alloc(), &stream).err(),
         Some(Error::InvalidStream),
     );
-    Ok(())
 }
 
 /// A reader gives one scope of a stream, and then this fault.
-fn gives_fault(rt: &HostRuntime, stream: &Stream, want: Error) -> std::result::Result<(), Fail> {
-    let (scopes, fault) = top_scopes(rt, Reader::from_start(stream))?;
+fn gives_fault(rt: &(impl AllocGlobal + Abort), stream: &Stream, want: Error) {
+    let (scopes, fault) = top_scopes(rt, Reader::from_start(stream));
     let refused = Reader::from_start(stream).read_top_scopes(rt.alloc()).err();
-    if (scopes.len(), fault, refused) != (1, Some(want), Some(want)) {
-        return Err(Fail::from("another fault"));
-    }
-    Ok(())
+    equal(
+        rt,
+        (scopes.len(), fault, refused),
+        (1, Some(want), Some(want)),
+    );
 }
 
 #[test]
-fn a_fault_is_given_once(rt: HostRuntime) -> std::result::Result<(), Fail> {
+fn a_fault_is_given_once(rt: HostRuntime) {
     let open = b"(\x01\0\0\0\x64\0\0\0\0\0\0\0\0\xff\xff\xff\xff\xff\xff\xff\xff";
     let mut without_id = ONE_SCOPE;
     let (mut other_end, mut early) = (without_id, without_id);
@@ -183,36 +182,38 @@ fn a_fault_is_given_once(rt: HostRuntime) -> std::result::Result<(), Fail> {
         (&early, Error::InvalidStream),
     ];
     for (faulty, want) in cases {
-        let mut bytes = Vec::from_slice(rt.alloc(), &ONE_SCOPE)?;
-        bytes.extend_from_slice(faulty)?;
-        gives_fault(&rt, &Stream::from(bytes), want)?;
+        let mut bytes = Vec::from_slice(rt.alloc(), &ONE_SCOPE).expect(&rt, "memory");
+        bytes.extend_from_slice(faulty).expect(&rt, "memory");
+        gives_fault(&rt, &Stream::from(bytes), want);
     }
-    Ok(())
 }
 
 #[test]
-fn children_are_not_read(rt: HostRuntime) -> std::result::Result<(), Fail> {
+fn children_are_not_read(rt: HostRuntime) {
     let stream = stream_of(
         rt.alloc(),
         b"(\x01\0\0\0\0\0\0\0\0\0\0\0\0\x1f\0\0\0\0\0\0\0(\x02\0\0\0\0\0\0\0\0\0\0\0\0\x1f\0\0\0\0\0\0\0)\0\0\0\0\0\0\0\0)\0\0\0\0\0\0\0\0",
-    )?;
+    )
+    .expect(&rt, "memory");
     equal(&rt, stream.len(), 62);
-    let scopes = Reader::from_start(&stream).read_top_scopes(rt.alloc())?;
+    let scopes = Reader::from_start(&stream)
+        .read_top_scopes(rt.alloc())
+        .expect(&rt, "scopes");
     equal(&rt, scopes.len(), 1);
     equal(&rt, fault_at(&stream, 22, 53), Some(Error::PrematureEnd));
-    Ok(())
 }
 
 #[test]
-fn stored_bytes_that_are_not_text(rt: HostRuntime) -> std::result::Result<(), Fail> {
+fn stored_bytes_that_are_not_text(rt: HostRuntime) {
     let stream = stream_of(
         rt.alloc(),
         b"(\x01\0\0\0\0\0\0\0\0\0\0\0\x03\x61\xff\x62\0\0\0\0\0\0\0\0)\0\0\0\0\0\0\0\0",
-    )?;
+    )
+    .expect(&rt, "memory");
     let len = stream.len();
-    match scope_at(&stream, 0, len) {
-        Ok(Some(scope)) => equal(&rt, scope.rec.text, "a"),
-        _ => return Err(Fail::from("no scope is read")),
-    }
-    Ok(())
+    let scope = scope_at(&stream, 0, len)
+        .ok()
+        .flatten()
+        .expect(&rt, "a scope");
+    equal(&rt, scope.rec.text, "a");
 }

@@ -1,9 +1,8 @@
 //! Bytes and helpers that several modules use.
 
 use puffin_data::data::Stream;
-use puffin_data::{NanoSecond, Result};
+use puffin_data::{Error, NanoSecond, Result};
 use std::alloc::Global;
-use std::test::Fail;
 
 /// The range of a stream without scopes.
 pub(crate) const NONE: (NanoSecond, NanoSecond) = (i64::MAX, i64::MIN);
@@ -14,10 +13,10 @@ pub(crate) fn leaf(
     start: NanoSecond,
     stop: NanoSecond,
     text: &[u8],
-) -> std::result::Result<Vec<u8>, Fail> {
+) -> Result<Vec<u8>> {
     let mut bytes = Vec::from_slice(alloc, b"(\x01\0\0\0")?;
     bytes.extend_from_slice(&start.to_le_bytes())?;
-    bytes.push(u8::try_from(text.len())?)?;
+    bytes.push(u8::try_from(text.len()).ok().ok_or(Error::TooLarge)?)?;
     bytes.extend_from_slice(text)?;
     bytes.extend_from_slice(b"\0\0\0\0\0\0\0\0)")?;
     bytes.extend_from_slice(&stop.to_le_bytes())?;

@@ -1,44 +1,44 @@
 use crate::equal::equal;
 use crate::reader::{scope_at, top_scopes};
+use puffin_data::Result;
 use puffin_data::data::{END_SIZE, Reader, Scope, Stream};
-use std::test::Fail;
+use std::process::Abort;
 use tests_support::samples::ONE_SCOPE;
 use tests_support::streams::{end, id, stream_of};
 
 #[test]
-fn a_copy_stays_when_a_stream_is_cleared(rt: HostRuntime) -> std::result::Result<(), Fail> {
+fn a_copy_stays_when_a_stream_is_cleared(rt: HostRuntime) {
     let alloc = rt.alloc();
     assert!(rt; Stream::new(alloc).is_empty());
-    let mut stream = stream_of(alloc, &ONE_SCOPE)?;
+    let mut stream = stream_of(alloc, &ONE_SCOPE).expect(&rt, "memory");
     equal(&rt, (stream.is_empty(), stream.len()), (false, 35));
-    let copy = stream.clone()?;
+    let copy = stream.clone().expect(&rt, "memory");
     stream.clear();
     equal(&rt, (stream.is_empty(), stream.len()), (true, 0));
     equal(&rt, copy.bytes(), ONE_SCOPE.as_slice());
-    Ok(())
 }
 
 #[test]
-fn one_scope_takes_35_bytes(rt: HostRuntime) -> std::result::Result<(), Fail> {
+fn one_scope_takes_35_bytes(rt: HostRuntime) {
     let mut stream = Stream::new(rt.alloc());
-    let (offset, start) = stream.begin_scope(|| 100, id(1)?, "data")?;
+    let (offset, start) = stream
+        .begin_scope(|| 100, id(1).expect(&rt, "an id"), "data")
+        .expect(&rt, "a scope");
     equal(&rt, (offset, start), (18, 100));
-    end(&mut stream, offset, 300)?;
+    end(&mut stream, offset, 300).expect(&rt, "a scope");
     equal(&rt, stream.bytes(), ONE_SCOPE.as_slice());
     equal(&rt, stream.len(), 35);
-    Ok(())
 }
 
 #[test]
-fn one_scope_is_written_within_the_room(rt: HostRuntime) -> std::result::Result<(), Fail> {
+fn one_scope_is_written_within_the_room(rt: HostRuntime) {
     let mut stream = Stream::new(rt.alloc());
     let begin = stream.form().begin_limit("data");
-    stream.reserve(begin + END_SIZE)?;
-    let offset = stream.begin_within(100, id(1)?, "data");
+    stream.reserve(begin + END_SIZE).expect(&rt, "memory");
+    let offset = stream.begin_within(100, id(1).expect(&rt, "an id"), "data");
     stream.end_within(offset, 300);
     equal(&rt, offset, 18);
     equal(&rt, stream.bytes(), ONE_SCOPE.as_slice());
-    Ok(())
 }
 
 /// Returns the id, times and text of a scope.
@@ -54,41 +54,41 @@ fn read_of<'s>(scope: &Scope<'s>) -> (u32, i64, i64, i64, &'s str) {
 }
 
 #[test]
-fn one_scope_is_read_as_it_was_written(rt: HostRuntime) -> std::result::Result<(), Fail> {
-    let stream = stream_of(rt.alloc(), &ONE_SCOPE)?;
-    let (scopes, fault) = top_scopes(&rt, Reader::from_start(&stream))?;
+fn one_scope_is_read_as_it_was_written(rt: HostRuntime) {
+    let stream = stream_of(rt.alloc(), &ONE_SCOPE).expect(&rt, "memory");
+    let (scopes, fault) = top_scopes(&rt, Reader::from_start(&stream));
     equal(&rt, (scopes.len(), fault), (1, None));
     let read = scopes.first().map(|scope| read_of(scope));
     equal(&rt, read, Some((1, 100, 200, 300, "data")));
-    Ok(())
 }
 
 /// Writes a scope whose text is `letters` letters and then `last`. Returns how many bytes of the text are stored, after
 /// checking that they are read back unchanged.
-fn stored_size(rt: &HostRuntime, letters: usize, last: char) -> std::result::Result<usize, Fail> {
+fn stored_size(rt: &(impl AllocGlobal + Abort), letters: usize, last: char) -> usize {
     let mut text = String::new(rt.alloc());
     for _ in 0..letters {
-        text.push('a')?;
+        text.push('a').expect(rt, "memory");
     }
-    text.push(last)?;
-    let first = id(1)?;
+    text.push(last).expect(rt, "memory");
+    let first = id(1).expect(rt, "an id");
     let mut stream = Stream::new(rt.alloc());
-    let offset = stream.begin_scope_at(100, first, text.as_str())?;
-    end(&mut stream, offset, 300)?;
+    let offset = stream
+        .begin_scope_at(100, first, text.as_str())
+        .expect(rt, "a scope");
+    end(&mut stream, offset, 300).expect(rt, "a scope");
     let len = stream.len();
     let said = stream.bytes().get(13).copied().map(usize::from);
-    let Ok(Some(scope)) = scope_at(&stream, 0, len) else {
-        return Err(Fail::from("no scope is read"));
-    };
+    let scope = scope_at(&stream, 0, len)
+        .ok()
+        .flatten()
+        .expect(rt, "a scope");
     let read = scope.rec.text.as_bytes();
-    if said != Some(read.len()) || !text.as_bytes().starts_with(read) {
-        return Err(Fail::from("another text is read"));
-    }
-    Ok(len.saturating_sub(31))
+    assert!(rt; said == Some(read.len()) && text.as_bytes().starts_with(read));
+    len.saturating_sub(31)
 }
 
 #[test]
-fn long_texts_are_cut_at_a_character(rt: HostRuntime) -> std::result::Result<(), Fail> {
+fn long_texts_are_cut_at_a_character(rt: HostRuntime) {
     let cases = [
         ('b', [126, 127, 127, 127]),
         ('é', [126, 127, 126, 127]),
@@ -100,34 +100,34 @@ fn long_texts_are_cut_at_a_character(rt: HostRuntime) -> std::result::Result<(),
             let letters = usize::saturating_sub(size, last.len_utf8());
             equal(
                 &rt,
-                (last, size, stored_size(&rt, letters, last)?),
+                (last, size, stored_size(&rt, letters, last)),
                 (last, size, *want),
             );
         }
     }
-    equal(&rt, stored_size(&rt, 126, 'é')?, 126);
-    Ok(())
+    equal(&rt, stored_size(&rt, 126, 'é'), 126);
 }
 
 #[test]
-fn within_the_room_nothing_is_refused(rt: HostRuntime) -> std::result::Result<(), Fail> {
+fn within_the_room_nothing_is_refused(rt: HostRuntime) {
     let mut stream = Stream::new(rt.alloc());
-    stream.reserve(35)?;
+    stream.reserve(35).expect(&rt, "memory");
     assert!(rt; 35 <= stream.room() && stream.is_empty());
-    stream.reserve(35 + 35)?;
+    stream.reserve(35 + 35).expect(&rt, "memory");
     assert!(rt; 70 <= stream.room());
     for left in [35, 0] {
-        let offset = stream.begin_scope_at(100, id(1)?, "data")?;
+        let offset = stream
+            .begin_scope_at(100, id(1).expect(&rt, "an id"), "data")
+            .expect(&rt, "a scope");
         assert!(rt; left + 9 <= stream.room());
-        end(&mut stream, offset, 300)?;
+        end(&mut stream, offset, 300).expect(&rt, "a scope");
         assert!(rt; left <= stream.room());
     }
     equal(&rt, stream.len(), 70);
-    Ok(())
 }
 
 #[test]
-fn a_begin_asks_its_clock_once(rt: HostRuntime) -> std::result::Result<(), Fail> {
+fn a_begin_asks_its_clock_once(rt: HostRuntime) {
     let mut stream = Stream::new(rt.alloc());
     let mut asked: u32 = 0;
     let begun = stream.begin_scope_by(
@@ -135,12 +135,11 @@ fn a_begin_asks_its_clock_once(rt: HostRuntime) -> std::result::Result<(), Fail>
             asked = asked.saturating_add(1);
             100
         },
-        id(1)?,
+        id(1).expect(&rt, "an id"),
         "data",
     );
     equal(&rt, begun, Ok((18, 100)));
     equal(&rt, (stream.len(), asked), (26, 1));
-    Ok(())
 }
 
 /// Three nested scopes as the Rust crate writes them.
@@ -148,7 +147,7 @@ const NESTED: &[u8] =
     b"(\x09\0\0\0\x44\x04\0\0\0\0\0\0\0\x46\0\0\0\0\0\0\0(\x08\0\0\0\x80\x04\0\0\0\0\0\0\x04mesh\x23\0\0\0\0\0\0\0(\x12\0\0\0\x91\x04\0\0\0\0\0\0\x04mesh\0\0\0\0\0\0\0\0)\x9b\x04\0\0\0\0\0\0)\xc2\x04\0\0\0\0\0\0)\xc2\x04\0\0\0\0\0\0";
 
 /// Writes the same scopes.
-fn write_nested(stream: &mut Stream) -> std::result::Result<(), Fail> {
+fn write_nested(stream: &mut Stream) -> Result<()> {
     let outer = stream.begin_scope_at(1092, id(9)?, "")?;
     let middle = stream.begin_scope_at(1152, id(8)?, "mesh")?;
     let inner = stream.begin_scope_at(1169, id(18)?, "mesh")?;
@@ -159,9 +158,8 @@ fn write_nested(stream: &mut Stream) -> std::result::Result<(), Fail> {
 }
 
 #[test]
-fn the_bytes_of_the_rust_crate(rt: HostRuntime) -> std::result::Result<(), Fail> {
+fn the_bytes_of_the_rust_crate(rt: HostRuntime) {
     let mut stream = Stream::new(rt.alloc());
-    write_nested(&mut stream)?;
+    write_nested(&mut stream).expect(&rt, "scopes");
     equal(&rt, stream.bytes(), NESTED);
-    Ok(())
 }

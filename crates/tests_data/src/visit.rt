@@ -2,7 +2,6 @@
 
 use puffin_data::data::{Form, RawScope, Visitor, walk_with};
 use puffin_data::{Error, Result};
-use std::test::Fail;
 use tests_support::samples::THREE_SCOPES;
 
 /// The id of each scope that was taken, and how many scopes are around it. Its contract says nothing of them.
@@ -35,7 +34,7 @@ impl<'s> Visitor<'s> for Taken {
 }
 
 #[test]
-fn a_visitor_takes_each_scope_in_order(rt: HostRuntime) -> std::result::Result<(), Fail> {
+fn a_visitor_takes_each_scope_in_order(rt: HostRuntime) {
     let mut taken = Taken {
         scopes: Vec::new(rt.alloc()),
     };
@@ -47,8 +46,8 @@ fn a_visitor_takes_each_scope_in_order(rt: HostRuntime) -> std::result::Result<(
         &mut taken,
         0,
         &mut tries,
-    )?;
+    )
+    .expect(&rt, "scopes");
     assert!(rt; taken.scopes.as_slice() == [(1, 0), (2, 1), (3, 1)].as_slice());
     assert!(rt; tries == 3);
-    Ok(())
 }

@@ -4,11 +4,8 @@ use puffin_data::data::{Form, Reader, Stream, StreamInfo, walk_forest};
 use puffin_data::{Error, NanoSecond, Result};
 use std::alloc::Global;
 use std::process::Abort;
-use std::test::Fail;
 use tests_support::samples::{ONE_SCOPE, THREE_SCOPES};
 use tests_support::streams::stream_of;
-
-type Outcome = std::result::Result<(), Fail>;
 
 /// The number of scopes, the nesting depth and the range.
 type Counts = (usize, usize, (NanoSecond, NanoSecond));
@@ -102,28 +99,26 @@ const FORESTS: [(&str, &[u8], Counts); 7] = [
 ];
 
 #[test]
-fn forests_are_counted(rt: HostRuntime) -> Outcome {
+fn forests_are_counted(rt: HostRuntime) {
     for (what, bytes, counts) in &FORESTS {
-        finds(&rt, rt.alloc(), what, bytes, *counts)?;
+        finds(&rt, rt.alloc(), what, bytes, *counts).expect(&rt, "scopes");
     }
-    Ok(())
 }
 
 /// A long text.
 const TEXT: [u8; 255] = [b'a'; 255];
 
 #[test]
-fn long_texts_and_deep_scopes_are_counted(rt: HostRuntime) -> Outcome {
+fn long_texts_and_deep_scopes_are_counted(rt: HostRuntime) {
     for size in [127, 255] {
-        let bytes = leaf(rt.alloc(), 100, 300, &TEXT[..size])?;
-        finds(&rt, rt.alloc(), "long", &bytes, (1, 1, (100, 300)))?;
+        let bytes = leaf(rt.alloc(), 100, 300, &TEXT[..size]).expect(&rt, "memory");
+        finds(&rt, rt.alloc(), "long", &bytes, (1, 1, (100, 300))).expect(&rt, "scopes");
     }
     for depth in [1_000, 100_000] {
         let levels = depth as usize;
-        let bytes = nest(rt.alloc(), depth)?;
-        finds(&rt, rt.alloc(), "deep", &bytes, (levels, levels, (5, 7)))?;
+        let bytes = nest(rt.alloc(), depth).expect(&rt, "memory");
+        finds(&rt, rt.alloc(), "deep", &bytes, (levels, levels, (5, 7))).expect(&rt, "scopes");
     }
-    Ok(())
 }
 
 /// Bytes that aren't a forest, each with the fault and the number of readings that a walk makes.
@@ -185,9 +180,8 @@ const FAULTY: [(&str, &[u8], (Error, u64)); 12] = [
 ];
 
 #[test]
-fn other_bytes_are_refused(rt: HostRuntime) -> Outcome {
+fn other_bytes_are_refused(rt: HostRuntime) {
     for (what, bytes, fault) in &FAULTY {
-        refuses(&rt, rt.alloc(), what, bytes, *fault)?;
+        refuses(&rt, rt.alloc(), what, bytes, *fault).expect(&rt, "memory");
     }
-    Ok(())
 }

@@ -2,7 +2,6 @@ use crate::equal::equal;
 use puffin_data::wire::{Cursor, put_bytes, put_i64, put_text, put_u8, put_u32, put_u64};
 use std::alloc::Global;
 use std::process::Abort;
-use std::test::Fail;
 
 /// Numbers with their spellings, at each end of each width.
 const NUMBERS: [(u64, &[u8]); 9] = [
@@ -32,26 +31,25 @@ const SIGNED: [(i64, &[u8]); 8] = [
 const DETAILS: &[u8] = b"\x01\x01\x01\x01\x08my-scope\x01a\x04b.rs\x07";
 
 #[test]
-fn numbers_are_written_in_their_shortest_spelling(rt: HostRuntime) -> Result<(), Fail> {
+fn numbers_are_written_in_their_shortest_spelling(rt: HostRuntime) {
     for (n, bytes) in NUMBERS {
         let mut out = Vec::new(rt.alloc());
-        put_u64(&mut out, n)?;
+        put_u64(&mut out, n).expect(&rt, "memory");
         equal(&rt, (n, out.as_slice()), (n, bytes));
         let mut cursor = Cursor::new(bytes);
         equal(&rt, (n, cursor.u64()), (n, Some(n)));
         equal(&rt, cursor.rest(), 0);
     }
-    Ok(())
 }
 
 #[test]
-fn numbers_of_32_bits(rt: HostRuntime) -> Result<(), Fail> {
+fn numbers_of_32_bits(rt: HostRuntime) {
     for (n, bytes) in NUMBERS {
         let mut cursor = Cursor::new(bytes);
         match u32::try_from(n) {
             Ok(word) => {
                 let mut out = Vec::new(rt.alloc());
-                put_u32(&mut out, word)?;
+                put_u32(&mut out, word).expect(&rt, "memory");
                 equal(&rt, (n, out.as_slice()), (n, bytes));
                 equal(&rt, (n, cursor.u32()), (n, Some(word)));
                 equal(&rt, cursor.rest(), 0);
@@ -62,24 +60,22 @@ fn numbers_of_32_bits(rt: HostRuntime) -> Result<(), Fail> {
             }
         }
     }
-    Ok(())
 }
 
 #[test]
-fn signed_numbers(rt: HostRuntime) -> Result<(), Fail> {
+fn signed_numbers(rt: HostRuntime) {
     for (z, bytes) in SIGNED {
         let mut out = Vec::new(rt.alloc());
-        put_i64(&mut out, z)?;
+        put_i64(&mut out, z).expect(&rt, "memory");
         equal(&rt, (z, out.as_slice()), (z, bytes));
         let mut cursor = Cursor::new(bytes);
         equal(&rt, (z, cursor.i64()), (z, Some(z)));
         equal(&rt, cursor.rest(), 0);
     }
-    Ok(())
 }
 
 #[test]
-fn other_spellings_of_a_number_are_refused(rt: HostRuntime) -> Result<(), Fail> {
+fn other_spellings_of_a_number_are_refused(rt: HostRuntime) {
     let refused: [&[u8]; 8] = [
         b"",
         b"\xfb\xfa\x00",
@@ -99,7 +95,6 @@ fn other_spellings_of_a_number_are_refused(rt: HostRuntime) -> Result<(), Fail> 
         assert!(rt; cursor.text().is_none());
         equal(&rt, cursor.rest(), bytes.len());
     }
-    Ok(())
 }
 
 /// The details of a scope, as their kinds are written one behind the other.
@@ -117,8 +112,8 @@ fn details(alloc: Global) -> puffin_data::Result<Vec<u8>> {
 }
 
 #[test]
-fn the_kinds_one_behind_the_other(rt: HostRuntime) -> Result<(), Fail> {
-    let out = details(rt.alloc())?;
+fn the_kinds_one_behind_the_other(rt: HostRuntime) {
+    let out = details(rt.alloc()).expect(&rt, "memory");
     equal(&rt, out.as_slice(), DETAILS);
     let mut cursor = Cursor::new(DETAILS);
     equal(&rt, cursor.rest(), 21);
@@ -133,20 +128,18 @@ fn the_kinds_one_behind_the_other(rt: HostRuntime) -> Result<(), Fail> {
     equal(&rt, cursor.u64(), Some(7));
     equal(&rt, cursor.u8(), None);
     equal(&rt, cursor.flag(), None);
-    Ok(())
 }
 
 #[test]
-fn flags_are_0_and_1(rt: HostRuntime) -> Result<(), Fail> {
+fn flags_are_0_and_1(rt: HostRuntime) {
     let mut cursor = Cursor::new(b"\x00\x02");
     equal(&rt, cursor.flag(), Some(false));
     equal(&rt, cursor.flag(), None);
     equal(&rt, cursor.rest(), 1);
-    Ok(())
 }
 
 #[test]
-fn bytes_that_are_not_utf8_are_no_text(rt: HostRuntime) -> Result<(), Fail> {
+fn bytes_that_are_not_utf8_are_no_text(rt: HostRuntime) {
     let mut cursor = Cursor::new(b"\x02a\xff\x03\xe2\x80\xa6\x04abc");
     equal(&rt, cursor.text(), None);
     equal(&rt, cursor.rest(), 11);
@@ -154,5 +147,4 @@ fn bytes_that_are_not_utf8_are_no_text(rt: HostRuntime) -> Result<(), Fail> {
     equal(&rt, cursor.text(), Some("…"));
     assert!(rt; cursor.bytes().is_none());
     equal(&rt, cursor.rest(), 4);
-    Ok(())
 }

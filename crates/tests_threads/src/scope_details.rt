@@ -78,26 +78,35 @@ fn a_function_and_a_scope_in_it(rt: HostRuntime) {
     );
 }
 
-/// Whether details without an id stand before those with these ids, and before those with a name.
-fn are_in_order(first: ScopeId, second: ScopeId) -> bool {
+/// Whether the first stands before the second, and isn't equal to it.
+fn is_before(first: &ScopeDetails, second: &ScopeDetails) -> bool {
+    first < second && first != second
+}
+
+/// Details without an id stand before those with one, and before those with a name.
+fn are_in_order(rt: &impl Abort, first: ScopeId, second: ScopeId) {
     let without = function(7);
     let with = function(7).with_scope_id(first);
     let next = function(0).with_scope_id(second);
     let name = ScopeDetails::from_scope_name(CowStr::Borrowed("a"));
-    without < with && with < next && without < name && function(0) < without && with != without
+    equal(rt, is_before(&function(0), &without), true);
+    equal(rt, is_before(&without, &with), true);
+    equal(rt, is_before(&with, &next), true);
+    equal(rt, is_before(&without, &name), true);
 }
 
-/// Whether details are those of their copy.
-fn is_its_copy(details: &ScopeDetails) -> Result<bool> {
-    Ok(*details == details.clone()?)
+/// Details are those of their copy.
+fn has_copy(rt: &impl Abort, details: ScopeDetails) {
+    let copy = details.clone().expect(rt, "memory");
+    equal(rt, details, copy);
 }
 
 #[test]
 fn details_in_order(rt: HostRuntime) {
     let (first, second) = (id(1).expect(&rt, "an id"), id(2).expect(&rt, "an id"));
-    assert!(rt; are_in_order(first, second));
-    assert!(rt; is_its_copy(&function(7)).expect(&rt, "memory"));
-    assert!(rt; is_its_copy(&function(7).with_scope_id(first)).expect(&rt, "memory"));
+    are_in_order(&rt, first, second);
+    has_copy(&rt, function(7));
+    has_copy(&rt, function(7).with_scope_id(first));
 }
 
 /// Inserts a named scope, after which the details that are kept have its number and a name that is expected.
