@@ -11,7 +11,6 @@ use Rattle.std.proofs.lemmas.List.{length-set, get_or-set_same, get_or-set_other
 use Rattle.puffin_data.specs.declared.data.form.Form.{Form}
 use Rattle.puffin_data.specs.Forest.Spelling.{Spells}
 use Rattle.puffin_data.specs.declared.error.Error.{Error}
-use Rattle.puffin_data.specs.declared.error.Error.TheVariants.{IndexExhausted}
 use Rattle.puffin_data.specs.Forest.{Forest}
 use Rattle.puffin_data.specs.Honesty.{StreamFacts, AreHonestFacts}
 use Rattle.puffin_data.specs.Stream.{StreamState}
@@ -37,7 +36,7 @@ use Rattle.puffin_session.specs.declared.command.Command.TheVariants.{Begin, End
 use Rattle.puffin_session.specs.declared.command.Reply.{Reply}
 use Rattle.puffin_session.specs.declared.command.Reply.TheVariants as reply
 use Rattle.puffin_threads.specs.Thread.Events.{events_in}
-use Rattle.puffin_session.specs.Session.History.{Word, Opening, begun, ended, Action, calls, hands, frames, registers, adds, learns, wants, nothing, nobody, call_of}
+use Rattle.puffin_session.specs.Session.History.{Word, Opening, begun, ended, Action, calls, hands, frames, registers, adds, learns, wants, nobody, call_of}
 use Rattle.puffin_session.specs.Session.Deliveries.{Delivery, under, all_taken, deliveries_at}
 use Rattle.puffin_session.specs.Session.Due.{due, index_after, is_numbered}
 use Rattle.puffin_session.specs.Session.Notes.{notes_at, due_notes_at, details_learnt_at, due_details, known_after, is_wanted, wanted_at}

@@ -7,7 +7,6 @@ use Rattle.puffin_data.specs.Forest.{Forest}
 use Rattle.puffin_data.specs.Forest.Measures.{scope_count}
 use Rattle.puffin_data.specs.Honesty.{StreamFacts, AreHonestFacts, AreUnlike, joined_facts}
 use Rattle.puffin_data.specs.Forest.Tour.{Event, tour}
-use Rattle.puffin_data.specs.Forest.Words.{num_begun}
 use Rattle.puffin_threads.specs.Thread.ThreadKey.{ThreadKey, key_cmp, has_same_key}
 use Rattle.puffin_frames.specs.Frame.Contents.{Streams, stream_under, holding_of, frame_meta}
 use Rattle.puffin_frames.specs.Frame.Sums.{meta_of, total_scopes}

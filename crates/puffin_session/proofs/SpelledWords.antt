@@ -1,9 +1,9 @@
 -- What a record has of the word that it spells: the size, whether there is anything, and the form.
-use Rattle.std.proofs.Common.{◌≡◌, ◌≢◌, ℕ, ◌<◌, eqb, Bool, true, false, cond, List, [], ◌∷◌, ◌++◌, length, Option, Some, None, unwrap_or, inl, inr, refl, sym, ap, ◌∙◌, subst, arith}
+use Rattle.std.proofs.Common.{◌≡◌, ℕ, ◌<◌, eqb, false, cond, List, [], ◌∷◌, ◌++◌, length, Option, Some, None, unwrap_or, inl, inr, refl, sym, ap, ◌∙◌, subst, arith}
 use Rattle.std.proofs.lemmas.Bool.{cases_eq}
 use Rattle.std.proofs.lemmas.Grind.{not_there}
 use Rattle.puffin_data.specs.declared.data.form.Form.{Form}
-use Rattle.puffin_data.specs.Forest.{Forest, append}
+use Rattle.puffin_data.specs.Forest.{append}
 use Rattle.puffin_data.specs.Forest.Tour.{Event, Open, Close, tour}
 use Rattle.puffin_data.specs.Forest.Words.{word_size}
 use Rattle.puffin_data.specs.Honesty.{StreamFacts, AreUnlike, joined_facts}

@@ -16,7 +16,7 @@ use Rattle.puffin_threads.specs.Details.{Details}
 use Rattle.puffin_collector.specs.Collector.State.{reported_to}
 use Rattle.puffin_frames.specs.Frame.Contents.{stream_under}
 use Rattle.puffin_session.specs.Session.History.{Word, Opening, Mark, begun, ended, Call, Action, calls, hands, frames, registers, nobody, thread_at, call_of}
-use Rattle.puffin_session.specs.Session.Deliveries.{under, unreported, word_with, key_under, deliveries_at, deliveries_after}
+use Rattle.puffin_session.specs.Session.Deliveries.{under, word_with, key_under, deliveries_at, deliveries_after}
 use Rattle.puffin_session.specs.Session.Due.{due, scopes_delivered, is_numbered, index_after, reported_after}
 use Rattle.puffin_session.specs.Session.Notes.{Note, noted, sent, notes_at, details_registered}
 use Rattle.puffin_session.specs.Session.{SessionState, word_of_thread, opening_of, SpellsWord, SpellsDue, StandsAfter, TellsAfter, thread_after}

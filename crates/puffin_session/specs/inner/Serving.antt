@@ -15,10 +15,9 @@ use Rattle.puffin_session.specs.declared.command.Reply.{Reply}
 use Rattle.puffin_session.specs.Session.History.{Opening, Action, nobody}
 use Rattle.puffin_session.specs.Session.Deliveries.{Delivery}
 use Rattle.puffin_session.specs.Session.Due.{due, events_of, bytes_delivered, scopes_delivered}
-use Rattle.puffin_session.specs.Session.{SessionState, opening_of, StandsAfter}
-use Rattle.puffin_session.specs.Session.Actions.{action_of, actions_of}
+use Rattle.puffin_session.specs.Session.{SessionState, StandsAfter}
+use Rattle.puffin_session.specs.Session.Actions.{action_of}
 use Rattle.puffin_session.specs.Session.Replies.{MayReply}
-use Rattle.puffin_session.specs.Session.Runs.{Records}
 
 -- ---- what single calls do
 

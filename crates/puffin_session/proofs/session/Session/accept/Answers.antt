@@ -1,5 +1,5 @@
 -- Each call continues the history.
-use Rattle.std.proofs.Common.{◌+◌, ℕ, List, length, ◌∙◌, ap, subst, ℤ, rules, w64, String, Global}
+use Rattle.std.proofs.Common.{ℕ, List, ◌∙◌, ap, subst, ℤ, rules, w64, String, Global}
 use Rattle.std.proofs.lemmas.Int.{to_z-of_z}
 use Rattle.std.proofs.lemmas.Result.{err_from_is_err_and}
 use Rattle.puffin_data.specs.Text.{cut_text}
