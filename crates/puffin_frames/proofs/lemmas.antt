@@ -5,3 +5,4 @@ pub mod Measured
 pub mod Honest
 pub mod PackedAgain
 pub mod LayoutsKept
+pub mod FramesAgain
