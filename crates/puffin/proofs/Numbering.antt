@@ -1,16 +1,12 @@
 -- Numbers that rise strictly, with one more behind them or one taken out.
 use Rattle.std.proofs.Common.{◌≡◌, ℕ, ◌+◌, ◌<◌, List, [], ◌∷◌, ◌++◌, length, take, drop, map, suc, zero, sym, ap, ◌∙◌, subst, arith, rules}
-use Rattle.std.specs.Prelude.{⊤, slice_get, slice_index, get_or, remove, Some, None, ◌==◌}
-use Rattle.std.specs.List.{position, position_or_len}
+use Rattle.std.specs.Prelude.{⊤, slice_get, slice_index, get_or, remove, Some}
 use Rattle.std.specs.List.Sorted.{IsStrictlyIncreasing}
 use Rattle.std.proofs.lemmas.List.{map-append, append_assoc}
-use Rattle.std.proofs.lemmas.Grind.{common_steps}
-use Rattle.std.proofs.lemmas.List.Quantifiers.{position-Some}
-use Rattle.std.proofs.lemmas.List.Sums.{fails_before_first}
-use Rattle.std.proofs.lemmas.Option.{get_or_from_slice_get, slice_get-get_or}
+use Rattle.std.proofs.lemmas.Option.{get_or_from_slice_get}
 use Rattle.puffin.specs.declared.global_profiler.sink.Sink.{Sink}
 use Rattle.puffin.specs.declared.global_profiler.sinks.SinkEntry.{SinkEntry}
-use Rattle.puffin.specs.Sinks.{TakesOut, HasNone}
+use Rattle.puffin.specs.Sinks.{TakesOut}
 use Rattle.puffin.specs.inner.Numbers.{AreNumbered}
 
 -- each number is above the one before it, the first above this one
@@ -77,26 +73,10 @@ module _ {I : Type 0} {F : I → Type 0} where
       let rest = ap (λ (xs : List ℕ). xs ++ next ∷ []) (map-append number before after) ∙ append_assoc (map number before) (map number after) (next ∷ []) in
       increasing 0 _ (subst P (sym rest) (rises_without 0 (map number before) e.id (map number after ++ next ∷ []) (subst P all (rises 0 _ numbered))))
 
-  -- the sink that a search by number finds
-  found_at : (es : List (SinkEntry I F)) (i id : ℕ) (d : SinkEntry I F) → position (λ (e : SinkEntry I F). e.id == id) es ≡ Some i → (e : SinkEntry I F) × (slice_get es i ≡ Some e) × (e.id ≡ id)
-  found_at es i id d is =
-      let found = position-Some (λ (e : SinkEntry I F). e.id == id) es i d is in
-      let there = slice_get-get_or es i d found.0 in
-      let named : (get_or es i d).id ≡ id = grind (arith, common_steps, found.1) in
-      (get_or es i d, there, named)
-
-  -- where such a search finds nothing
-  pub none_found : (es : List (SinkEntry I F)) (id : ℕ) → position (λ (e : SinkEntry I F). e.id == id) es ≡ None → HasNone id es
-  none_found es id is k d below same =
-      let first : k < position_or_len (λ (e : SinkEntry I F). e.id == id) es = grind (arith, common_steps) in
-      let fails = fails_before_first (λ (e : SinkEntry I F). e.id == id) es k d first in
-      grind (arith, common_steps, fails, same)
-
   -- what is taken out, and what stays
   pub taken_out : (xs ys new : List (SinkEntry I F)) (i id : ℕ) (r : SinkEntry I F) → ys ≡ xs → r ≡ get_or xs i r → new ≡ remove xs i
-      → position (λ (e : SinkEntry I F). e.id == id) ys ≡ Some i → TakesOut id r.sink xs new
-  taken_out xs ys new i id r seen is left found =
-      let (e, at, named) = found_at ys i id r found in
+      → (e : SinkEntry I F) × (slice_get ys i ≡ Some e) × (e.id ≡ id) × (i < length ys) → TakesOut id r.sink xs new
+  taken_out xs ys new i id r seen is left (e, at, named, within) =
       let there : slice_get xs i ≡ Some e = ap (λ (zs : List (SinkEntry I F)). slice_get zs i) (sym seen) ∙ at in
       let same : r ≡ e = is ∙ get_or_from_slice_get xs i e r there in
       let id_is : r.id ≡ id = ap (λ (x : SinkEntry I F). x.id) same ∙ named in

@@ -1,6 +1,5 @@
 //! The sinks of a profiler.
-ghost use Rattle.std.specs.Prelude.{◌≡◌, ◌+◌, ◌-◌, ◌<◌, ◌⊎◌, ◌==◌, ◌∷◌, [], ◌++◌, ◌^◌, IfOk, IfErr, IfSome, IfNone};
-ghost use Rattle.std.specs.List.{position};
+ghost use Rattle.std.specs.Prelude.{◌≡◌, ◌+◌, ◌-◌, ◌<◌, ◌⊎◌, ◌∷◌, [], ◌++◌, ◌^◌, length, slice_get, Some, IfOk, IfErr, IfSome, IfNone};
 ghost use Rattle.std.specs.Arc.{arc_value};
 ghost use Rattle.puffin.specs.Sinks.Handing.{HandsOn};
 ghost use Rattle.puffin.specs.Sinks.{PutsIn, TakesOut, HasNone};
@@ -80,7 +79,9 @@ impl Sinks {
             × (self.new.entries.items ≡ self.old.entries.items)) }
         ensures next { self.new.next ≡ self.old.next }
     {
-        let at = place_of(&self.entries, id.get())?;
+        let Some(at) = place_of(&self.entries, id) else {
+            return None;
+        };
         let SinkEntry { id: _, sink } = self.entries.remove(at);
         Some(sink)
     }
@@ -96,8 +97,15 @@ impl Sinks {
 }
 
 /// Returns the position of the sink with this number.
-fn place_of(entries: &[SinkEntry], id: u64) -> Option<usize>
-    ensures { result ≡ position (λ entry. entry.id == id) entries.now }
+fn place_of(entries: &[SinkEntry], id: FrameSinkId) -> Option<usize>
+    ensures some { IfSome result (λ i.
+        (e : _) × (slice_get entries.now i ≡ Some e) × (e.id ≡ id) × (i < length entries.now)) }
+    ensures none { IfNone result (HasNone id entries.now) }
 {
-    entries.iter().position(|entry| entry.id == id)
+    for at in 0..entries.len() {
+        if entries[at].id == id.get() {
+            return Some(at);
+        }
+    }
+    None
 }
