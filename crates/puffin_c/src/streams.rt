@@ -21,7 +21,6 @@ use crate::memory_source::MemorySource;
 use crate::unread::lay_over;
 use puffin_data::data::{Form, StreamInfo};
 use puffin_data::{Error, FileError};
-use puffin_frames::frame_data::laws::each_frame_is_read_again;
 use puffin_frames::frame_data::{FrameData, UnpackedFrameData};
 use puffin_threads::thread_profiler::ThreadInfo;
 use puffin_view::profile_view::{next_frame, read_magic};
@@ -141,6 +140,7 @@ fn frame_read(
 }
 
 /// Returns the unpacked data of a frame.
+#[tactic(auto, using(puffin_frames::proofs::lemmas::FramesAgain::frame_again))]
 pub(crate) fn unpacked(frame: &mut FrameData) -> Result<Arc<UnpackedFrameData>, FileError>
     ensures ok { IfOk result (λ unpacked.
         streams_in_fields (packet_fields frame.old) ≡ Ok (streams_held (arc_value unpacked))) }
@@ -148,8 +148,6 @@ pub(crate) fn unpacked(frame: &mut FrameData) -> Result<Arc<UnpackedFrameData>, 
         (e ≡ file_error.Memory) ⊎ (streams_in_fields (packet_fields frame.old) ≡ Err e)) }
     ensures meta { frame_meta frame.new ≡ frame_meta frame.old }
 {
-    // The proof uses this law: packed bytes are those of the frame's streams.
-    each_frame_is_read_again();
     frame.unpacked()
 }
 

@@ -5,7 +5,6 @@ mod FormsOfAll
 mod Structs
 mod PacketsRead
 mod Writing
-mod Packets
 mod OlderPackets
 mod PartsTaken
 mod PacketsTaken

@@ -22,7 +22,7 @@ use Rattle.puffin_frames.specs.Packet.Grammar.{counted_part, IsPacked, packet_wi
 use Rattle.puffin_frames.proofs.Structs.{legacy_reader}
 use Rattle.puffin_frames.proofs.Writing.{number_long}
 use Rattle.puffin_frames.proofs.PacketsRead.{after_header, not_end}
-use Rattle.puffin_frames.proofs.Packets.{part_again, length_again, meta_again, after_letters}
+use Rattle.puffin_frames.proofs.lemmas.Packets.{part_again, length_again, meta_again, after_letters}
 
 -- ---- without details
 

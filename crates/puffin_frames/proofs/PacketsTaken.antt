@@ -31,7 +31,7 @@ use Rattle.puffin_frames.proofs.Listed.{and-first, and-second}
 use Rattle.puffin_frames.proofs.Writing.{number_short}
 use Rattle.puffin_frames.proofs.PartsTaken.{bind_ok, same_ok, part_taken, length_taken, meta_taken, kind_taken, details_taken, LegacyTaken, legacy_taken}
 use Rattle.puffin_frames.proofs.OlderPackets.{row_pfd3, row_pfd2, without_details_again, without_kind_again, legacy_again}
-use Rattle.puffin_frames.proofs.Packets.{IsWritten, written, packet_again, in_a_row}
+use Rattle.puffin_frames.proofs.lemmas.Packets.{IsWritten, written, packet_again, in_a_row}
 
 -- ---- streams
 

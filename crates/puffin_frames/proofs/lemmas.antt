@@ -6,3 +6,4 @@ pub mod Honest
 pub mod PackedAgain
 pub mod LayoutsKept
 pub mod FramesAgain
+pub mod Packets

@@ -13,7 +13,6 @@ ghost use Rattle.puffin_look.specs.inner.Listings.{AddsFrame, FailsToAdd, ListsA
 
 use puffin_data::data::{Drain, Source, write_all};
 use puffin_data::{Error, FileError, Result as Answer};
-use puffin_frames::frame_data::laws::each_frame_is_read_again;
 use puffin_frames::frame_data::{FrameData, UnpackedFrameData};
 use puffin_threads::scope_details::ScopeDetails;
 use puffin_view::profile_view::{next_frame, read_magic};
@@ -75,6 +74,7 @@ fn as_file_error(cause: Error) -> FileError
 }
 
 /// Returns the unpacked data of a frame. Packed bytes are decoded where they are, and not copied.
+#[tactic(auto, using(puffin_frames::proofs::lemmas::FramesAgain::frame_again))]
 fn unpacked(frame: &mut FrameData) -> Result<Arc<UnpackedFrameData>, FileError>
     ensures ok { IfOk result (λ unpacked. opened_fields (packet_fields frame.old)
         ≡ Ok (open_of (arc_value unpacked) (frame_details frame.old))) }
@@ -82,8 +82,6 @@ fn unpacked(frame: &mut FrameData) -> Result<Arc<UnpackedFrameData>, FileError>
         (e ≡ FileError.Memory) ⊎ (opened_fields (packet_fields frame.old) ≡ Err e)) }
     ensures details { frame_details frame.new ≡ frame_details frame.old }
 {
-    // The proof uses this law: packed bytes are those of the frame's streams.
-    each_frame_is_read_again();
     frame.unpacked()
 }
 

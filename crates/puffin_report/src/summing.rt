@@ -17,7 +17,6 @@ ghost use Rattle.puffin_report.specs.inner.Summing.{IsProgress, CanGoOn, IsKeptW
 
 use crate::summary::Summary;
 use puffin_data::{Error, FileError, FrameIndex};
-use puffin_frames::frame_data::laws::each_frame_is_read_again;
 use puffin_frames::frame_data::{FrameData, UnpackedFrameData};
 use puffin_merge::merge::Merger;
 use puffin_threads::scope_details::ScopeCollection;
@@ -47,6 +46,7 @@ pub(crate) struct Summing<'i> {
 }
 
 /// Returns the unpacked data of a frame. Packed bytes are decoded where they are, and not copied.
+#[tactic(auto, using(puffin_frames::proofs::lemmas::FramesAgain::frame_again))]
 fn unpacked(frame: &mut FrameData) -> Result<Arc<UnpackedFrameData>, FileError>
     ensures ok { IfOk result (λ unpacked.
         (info : ThreadKey) →
@@ -55,8 +55,6 @@ fn unpacked(frame: &mut FrameData) -> Result<Arc<UnpackedFrameData>, FileError>
         (e ≡ FileError.Memory)
         ⊎ ((info : ThreadKey) → bytes_in info (packet_fields frame.old) ≡ Err e)) }
 {
-    // The proof uses this law: packed bytes are those of the frame's streams.
-    each_frame_is_read_again();
     frame.unpacked()
 }
 

@@ -54,10 +54,9 @@ fn not_opened(error: &io::Error) -> ToolFault {
 fn count(rt: &HostRuntime) -> Result<(), ToolFault> {
     let mut input = Counted::new(rt.stdin());
     let mut output = Counted::new(rt.stdout());
-    match count_stream(rt.alloc(), &mut input, &mut output) {
-        Ok(None) => Ok(()),
-        Ok(Some(cause)) => Err(ToolFault::Cause(cause)),
-        Err(fault) => Err(ToolFault::File(fault)),
+    match count_stream(rt.alloc(), &mut input, &mut output)? {
+        None => Ok(()),
+        Some(cause) => Err(ToolFault::Cause(cause)),
     }
 }
 
@@ -77,10 +76,7 @@ fn replay(rt: &HostRuntime, script: &str, out: &str) -> Result<(), ToolFault> {
         Err(error) => return Err(not_opened(&error)),
     };
     let mut lines = Counted::new(rt.stdout());
-    match run_script(rt.alloc(), &script, &mut out, &mut lines) {
-        Ok(()) => Ok(()),
-        Err(fault) => Err(ToolFault::File(fault)),
-    }
+    Ok(run_script(rt.alloc(), &script, &mut out, &mut lines)?)
 }
 
 /// Opens a file that is read ahead, so that small packets take few system calls.
@@ -95,10 +91,7 @@ fn report(rt: &HostRuntime, path: &str, thread: &ThreadInfo) -> Result<(), ToolF
         Err(error) => return Err(not_opened(&error)),
     };
     let mut lines = Counted::new(rt.stdout());
-    match print_report(rt.alloc(), &mut file, thread, &mut lines) {
-        Ok(()) => Ok(()),
-        Err(fault) => Err(ToolFault::File(fault)),
-    }
+    Ok(print_report(rt.alloc(), &mut file, thread, &mut lines)?)
 }
 
 /// Does what the arguments ask for.

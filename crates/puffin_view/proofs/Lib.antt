@@ -19,7 +19,6 @@ mod Selecting
 mod FileFrames
 mod FilesWritten
 mod Searching
-mod FilesAgain
 mod FileGrammar
 mod ReadingsCut
 mod FilesCut

@@ -2,3 +2,4 @@
 pub mod FilesRead
 pub mod FramesHeld
 pub mod ReadingViews
+pub mod FilesAgain

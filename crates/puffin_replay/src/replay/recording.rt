@@ -22,7 +22,6 @@ use crate::replay::script::Script;
 use puffin_data::data::{Drain, Form, write_all};
 use puffin_data::{Error, FileError, Result as Answer};
 use puffin_frames::frame_data::FrameData;
-use puffin_frames::frame_data::laws::each_frame_is_read_again;
 use puffin_session::{Command, Reply, Session};
 use puffin_view::profile_view::FrameView;
 use std::alloc::{AllocError, Global};
@@ -82,8 +81,6 @@ pub(crate) fn run_into(
         (option_map (λ rs. rs.items) e.replies)) }
     ensures memory { IfErr result (λ e. e.fault ≡ FileError.Memory) }
 {
-    // By this law, a frame's streams are read as the frame holds them.
-    each_frame_is_read_again();
     let replies = match session.run(commands) {
         Ok(replies) => replies,
         Err(_) => {

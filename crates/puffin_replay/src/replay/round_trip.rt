@@ -17,7 +17,6 @@ use puffin_data::FileError;
 use puffin_data::data::{Buffered, Counted, Form};
 use puffin_session::{Command, Reply, Session};
 use puffin_view::profile_view::FrameView;
-use puffin_view::profile_view::laws::what_was_written_is_read;
 use std::alloc::Global;
 
 /// Which frames a view keeps, and whether it packs them.
@@ -73,8 +72,6 @@ fn read_file(alloc: Global, bytes: &[u8]) -> Result<FrameView, FileError>
     ensures fault { IfErr result (λ e.
         (v : View) → IsFileOf bytes.now v → IsReadFault (fields_in v) e) }
 {
-    // By this law, the file of a view is read as exactly the view's frames, or refused if some of their details have no id.
-    what_was_written_is_read();
     match FrameView::read(alloc, &mut Buffered::new(bytes)) {
         Ok(view) => Ok(view),
         Err(fault) => Err(in_memory(fault)),

@@ -20,7 +20,7 @@ use Rattle.puffin_view.proofs.Keeping.{all_packed, index_packed_at}
 use Rattle.puffin_view.proofs.Orders.{map-length}
 use Rattle.puffin_view.proofs.Members.{neither, all_map, all_take, all_drop, all_more, all_place, all_first, all_rest, has_all, has-index_of, is_at}
 use Rattle.puffin_view.proofs.FileFrames.{took_all}
-use Rattle.puffin_view.proofs.FilesAgain.{fields_rise, said_again, all_taken, all_keep, last_of_all}
+use Rattle.puffin_view.proofs.lemmas.FilesAgain.{fields_rise, said_again, all_taken, all_keep, last_of_all}
 
 -- ---- what is true of all frames that a view holds
 

@@ -10,7 +10,7 @@ use Rattle.puffin_view.specs.View.File.{fields_in, read_view}
 use Rattle.puffin_view.proofs.Taking.{taken-more, taken-anew, opposite}
 use Rattle.puffin_view.proofs.Orders.{map-length, map-more}
 use Rattle.puffin_view.proofs.FileFrames.{after_last, took_all}
-use Rattle.puffin_view.proofs.FilesAgain.{all_taken, all_keep, last_of_all}
+use Rattle.puffin_view.proofs.lemmas.FilesAgain.{all_taken, all_keep, last_of_all}
 use Rattle.puffin_view.proofs.lemmas.FramesHeld.{rising_in_place}
 
 -- ---- one frame more

@@ -1,4 +1,4 @@
-use Rattle.puffin_frames.proofs.Packets.{packet_again, no_packet_begins_another}
+use Rattle.puffin_frames.proofs.lemmas.Packets.{packet_again, no_packet_begins_another}
 use Rattle.puffin_frames.proofs.frame_data.laws.written_is_read.Goals as goal
 
 pub returns-clause-again : goal.returns-clause-again

@@ -1,6 +1,7 @@
 -- What was run is what each frame says that the view takes; and what is left where it is refused.
 use Rattle.std.proofs.Common.{rules, refl, subst, inl, inr}
 use Rattle.puffin_view.specs.View.Known.{view_of, lacks_ids}
+use Rattle.puffin_frames.proofs.lemmas.FramesAgain.{frame_again}
 use Rattle.puffin_view.proofs.lemmas.FramesHeld.{held_or_taken, listed_is_held}
 use Rattle.puffin_replay.specs.Program.EmittedFrames.{frames_emitted, TakesSome}
 use Rattle.puffin_session.specs.Session.Runs.{Records}
@@ -14,7 +15,7 @@ returns-in-Err-clause-refusal c = inl (refl, refl, c.in-Err.ensures.err, record 
 pub returns-in-Err-add_frames-clause-refusal : goal.returns-in-Err-add_frames-clause-refusal
 returns-in-Err-add_frames-clause-refusal c =
     let run : Records c.args.session.now c.run.new.self c.args.commands.now c.in-Ok.replies.items = search rules in
-    let due = emits c.each_frame_is_read_again.ensures.again c.args.session.now c.run.new.self c.args.commands.now c.in-Ok.replies.items run in
+    let due = emits frame_again c.args.session.now c.run.new.self c.args.commands.now c.in-Ok.replies.items run in
     let some = subst (λ rs. TakesSome (frames_emitted rs) c.args.view.now c.add_frames.new.view) c.deref.ensures.value c.in-Err-add_frames.ensures.refusal.1 in
     inr (c.in-Ok.replies.items, refl, due, some, refl)
 
@@ -26,7 +27,7 @@ returns-in-Ok-add_frames-clause-taken c =
     let taken = subst (λ rs. TakesAll (frames_emitted rs) old new) c.deref.ensures.value (c.in-Ok-add_frames.ensures.ok, c.in-Ok-add_frames.ensures.took) in
     let held = ids_kept held_or_taken c.in-Ok.replies.items old new c.in-Ok.ensures.ids taken.0 in
     record {
-      run = emits c.each_frame_is_read_again.ensures.again c.args.session.now c.run.new.self c.args.commands.now c.in-Ok.replies.items run;
+      run = emits frame_again c.args.session.now c.run.new.self c.args.commands.now c.in-Ok.replies.items run;
       view = taken.0;
       took = taken.1;
       held_ids = held;

@@ -1,4 +1,4 @@
-use Rattle.puffin_view.proofs.FilesAgain.{frames_again, fault_again, view_again}
+use Rattle.puffin_view.proofs.lemmas.FilesAgain.{frames_again, fault_again, view_again}
 use Rattle.puffin_view.proofs.lemmas.FramesHeld.{read_again}
 use Rattle.puffin_view.proofs.profile_view.laws.what_was_written_is_read.Goals as goal
 
