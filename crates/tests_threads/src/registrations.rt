@@ -82,22 +82,22 @@ fn gives_up(rt: &impl Abort, rig: &mut Rig) {
 }
 
 /// One scope is reported, with the details that were registered before.
-fn comes_alone(rt: &impl Abort, rig: &mut Rig) -> Outcome {
+fn comes_alone(rt: &impl Abort, rig: &mut Rig) {
     rig.set(200);
     rig.begins(rt, (5, ""), 14);
     rig.ends(rt, 14, Ok(Closed::Reported));
     rig.has(rt, (0, 1, 2));
-    equal(rt, rig.recorder.at(0)?.0.start_time_ns, Some(100));
-    equal(rt, rig.recorder.at(0)?.1.num_scopes, 1);
-    is_registered(rt, &rig.recorder, 1, 6, ("part", "f", "b.rs:9"))
+    let (info, times) = rig.recorder.at(0).expect(rt, "a report");
+    equal(rt, (info.start_time_ns, times.num_scopes), (Some(100), 1));
+    is_registered(rt, &rig.recorder, 1, 6, ("part", "f", "b.rs:9"));
 }
 
 #[test]
-fn details_outlast_scopes_that_are_given_up(rt: HostRuntime) -> Outcome {
-    let mut rig = Rig::new(rt.alloc(), 100, 2)?;
-    are_kept(&rt, &mut rig)?;
+fn details_outlast_scopes_that_are_given_up(rt: HostRuntime) {
+    let mut rig = Rig::new(rt.alloc(), 100, 2).expect(&rt, "memory");
+    are_kept(&rt, &mut rig);
     gives_up(&rt, &mut rig);
-    comes_alone(&rt, &mut rig)
+    comes_alone(&rt, &mut rig);
 }
 
 /// Why two registrations with an exhausted counter are refused.
