@@ -10,4 +10,3 @@
 
 pub mod frame_data;
 pub mod laws;
-
