@@ -73,7 +73,8 @@ fn scope_registered(
     line: u32,
     id: &mut u32,
 ) -> Result<(), Fault>
-    ensures registers { RegistersFor (thread_in thread.old) (name.now ∷ function.now ∷ file.now ∷ [])
+    ensures registers { RegistersFor (thread_in thread.old)
+        (name.now ∷ function.now ∷ file.now ∷ [])
         (scope_details name.now function.now file.now line) (thread_in thread.new) id.old id.new
         result }
     ensures same_switch { scopes_on thread.new ≡ scopes_on thread.old }
