@@ -1,5 +1,5 @@
 -- The totals of threads, stream by stream and frame by frame, and their rows.
-use Rattle.std.proofs.Common.{◌≡◌, ◌⊎◌, inl, inr, ℕ, ◌+◌, List, [], ◌∷◌, ◌++◌, length, map, Option, Some, None, refl, ap, subst, sym, ◌∙◌, append_assoc, append-nil, length-append, true, false}
+use Rattle.std.proofs.Common.{◌≡◌, ◌⊎◌, inl, inr, ℕ, ◌+◌, List, [], ◌∷◌, ◌++◌, length, map, Option, Some, None, refl, ap, sym, ◌∙◌, append_assoc, append-nil, length-append, true, false}
 use Rattle.std.specs.Prelude.{fold, unwrap_or}
 use Rattle.std.specs.Option.{option_map}
 use Rattle.std.specs.FinMap as tree
@@ -12,7 +12,7 @@ use Rattle.puffin_data.specs.declared.error.Error.TheVariants as error
 use Rattle.puffin_data.specs.declared.file_error.FileError.{FileError}
 use Rattle.puffin_data.specs.Honesty.{StreamFacts}
 use Rattle.puffin_threads.specs.declared.thread_profiler.thread_info.ThreadInfo.{ThreadInfo}
-use Rattle.puffin_threads.specs.Thread.ThreadKey.{ThreadKey, key_of, key_cmp, thread_cmp, by_key, key_entries}
+use Rattle.puffin_threads.specs.Thread.ThreadKey.{key_of, key_cmp, thread_cmp, by_key, key_entries}
 use Rattle.puffin_threads.specs.Details.{Details}
 use Rattle.puffin_threads.proofs.lemmas.ThreadKeys.{key_cmp_total}
 use Rattle.puffin_threads.proofs.lemmas.EntriesSeen.{get-seen}
