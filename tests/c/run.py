@@ -28,7 +28,8 @@ WRAPPED = ["-Wl,--wrap=malloc", "-Wl,--wrap=realloc"]
 FRAMES = 100_000
 # readings of the clock by each of two threads
 READINGS = 20_000
-# the most instructions that the beginning and the end of a scope may take, with the loop that makes the calls
+# the most instructions that the beginning and the end of a scope may take, with the loop that makes the calls and a report every
+# 128 scopes, but without those of the C library
 INSTRUCTIONS = {"on": 188, "text": 216, "off": 10}
 CALLS_REPORT = (
     b"frames 1\n",
@@ -162,13 +163,15 @@ class Programs:
             self.check(f"a scope, {kind}, takes at most {most} instructions", 0 < each < most + 0.5, str(each).encode())
 
     def instructions(self, kind, number):
-        """How many instructions cost.c takes for so many scopes."""
-        words = ["--tool=callgrind", f"--callgrind-out-file={self.place / 'callgrind'}", self.place / "cost", kind, number]
-        got = run("valgrind", *words)
+        """How many instructions of its own cost.c takes for so many scopes."""
+        counted = self.place / "callgrind"
+        program = self.place / "cost"
+        got = run("valgrind", "--tool=callgrind", f"--callgrind-out-file={counted}", program, kind, number)
         reported = 0 if kind == "off" else number
         self.check(f"cost.c {kind} {number}", got.returncode == 0 and got.stdout == b"%d\n" % reported, got.stderr)
-        found = re.search(rb"Collected : (\d+)", got.stderr)
-        return int(found[1]) if found else 0
+        lines = run("callgrind_annotate", "--threshold=100", counted).stdout.decode().splitlines()
+        own = [line.split()[0] for line in lines if line.endswith(f"[{program}]")]
+        return sum(int(number.replace(",", "")) for number in own)
 
     def first(self):
         """The program that docs/C.md shows."""

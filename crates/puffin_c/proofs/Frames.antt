@@ -1,7 +1,7 @@
 -- Frames that are collected, wait, and are taken.
 use Rattle.std.proofs.Common.{◌≡◌, ◌⊎◌, ◌↔◌, refl, sym, ap, ◌∙◌, subst, inl, inr}
 use mathlib.Core.Bool.{Bool, true, false, true≢false}
-use Rattle.std.specs.Prelude.{Option, Some, None, is_some, Result, Ok, Err}
+use Rattle.std.specs.Prelude.{Option, Some, None, is_some, Result, Err}
 use Rattle.std.specs.Arc.{arc_value}
 use Rattle.std.specs.List.{list_any}
 use Rattle.std.specs.Option.{option_map}
@@ -18,7 +18,7 @@ use Rattle.puffin_view.specs.View.FrameOf.{frame_of}
 use Rattle.puffin_view.specs.View.Known.{view_of}
 use Rattle.puffin_c.specs.declared.profiler.Profiler.{Profiler}
 use Rattle.puffin_c.specs.declared.profiler.Waiting.{Waiting}
-use Rattle.puffin_c.specs.Profiling.{waiting_frame, IsNext, HasNone, IsCollected, IsLeft}
+use Rattle.puffin_c.specs.Profiling.{waiting_frame, IsNext, IsCollected, IsLeft}
 
 abbrev frame_in : Waiting → FrameData
 frame_in w = arc_value w.frame

@@ -1,8 +1,10 @@
 -- A file in memory has fewer frames than bytes.
-use Rattle.std.proofs.Common.{◌≡◌, ℕ, ◌+◌, ◌<◌, ◌≤◌, ltb, true, refl, List, [], ◌∷◌, ◌++◌, length, drop, ap, arith, length-append}
+use Rattle.std.proofs.Common.{◌≡◌, ℕ, ◌+◌, ◌-◌, ◌<◌, ◌≤◌, ltb, true, refl, List, [], ◌∷◌, ◌++◌, length, drop, ap, subst, arith, length-append}
 use Rattle.std.proofs.lemmas.Bool.{lt-ltb}
 use Rattle.std.specs.Prelude.{Option, Some, None, Result, Ok, Err}
 use Rattle.puffin_data.specs.declared.file_error.FileError.{FileError}
+use Rattle.puffin_data.specs.declared.file_error.FileError.TheVariants as file
+use Rattle.puffin_data.specs.Device.{failures_after}
 use Rattle.puffin_frames.specs.Packet.Stored.{Stored}
 use Rattle.puffin_frames.specs.Packet.Front.{next_at}
 use Rattle.puffin_view.specs.View.File.{magic}
@@ -36,3 +38,12 @@ pub few_frames : (bytes left : List ℕ) (frames : List Stored) → HasGiven (So
 few_frames bytes left frames given =
     let fewer = fewer_frames given.bytes frames given.given in
     omega (arith, ap length given.consumed, length-append (magic ++ given.bytes) left, length-append magic given.bytes)
+
+-- where the frames so far end
+pub end_given : (bytes left : List ℕ) (frames : List Stored) (read : ℕ) → HasGiven (Some bytes) (Some left) frames → read ≡ length bytes - length left → read + length left ≡ length bytes
+end_given bytes left frames read given is = omega (arith, ap length given.consumed, length-append (magic ++ given.bytes) left, is)
+
+-- a call that counts no failure doesn't return `Io`
+pub no_io : (X : Type 0) (e : FileError) → 0 ≡ failures_after {X = X} 0 (Err e) → e ≡ file.Io → ⊥
+no_io X e none io =
+    let one : 0 ≡ 1 = subst (λ (f : FileError). 0 ≡ failures_after {X = X} 0 (Err f)) io none in absurd (omega (arith, one))

@@ -1,11 +1,11 @@
 -- The scopes of a stream are listed one after the other.
-use Rattle.std.proofs.Common.{◌≡◌, ◌⊎◌, inl, inr, ℕ, ◌+◌, ◌≤◌, List, [], ◌∷◌, ◌++◌, length, refl, ap, sym, ◌∙◌, append-nil, length-append, arith}
+use Rattle.std.proofs.Common.{◌≡◌, inl, inr, ℕ, ◌+◌, List, [], ◌∷◌, ◌++◌, length, ap, sym, ◌∙◌, append-nil, length-append, arith}
 use Rattle.puffin_data.specs.declared.data.form.Form.{Form}
 use Rattle.puffin_data.specs.declared.error.Error.{Error}
 use Rattle.puffin_data.specs.Forest.{Span, Forest}
 use Rattle.puffin_data.specs.Forest.Spelling.{Spells}
 use Rattle.puffin_data.specs.Walk.{IsFault}
-use Rattle.puffin_data.specs.Walk.PlacedScopes.{ScopeInContext, nested_in}
+use Rattle.puffin_data.specs.Walk.PlacedScopes.{nested_in}
 use Rattle.puffin_data.specs.Walk.Visitor.{TakesAll, StopsEarly}
 use Rattle.puffin_c.specs.declared.scopes.PuffinScope.{PuffinScope}
 use Rattle.puffin_c.specs.declared.scopes.ScopeList.{ScopeList}

@@ -1,5 +1,6 @@
 -- The streams of a frame are listed one after the other.
-use Rattle.std.proofs.Common.{◌≡◌, ℕ, ◌+◌, List, [], ◌∷◌, ◌++◌, length, refl, ap, subst, sym, ◌∙◌, append_assoc, append-nil, length-append, map}
+use Rattle.std.specs.Prelude.{Option, Some, Err}
+use Rattle.std.proofs.Common.{◌≡◌, ◌⊎◌, inl, inr, ℕ, ◌+◌, List, [], ◌∷◌, ◌++◌, length, refl, ap, subst, sym, ◌∙◌, append_assoc, append-nil, length-append, map}
 use Rattle.std.proofs.lemmas.Map.Made.{keys_of-map_values}
 use Rattle.std.specs.FinMap as tree
 use Rattle.std.specs.Arc.{arc_value}
@@ -7,14 +8,23 @@ use Rattle.std.specs.Map.{keys_of}
 use Rattle.std.specs.List.Sorted.{IsStrictlySortedBy}
 use Rattle.std.specs.declared.sync.Arc.{Arc}
 use Rattle.std.specs.declared.alloc.Global.{Global}
+use Rattle.puffin_data.specs.declared.error.Error.TheVariants as error
+use Rattle.puffin_data.specs.declared.file_error.FileError.{FileError}
+use Rattle.puffin_data.specs.declared.file_error.FileError.TheVariants as file
 use Rattle.puffin_data.specs.Honesty.{StreamFacts, facts_of}
 use Rattle.puffin_data.specs.declared.data.info.StreamInfo.{StreamInfo}
 use Rattle.puffin_threads.specs.declared.thread_profiler.thread_info.ThreadInfo.{ThreadInfo}
 use Rattle.puffin_threads.specs.Thread.ThreadKey.{ThreadKey, key_of, thread_cmp, key_entries}
 use Rattle.puffin_frames.specs.Frame.Contents.{without_sharing, shared_streams, records}
 use Rattle.puffin_frames.proofs.lemmas.Keyed.{entries-streams_of}
+use Rattle.puffin_frames.specs.declared.frame_data.frame.FrameData.{FrameData}
+use Rattle.puffin_frames.specs.Frame.Contents.{packet_fields}
+use Rattle.puffin_view.specs.View.File.{file_at, FailsToRead}
+use Rattle.puffin_c.specs.declared.fault.Fault.{Fault}
+use Rattle.puffin_c.specs.declared.fault.Fault.TheVariants as fault
 use Rattle.puffin_c.specs.declared.streams.PuffinStream.{PuffinStream}
-use Rattle.puffin_c.specs.Lists.{stream_row, stream_bytes, stream_rows, streams_bytes}
+use Rattle.puffin_c.specs.Faults.{file_fault}
+use Rattle.puffin_c.specs.Lists.{stream_row, stream_bytes, stream_rows, streams_bytes, streams_in_fields, IsFrameAt, LacksFrame, LacksStreams}
 
 abbrev pub Held : Type 0
 Held = ThreadInfo × Arc StreamInfo Global
@@ -59,3 +69,20 @@ rows_done rows bytes all it none so_far sorted =
 pub bytes_done : (bytes : List ℕ) (all it : List Held) → it ≡ [] → AllBytes bytes it (streams_bytes (map entry_of all)) → IsStrictlySortedBy thread_cmp (keys_of all) → bytes ≡ streams_bytes (tree.entries (shared_streams all))
 bytes_done bytes all it none so_far sorted =
     sym (append-nil bytes) ∙ sym (ap (λ (es : List Held). bytes ++ streams_bytes (map entry_of es)) none) ∙ so_far ∙ ap streams_bytes (sym (entries_held all sorted))
+
+-- ---- refusals
+
+-- a file that doesn't begin with its letters
+pub no_letters : (bytes read : List ℕ) (left : Option (List ℕ)) (offset : ℕ) (e : FileError) (f : Fault) → read ≡ bytes → f ≡ file_fault e → offset ≡ 0 → (e ≡ file.Io → ⊥) → ((e ≡ file.NoMagic) ⊎ (e ≡ file.Io))
+    → FailsToRead file_at (Some read) left e → LacksFrame bytes offset f
+no_letters bytes read left offset e f all is start none (inl letters) fails =
+    inr (inl (is ∙ ap file_fault letters, start, left, subst (λ (x : List ℕ × FileError). FailsToRead file_at (Some x.0) left x.1) (λ i. (all i, letters i)) fails))
+no_letters bytes read left offset e f all is start none (inr io) fails = absurd (none io)
+
+-- streams that can't be unpacked
+pub not_unpacked : (bytes : List ℕ) (offset next : ℕ) (o : Option FrameData) (frame : FrameData) (e f : Fault) → f ≡ e → o ≡ Some frame → IsFrameAt bytes offset next o
+    → ((e ≡ fault.Refused error.Memory) ⊎ ((cause : FileError) × (streams_in_fields (packet_fields frame) ≡ Err cause) × (e ≡ file_fault cause)))
+    → (f ≡ fault.Refused error.Memory) ⊎ LacksFrame bytes offset f ⊎ LacksStreams bytes offset f
+not_unpacked bytes offset next o frame e f same some at (inl memory) = inl (same ∙ memory)
+not_unpacked bytes offset next o frame e f same some at (inr (cause, packed, is)) =
+    inr (inr (next, frame, cause, subst (IsFrameAt bytes offset next) some at, packed, same ∙ is))

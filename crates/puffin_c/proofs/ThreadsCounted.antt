@@ -1,5 +1,5 @@
 -- The totals of threads, stream by stream and frame by frame, and their rows.
-use Rattle.std.proofs.Common.{◌≡◌, ℕ, ◌+◌, List, [], ◌∷◌, ◌++◌, length, map, Option, Some, None, refl, ap, subst, sym, ◌∙◌, append_assoc, append-nil, length-append, true, false}
+use Rattle.std.proofs.Common.{◌≡◌, ◌⊎◌, inl, inr, ℕ, ◌+◌, List, [], ◌∷◌, ◌++◌, length, map, Option, Some, None, refl, ap, sym, ◌∙◌, append_assoc, append-nil, length-append, true, false}
 use Rattle.std.specs.Prelude.{fold, unwrap_or}
 use Rattle.std.specs.Option.{option_map}
 use Rattle.std.specs.FinMap as tree
@@ -8,9 +8,11 @@ use Rattle.std.specs.BTreeMap.{is_at, insert_entry}
 use Rattle.std.specs.List.Sorted.{IsStrictlySortedBy}
 use Rattle.std.proofs.lemmas.List.Sums.{fold-append}
 use Rattle.puffin_data.specs.declared.data.form.Form.{Form}
+use Rattle.puffin_data.specs.declared.error.Error.TheVariants as error
+use Rattle.puffin_data.specs.declared.file_error.FileError.{FileError}
 use Rattle.puffin_data.specs.Honesty.{StreamFacts}
 use Rattle.puffin_threads.specs.declared.thread_profiler.thread_info.ThreadInfo.{ThreadInfo}
-use Rattle.puffin_threads.specs.Thread.ThreadKey.{ThreadKey, key_of, key_cmp, thread_cmp, by_key, key_entries}
+use Rattle.puffin_threads.specs.Thread.ThreadKey.{key_of, key_cmp, thread_cmp, by_key, key_entries}
 use Rattle.puffin_threads.specs.Details.{Details}
 use Rattle.puffin_threads.proofs.lemmas.ThreadKeys.{key_cmp_total}
 use Rattle.puffin_threads.proofs.lemmas.EntriesSeen.{get-seen}
@@ -28,12 +30,16 @@ use Rattle.puffin_frames.proofs.lemmas.Keyed.{by_key-insert, entries-by_key}
 use Rattle.puffin_view.specs.View.ViewedFrames.{Frame, fields_of}
 use Rattle.puffin_view.specs.View.FrameOf.{frame_of}
 use Rattle.puffin_view.specs.View.File.{frame_stored}
+use Rattle.puffin_view.specs.View.FrameFile.{HasGiven}
+use Rattle.puffin_c.specs.declared.fault.Fault.{Fault}
+use Rattle.puffin_c.specs.declared.fault.Fault.TheVariants as fault
+use Rattle.puffin_c.specs.Faults.{file_fault}
 use Rattle.puffin_c.specs.declared.threads.ThreadTotals.{ThreadTotals}
 use Rattle.puffin_c.specs.declared.threads.PuffinFileThread.{PuffinFileThread}
 use Rattle.puffin_c.specs.Lists.{streams_in_fields}
-use Rattle.puffin_c.specs.Threads.{Totals, no_totals, totals_with, with_stream, with_frame, totals_of, opened, AreOpened, thread_row, thread_rows, thread_names}
+use Rattle.puffin_c.specs.Threads.{Totals, no_totals, totals_with, with_stream, with_frame, totals_of, opened, AreOpened, LacksTotals, thread_row, thread_rows, thread_names}
 use Rattle.puffin_c.proofs.StreamLists.{Held, entry_of, entries_held}
-use Rattle.std.specs.Prelude.{Ok}
+use Rattle.std.specs.Prelude.{Ok, Err}
 
 same_option : {X : Type 0} (o : Option X) → option_map (λ x. x) o ≡ o
 same_option None = refl
@@ -119,3 +125,13 @@ rows_done rows names all it none so_far sorted =
 pub names_done : (names : List ℕ) (all it : List Entry) → it ≡ [] → AllNames names it (thread_names (key_entries all)) → IsStrictlySortedBy thread_cmp (keys_of all) → names ≡ thread_names (tree.entries (by_key all))
 names_done names all it none so_far sorted =
     sym (append-nil names) ∙ sym (ap (λ (es : List Entry). names ++ thread_names (key_entries es)) none) ∙ so_far ∙ ap thread_names (sym (entries-by_key all sorted))
+
+-- ---- refusals
+
+-- a frame that can't be added
+pub not_added : (bytes : List ℕ) (left : Option (List ℕ)) (stored : List Stored) (frames : List Streams) (frame : FrameData) (e f : Fault) → f ≡ e
+    → HasGiven (Some bytes) left (stored ++ stored_of frame ∷ []) → AreOpened stored frames → IsFresh frame
+    → ((e ≡ fault.Refused error.Memory) ⊎ ((cause : FileError) × (streams_in_fields (packet_fields frame) ≡ Err cause) × (e ≡ file_fault cause))) → LacksTotals bytes f
+not_added bytes left stored frames frame e f same given opens fresh (inl memory) = inl (same ∙ memory)
+not_added bytes left stored frames frame e f same given opens fresh (inr (cause, packed, is)) =
+    inr (inl (cause, same ∙ is, (left, stored, frames, stored_of frame, given, opens, sym (opened_fresh frame fresh) ∙ packed)))

@@ -29,23 +29,7 @@ cause_name error.UnlikeForms = codes "PUFFIN_UNLIKE_FORMS"
 
 -- A file that is refused for another fault has the names of both, in the form in which C adds their numbers.
 abbrev pub refused_name : Error → List ℕ
-refused_name error.PrematureEnd = codes "PUFFIN_FILE_REFUSED + 256 * PUFFIN_PREMATURE_END"
-refused_name error.InvalidStream = codes "PUFFIN_FILE_REFUSED + 256 * PUFFIN_INVALID_STREAM"
-refused_name error.ScopeNeverEnded = codes "PUFFIN_FILE_REFUSED + 256 * PUFFIN_SCOPE_NEVER_ENDED"
-refused_name error.InvalidOffset = codes "PUFFIN_FILE_REFUSED + 256 * PUFFIN_INVALID_OFFSET"
-refused_name error.Empty = codes "PUFFIN_FILE_REFUSED + 256 * PUFFIN_EMPTY"
-refused_name error.TooLarge = codes "PUFFIN_FILE_REFUSED + 256 * PUFFIN_TOO_LARGE"
-refused_name error.RangeTooLong = codes "PUFFIN_FILE_REFUSED + 256 * PUFFIN_RANGE_TOO_LONG"
-refused_name error.MismatchedEnd = codes "PUFFIN_FILE_REFUSED + 256 * PUFFIN_MISMATCHED_END"
-refused_name error.ScopesOpen = codes "PUFFIN_FILE_REFUSED + 256 * PUFFIN_SCOPES_OPEN"
-refused_name error.MissingId = codes "PUFFIN_FILE_REFUSED + 256 * PUFFIN_MISSING_ID"
-refused_name error.IdsExhausted = codes "PUFFIN_FILE_REFUSED + 256 * PUFFIN_IDS_EXHAUSTED"
-refused_name error.IndexExhausted = codes "PUFFIN_FILE_REFUSED + 256 * PUFFIN_INDEX_EXHAUSTED"
-refused_name error.SinkIdsExhausted = codes "PUFFIN_FILE_REFUSED + 256 * PUFFIN_SINK_IDS_EXHAUSTED"
-refused_name error.TooDeep = codes "PUFFIN_FILE_REFUSED + 256 * PUFFIN_TOO_DEEP"
-refused_name error.NoThread = codes "PUFFIN_FILE_REFUSED + 256 * PUFFIN_NO_THREAD"
-refused_name error.Memory = codes "PUFFIN_FILE_REFUSED + 256 * PUFFIN_MEMORY"
-refused_name error.UnlikeForms = codes "PUFFIN_FILE_REFUSED + 256 * PUFFIN_UNLIKE_FORMS"
+refused_name cause = codes "PUFFIN_FILE_REFUSED + 256 * " ++ cause_name cause
 
 abbrev pub file_name : FileError → List ℕ
 file_name file.Io = codes "PUFFIN_FILE_IO"

@@ -1,5 +1,5 @@
 -- How the calls on a profiler's handle change what it holds.
-use Rattle.std.specs.Prelude.{◌≡◌, ◌⊎◌, ◌<◌, ℕ, List, [], ◌∷◌, Bool, true, false, Option, Some, None, Result, Ok, Err, is_some, length, drop, min}
+use Rattle.std.specs.Prelude.{◌≡◌, ◌⊎◌, ◌<◌, ℕ, List, [], Bool, true, false, Option, Some, None, Result, Ok, Err, is_some, length, drop, min}
 use Rattle.std.specs.List.{Any}
 use Rattle.std.specs.Str.{IsUtf8}
 use Rattle.std.specs.Arc.{arc_value}

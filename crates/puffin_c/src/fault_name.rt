@@ -12,30 +12,6 @@ use crate::fault::Fault;
 use crate::unread::lay_over;
 use puffin_data::{Error, FileError};
 
-fn cause_name(cause: Error) -> &'static str
-    ensures { result.now ≡ cause_name cause }
-{
-    match cause {
-        Error::PrematureEnd => "PUFFIN_PREMATURE_END",
-        Error::InvalidStream => "PUFFIN_INVALID_STREAM",
-        Error::ScopeNeverEnded => "PUFFIN_SCOPE_NEVER_ENDED",
-        Error::InvalidOffset => "PUFFIN_INVALID_OFFSET",
-        Error::Empty => "PUFFIN_EMPTY",
-        Error::TooLarge => "PUFFIN_TOO_LARGE",
-        Error::RangeTooLong => "PUFFIN_RANGE_TOO_LONG",
-        Error::MismatchedEnd => "PUFFIN_MISMATCHED_END",
-        Error::ScopesOpen => "PUFFIN_SCOPES_OPEN",
-        Error::MissingId => "PUFFIN_MISSING_ID",
-        Error::IdsExhausted => "PUFFIN_IDS_EXHAUSTED",
-        Error::IndexExhausted => "PUFFIN_INDEX_EXHAUSTED",
-        Error::SinkIdsExhausted => "PUFFIN_SINK_IDS_EXHAUSTED",
-        Error::TooDeep => "PUFFIN_TOO_DEEP",
-        Error::NoThread => "PUFFIN_NO_THREAD",
-        Error::Memory => "PUFFIN_MEMORY",
-        Error::UnlikeForms => "PUFFIN_UNLIKE_FORMS",
-    }
-}
-
 /// Returns the name of a file's refusal for this cause.
 fn refused_name(cause: Error) -> &'static str
     ensures { result.now ≡ refused_name cause }
@@ -61,37 +37,46 @@ fn refused_name(cause: Error) -> &'static str
     }
 }
 
-fn file_name(fault: FileError) -> &'static str
+/// The size of what a file's refusal has in front of the name of its cause.
+const REFUSED_SIZE: usize = 28;
+
+fn cause_name(cause: Error) -> &'static [u8]
+    ensures { result.now ≡ cause_name cause }
+{
+    &refused_name(cause).as_bytes()[REFUSED_SIZE..]
+}
+
+fn file_name(fault: FileError) -> &'static [u8]
     ensures { result.now ≡ file_name fault }
 {
     match fault {
-        FileError::Io => "PUFFIN_FILE_IO",
-        FileError::NoMagic => "PUFFIN_FILE_NO_MAGIC",
-        FileError::Truncated => "PUFFIN_FILE_TRUNCATED",
-        FileError::Legacy => "PUFFIN_FILE_LEGACY",
-        FileError::Newer => "PUFFIN_FILE_NEWER",
-        FileError::UnknownKind(_) => "PUFFIN_FILE_UNKNOWN_KIND",
-        FileError::Compressed(_) => "PUFFIN_FILE_COMPRESSED",
-        FileError::BadMeta => "PUFFIN_FILE_BAD_META",
-        FileError::BadStreams => "PUFFIN_FILE_BAD_STREAMS",
-        FileError::BadScopes => "PUFFIN_FILE_BAD_SCOPES",
-        FileError::BadRange => "PUFFIN_FILE_BAD_RANGE",
-        FileError::PartTooLong => "PUFFIN_FILE_PART_TOO_LONG",
-        FileError::Refused(cause) => refused_name(cause),
-        FileError::Memory => "PUFFIN_FILE_MEMORY",
+        FileError::Io => b"PUFFIN_FILE_IO",
+        FileError::NoMagic => b"PUFFIN_FILE_NO_MAGIC",
+        FileError::Truncated => b"PUFFIN_FILE_TRUNCATED",
+        FileError::Legacy => b"PUFFIN_FILE_LEGACY",
+        FileError::Newer => b"PUFFIN_FILE_NEWER",
+        FileError::UnknownKind(_) => b"PUFFIN_FILE_UNKNOWN_KIND",
+        FileError::Compressed(_) => b"PUFFIN_FILE_COMPRESSED",
+        FileError::BadMeta => b"PUFFIN_FILE_BAD_META",
+        FileError::BadStreams => b"PUFFIN_FILE_BAD_STREAMS",
+        FileError::BadScopes => b"PUFFIN_FILE_BAD_SCOPES",
+        FileError::BadRange => b"PUFFIN_FILE_BAD_RANGE",
+        FileError::PartTooLong => b"PUFFIN_FILE_PART_TOO_LONG",
+        FileError::Refused(cause) => refused_name(cause).as_bytes(),
+        FileError::Memory => b"PUFFIN_FILE_MEMORY",
     }
 }
 
-fn fault_name(fault: Fault) -> &'static str
+fn fault_name(fault: Fault) -> &'static [u8]
     ensures { result.now ≡ fault_name fault }
 {
     match fault {
         Fault::Refused(cause) => cause_name(cause),
         Fault::File(fault) => file_name(fault),
-        Fault::NotText => "PUFFIN_NOT_TEXT",
-        Fault::NoId => "PUFFIN_NO_ID",
-        Fault::NotOpen => "PUFFIN_NOT_OPEN",
-        Fault::IsOpen => "PUFFIN_IS_OPEN",
+        Fault::NotText => b"PUFFIN_NOT_TEXT",
+        Fault::NoId => b"PUFFIN_NO_ID",
+        Fault::NotOpen => b"PUFFIN_NOT_OPEN",
+        Fault::IsOpen => b"PUFFIN_IS_OPEN",
     }
 }
 
@@ -162,17 +147,17 @@ fn own_fault_at(number: u32) -> Option<Fault>
 }
 
 /// Returns the name of a file's refusal for the cause with this number, or no text if there is none.
-fn refused_name_of(held: u32) -> &'static str
+fn refused_name_of(held: u32) -> &'static [u8]
     ensures { IsNameOf (77 + 256 * held) result.now }
 {
     match error_at(held) {
-        Some(cause) => refused_name(cause),
-        None => "",
+        Some(cause) => refused_name(cause).as_bytes(),
+        None => b"",
     }
 }
 
 /// Returns the name of a file's fault, or no text if no fault has this number and holds this number.
-fn file_name_of(number: u32, held: u32) -> &'static str
+fn file_name_of(number: u32, held: u32) -> &'static [u8]
     requires kind { number < 192 }
     requires refused { number ≢ 13 }
     ensures { IsNameOf (64 + (number + 256 * held)) result.now }
@@ -184,16 +169,16 @@ fn file_name_of(number: u32, held: u32) -> &'static str
         return file_name(FileError::Compressed(0));
     }
     if held > 0 {
-        return "";
+        return b"";
     }
     match file_error_at(number) {
         Some(fault) => file_name(fault),
-        None => "",
+        None => b"",
     }
 }
 
 /// Returns the name of the answer with this number, or no text if there is none.
-fn name_of(code: u32) -> &'static str
+fn name_of(code: u32) -> &'static [u8]
     ensures { IsNameOf code result.now }
 {
     let (number, held) = (code % 256, code / 256);
@@ -204,14 +189,14 @@ fn name_of(code: u32) -> &'static str
         return file_name_of(number - 64, held);
     }
     if code == 0 {
-        return "PUFFIN_OK";
+        return b"PUFFIN_OK";
     }
     if let Some(fault) = own_fault_at(code) {
         return fault_name(fault);
     }
     match error_at(code) {
         Some(cause) => cause_name(cause),
-        None => "",
+        None => b"",
     }
 }
 
@@ -225,7 +210,7 @@ pub extern "C" fn puffin_fault_name(code: u32, out: &mut [u8]) -> usize
         × (result ≡ length name)
         × (out.new ≡ laid_over out.old name) }
 {
-    let name = name_of(code).as_bytes();
+    let name = name_of(code);
     lay_over(name, out);
     name.len()
 }

@@ -3,7 +3,7 @@
 ghost use Rattle.std.specs.Prelude.{◌≡◌, [], ◌∷◌, Some, Result};
 ghost use Rattle.puffin_c.specs.declared.fault.Fault.{Fault};
 ghost use Rattle.puffin_c.specs.Faults.{answer_code};
-ghost use Rattle.puffin_c.specs.Handles.{thread_in};
+ghost use Rattle.puffin_c.specs.Handles.{thread_in, scopes_on};
 ghost use Rattle.puffin_c.specs.Recording.{RegistersFor, function_details, scope_details};
 
 use crate::fault::{Fault, answer_code};
@@ -19,9 +19,10 @@ fn function_registered(
     line: u32,
     id: &mut u32,
 ) -> Result<(), Fault>
-    ensures { RegistersFor (thread_in thread.old) (function.now ∷ file.now ∷ [])
+    ensures registers { RegistersFor (thread_in thread.old) (function.now ∷ file.now ∷ [])
         (function_details function.now file.now line) (thread_in thread.new) id.old
         id.new result }
+    ensures same_switch { scopes_on thread.new ≡ scopes_on thread.old }
 {
     if !thread.is_open {
         return Err(Fault::NotOpen);
@@ -52,11 +53,12 @@ pub extern "C" fn puffin_register_function(
     line: u32,
     id: &mut u32,
 ) -> u32
-    ensures { (answer : Result (Unit {0}) Fault)
+    ensures registers { (answer : Result (Unit {0}) Fault)
         × (result ≡ answer_code answer)
         × RegistersFor (thread_in thread.old) (function.now ∷ file.now ∷ [])
         (function_details function.now file.now line) (thread_in thread.new) id.old
         id.new answer }
+    ensures same_switch { scopes_on thread.new ≡ scopes_on thread.old }
 {
     let answer = function_registered(alloc, thread, function, file, line, id);
     answer_code(answer)
@@ -71,9 +73,11 @@ fn scope_registered(
     line: u32,
     id: &mut u32,
 ) -> Result<(), Fault>
-    ensures { RegistersFor (thread_in thread.old) (name.now ∷ function.now ∷ file.now ∷ [])
+    ensures registers { RegistersFor (thread_in thread.old)
+        (name.now ∷ function.now ∷ file.now ∷ [])
         (scope_details name.now function.now file.now line) (thread_in thread.new) id.old id.new
         result }
+    ensures same_switch { scopes_on thread.new ≡ scopes_on thread.old }
 {
     if !thread.is_open {
         return Err(Fault::NotOpen);
@@ -100,11 +104,12 @@ pub extern "C" fn puffin_register_scope(
     line: u32,
     id: &mut u32,
 ) -> u32
-    ensures { (answer : Result (Unit {0}) Fault)
+    ensures registers { (answer : Result (Unit {0}) Fault)
         × (result ≡ answer_code answer)
         × RegistersFor (thread_in thread.old) (name.now ∷ function.now ∷ file.now ∷ [])
         (scope_details name.now function.now file.now line) (thread_in thread.new) id.old id.new
         answer }
+    ensures same_switch { scopes_on thread.new ≡ scopes_on thread.old }
 {
     let answer = scope_registered(alloc, thread, name, function, file, line, id);
     answer_code(answer)

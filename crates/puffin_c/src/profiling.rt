@@ -3,7 +3,7 @@
 ghost use Rattle.std.specs.Prelude.{◌≡◌, None, Some, Result, is_some, true};
 ghost use Rattle.puffin_c.specs.declared.fault.Fault.{Fault};
 ghost use Rattle.puffin_c.specs.Faults.{answer_code};
-ghost use Rattle.puffin_c.specs.Handles.{ids_in, profiler_in, thread_in};
+ghost use Rattle.puffin_c.specs.Handles.{ids_in, profiler_in, thread_in, scopes_on};
 ghost use Rattle.puffin_c.specs.Recording.{Closes};
 ghost use Rattle.puffin_c.specs.Profiling.{OpensProfiler, Hands, IsTold, TakesFrame, WantsAll};
 
@@ -81,8 +81,9 @@ fn reported(
     thread: &mut PuffinThread,
     profiler: &mut PuffinProfiler,
 ) -> Result<(), Fault>
-    ensures { Hands (thread_in thread.old) (profiler_in profiler.old) (thread_in thread.new)
+    ensures hands { Hands (thread_in thread.old) (profiler_in profiler.old) (thread_in thread.new)
         (profiler_in profiler.new) result }
+    ensures same_switch { scopes_on thread.new ≡ scopes_on thread.old }
 {
     if !thread.is_open || !profiler.is_open {
         return Err(Fault::NotOpen);
@@ -110,10 +111,11 @@ pub extern "C" fn puffin_report(
     thread: &mut PuffinThread,
     profiler: &mut PuffinProfiler,
 ) -> u32
-    ensures { (answer : Result (Unit {0}) Fault)
+    ensures hands { (answer : Result (Unit {0}) Fault)
         × (result ≡ answer_code answer)
         × Hands (thread_in thread.old) (profiler_in profiler.old) (thread_in thread.new)
         (profiler_in profiler.new) answer }
+    ensures same_switch { scopes_on thread.new ≡ scopes_on thread.old }
 {
     let answer = reported(alloc, thread, profiler);
     answer_code(answer)

@@ -229,8 +229,7 @@ pub extern "C" fn puffin_begin(
 }
 
 /// Returns the outcome of an end that was refused with this error: none, if the offset is that of no scope.
-#[cold]
-#[inline(never)]
+#[inline(always)]
 fn unended(scope: u64, cause: Error) -> Result<(), Fault>
     ensures ok { OnOk result (scope ≡ no_scope) }
     ensures err { IfErr result (λ f. (f ≡ fault.Refused cause) × (scope ≢ no_scope)) }

@@ -7,8 +7,8 @@ use Rattle.puffin_c.specs.Profiling.{with_collected}
 use Rattle.puffin_c.proofs.Held.{refusal_keeps, reported_so, refused_so}
 use Rattle.puffin_c.proofs.profiling.reported.Goals as goal
 
-pub returns-in-Ok : goal.returns-in-Ok
-returns-in-Ok c =
+pub returns-in-Ok-clause-hands : goal.returns-in-Ok-clause-hands
+returns-in-Ok-clause-hands c =
     let after : Collected = c.report-answer.new.collector in (
       c.in-Ok._some,
       c.take-recorder.result.value,
@@ -16,17 +16,17 @@ returns-in-Ok c =
       c.take-whole.result.value,
       after,
       c.take-recorder.ensures.taken,
-      c.put.ensures,
+      c.put.ensures.held,
       c.take-whole.ensures.taken,
       c.put-2.ensures ∙ ap (λ (q : Profiler). Some (with_collected q after)) c.deref_mut-2.ensures.value,
       reported_so _ _ _ _ _ after (Ok c.in-Ok._some) c.deref_mut.ensures.value c.deref_mut-2.ensures.value c.in-Ok.ensures,
     )
 
-pub returns-in-Err : goal.returns-in-Err
-returns-in-Err c =
+pub returns-in-Err-clause-hands : goal.returns-in-Err-clause-hands
+returns-in-Err-clause-hands c =
     let here : Profiler = c.deref_mut-2.result.now in
     let keeps = refusal_keeps _ _ here.collector _ _ c.in-Err.ensures in (
-      c.put.ensures ∙ ap (λ (t : Thread). Some t) (keeps.0 ∙ c.deref_mut.ensures.value) ∙ sym c.take-recorder.ensures.taken,
+      c.put.ensures.held ∙ ap (λ (t : Thread). Some t) (keeps.0 ∙ c.deref_mut.ensures.value) ∙ sym c.take-recorder.ensures.taken,
       c.put-2.ensures ∙ ap (λ (k : Collected). Some (with_collected here k)) keeps.1
           ∙ ap (λ (q : Profiler). Some q) c.deref_mut-2.ensures.value ∙ sym c.take-whole.ensures.taken,
       inr (
