@@ -2,5 +2,8 @@ pub mod OpenFrame
 pub mod Printed
 pub mod ThreadLines
 pub mod FrameLines
+pub mod Trees
+pub mod Names
+pub mod Trace
 pub mod Arguments
 pub mod inner

@@ -6,12 +6,20 @@
 //! | list its frames | [`print_frames`] |
 #![tactic(auto)]
 
+mod events;
 mod frames;
 mod listing;
+mod columns;
+mod names;
+mod quoting;
+mod slowest;
 mod task;
 mod text;
 mod threads;
+mod trace;
+mod tree;
 
 pub use frames::print_frames;
 pub use task::{View, read_words};
 pub use threads::print_threads;
+pub use trace::print_trace;

@@ -11,6 +11,8 @@ pub enum View {
     Threads,
     /// A line for each frame.
     Frames,
+    /// A trace.
+    Trace,
 }
 
 /// Parses the word that names what is shown.
@@ -20,6 +22,7 @@ fn view_of(word: &str) -> Option<View>
     match word {
         "threads" => Some(View::Threads),
         "frames" => Some(View::Frames),
+        "trace" => Some(View::Trace),
         _ => None,
     }
 }

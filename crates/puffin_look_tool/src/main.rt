@@ -3,7 +3,7 @@
 
 use puffin_data::FileError;
 use puffin_data::data::{Buffered, Counted};
-use puffin_look::{View, print_frames, print_threads, read_words};
+use puffin_look::{View, print_frames, print_threads, print_trace, read_words};
 use std::fs::File;
 use std::io::BufReader;
 use std::process::ExitCode;
@@ -66,6 +66,7 @@ fn show(rt: &HostRuntime, view: View, path: &str) -> Result<(), LookFault> {
     let printed = match view {
         View::Threads => print_threads(rt.alloc(), &mut file, &mut out),
         View::Frames => print_frames(rt.alloc(), &mut file, &mut out),
+        View::Trace => print_trace(rt.alloc(), &mut file, &mut out),
     };
     match printed {
         Ok(()) => Ok(()),
