@@ -2,3 +2,9 @@ mod Listed
 mod HeldStreams
 mod ThreadsTotaled
 mod ThreadsPrinted
+mod Quotes
+mod Indents
+mod Pushed
+mod Numbered
+mod Traced
+mod TracePrinted

@@ -3,13 +3,14 @@ use Rattle.std.specs.Prelude.{ℕ, List, [], ◌∷◌, Option, Some, None, opti
 use denote.Ref.{Bor}
 use Rattle.std.specs.Str.{bytes_eq}
 use Rattle.puffin_look.specs.declared.task.View.{View}
-use Rattle.puffin_look.specs.declared.task.View.TheVariants.{Threads, Frames}
+use Rattle.puffin_look.specs.declared.task.View.TheVariants.{Threads, Frames, Trace}
 
 -- what a word shows of a file
 abbrev pub listing_in : List ℕ → Option View
 listing_in word =
     if bytes_eq word (codes "threads") then Some Threads else
-    if bytes_eq word (codes "frames") then Some Frames else None
+    if bytes_eq word (codes "frames") then Some Frames else
+    if bytes_eq word (codes "trace") then Some Trace else None
 
 -- what to show, and the path of the file
 abbrev pub Request : Type 0

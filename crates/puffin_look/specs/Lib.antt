@@ -5,5 +5,6 @@ pub mod FrameLines
 pub mod Trees
 pub mod Names
 pub mod Trace
+pub mod FrameTree
 pub mod Arguments
 pub mod inner

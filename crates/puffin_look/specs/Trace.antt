@@ -91,15 +91,13 @@ naming_or numbers key None = thread_event (map.len numbers + 1) key
 abbrev pub naming : Numbers → ThreadKey → List ℕ
 naming numbers key = naming_or numbers key (map.get numbers key)
 
--- the scopes of each thread
-abbrev pub tree_events : Collection → ℤ → Numbers → List Tree → List ℕ
-tree_events known origin numbers [] = []
-tree_events known origin numbers (t ∷ ts) =
-    (naming numbers t.0 ++ forest_events known origin (number_of numbers t.0) t.1)
-    ++ tree_events known origin (numbered numbers t.0) ts
+-- the scopes of a thread
+abbrev pub tree_events : Collection → ℤ → Numbers → Tree → List ℕ
+tree_events known origin numbers t =
+    naming numbers t.0 ++ forest_events known origin (number_of numbers t.0) t.1
 
-abbrev pub numbered_all : Numbers → List Tree → Numbers
-numbered_all numbers ts = fold (λ ns t. numbered ns t.0) numbers ts
+abbrev pub numbered_with : Numbers → Tree → Numbers
+numbered_with numbers t = numbered numbers t.0
 
 -- ---- frames
 
@@ -129,14 +127,14 @@ known_at s f = with_all_details s.known f.details
 abbrev pub traced : Tracing → TreeFrame → Tracing
 traced s f = record {
   known = known_at s f;
-  numbers = numbered_all s.numbers f.trees;
+  numbers = fold numbered_with s.numbers f.trees;
   origin = Some (origin_at s f);
 }
 
 abbrev pub frame_events : Tracing → TreeFrame → List ℕ
 frame_events s f =
     frame_event (origin_at s f) f.meta
-    ++ tree_events (known_at s f) (origin_at s f) s.numbers f.trees
+    ++ outputs (tree_events (known_at s f) (origin_at s f)) numbered_with s.numbers f.trees
 
 abbrev pub events : Tracing → List TreeFrame → List ℕ
 events s fs = outputs frame_events traced s fs

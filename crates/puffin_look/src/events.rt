@@ -1,16 +1,13 @@
 //! The events of scopes in a trace.
 
-ghost use Rattle.std.specs.Prelude.{◌≡◌, ◌++◌, ◌+◌, ◌<◌, ◌⊎◌, OnOk, IfOk, IfErr, Option, List};
-ghost use Rattle.std.specs.Option.{option_map};
-ghost use Rattle.std.specs.FinMap as map;
-ghost use Rattle.std.specs.Arc.{arc_value};
+ghost use Rattle.std.specs.Prelude.{◌≡◌, ◌++◌, ◌+◌, ◌<◌, ◌⊎◌, OnOk, IfErr, codes};
 ghost use Rattle.puffin_data.specs.declared.error.Error.{Error};
 ghost use Rattle.puffin_data.specs.Forest.{Forest};
 ghost use Rattle.puffin_data.specs.Forest.Spelling.{Spells};
 ghost use Rattle.puffin_data.specs.Honesty.{facts_of};
 ghost use Rattle.puffin_data.specs.Walk.{IsFault};
 ghost use Rattle.puffin_data.specs.Walk.FoundScopes.{found_of};
-ghost use Rattle.puffin_threads.specs.Details.{Details, details_of};
+ghost use Rattle.json.specs.Print.{quoted};
 ghost use Rattle.puffin_look.specs.Names.{name_or_id};
 ghost use Rattle.puffin_look.specs.Trace.{times_text, place_text, labels_text, scope_event, forest_events};
 ghost use Rattle.puffin_look.specs.inner.Events.{details_in, IsWithText};
@@ -44,7 +41,7 @@ fn push_name(
     id: u32,
 ) -> Result<(), AllocError>
     ensures { OnOk result (
-        text.new.items ≡ text.old.items ++ quoted (name_or_id id (details_in details))) }
+        text.new.items ≡ text.old.items ++ quoted (name_or_id id (details_in details.entry))) }
 {
     match details {
         Some(details) => push_quoted(text, details.name().as_str()),
@@ -61,13 +58,26 @@ fn push_place(
     details: Option<&Arc<ScopeDetails>>,
 ) -> Result<(), AllocError>
     ensures { OnOk result (
-        text.new.items ≡ text.old.items ++ place_text (details_in details)) }
+        text.new.items ≡ text.old.items ++ place_text (details_in details.entry)) }
 {
     if let Some(details) = details {
         push_member(text, b",\"file\":", details.file_path.as_str())?;
         push_count(text, b",\"line\":", details.line_nr as u64)?;
     }
     text.extend_from_slice(b"}}")
+}
+
+/// Appends the name behind its label.
+fn push_name_member(
+    text: &mut Vec<u8>,
+    details: Option<&Arc<ScopeDetails>>,
+    id: u32,
+) -> Result<(), AllocError>
+    ensures { OnOk result (text.new.items ≡ text.old.items
+        ++ (codes ",\"name\":" ++ quoted (name_or_id id (details_in details.entry)))) }
+{
+    text.extend_from_slice(b",\"name\":")?;
+    push_name(text, details, id)
 }
 
 /// Appends a scope's name and arguments, and the end of the event.
@@ -78,10 +88,9 @@ fn push_labels(
     stored: &[u8],
 ) -> Result<(), AllocError>
     ensures { OnOk result (
-        text.new.items ≡ text.old.items ++ labels_text (details_in details) id stored.now) }
+        text.new.items ≡ text.old.items ++ labels_text (details_in details.entry) id stored.now) }
 {
-    text.extend_from_slice(b",\"name\":")?;
-    push_name(text, details, id)?;
+    push_name_member(text, details, id)?;
     push_member(text, b",\"args\":{\"text\":", text_of(stored))?;
     push_place(text, details)
 }

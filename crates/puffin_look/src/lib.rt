@@ -6,18 +6,16 @@
 //! | list its frames | [`print_frames`] |
 #![tactic(auto)]
 
+mod columns;
 mod events;
 mod frames;
 mod listing;
-mod columns;
 mod names;
 mod quoting;
-mod slowest;
 mod task;
 mod text;
 mod threads;
 mod trace;
-mod tree;
 
 pub use frames::print_frames;
 pub use task::{View, read_words};

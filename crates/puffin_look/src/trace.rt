@@ -1,6 +1,6 @@
 //! Writes a file as a trace that other tools draw.
 
-ghost use Rattle.std.specs.Prelude.{◌≡◌, false, ◌++◌, ◌+◌, ◌-◌, ◌^◌, ◌<◌, ◌⊎◌, OnOk, IfOk, IfErr};
+ghost use Rattle.std.specs.Prelude.{◌≡◌, false, None, codes, IsOkUnless, ◌++◌, ◌+◌, ◌-◌, ◌^◌, ◌<◌, ◌⊎◌, OnOk, IfOk, IfErr};
 ghost use Rattle.std.specs.FinMap as map;
 ghost use Rattle.puffin_data.specs.declared.error.Error.{Error};
 ghost use Rattle.std.specs.List.{list_any};
@@ -11,8 +11,9 @@ ghost use Rattle.puffin_threads.specs.Details.{lacks_id, shared_details};
 ghost use Rattle.puffin_threads.specs.Thread.ThreadKey.{by_key, key_of};
 ghost use Rattle.puffin_look.specs.Printed.{IsPrinted, IsStopped, IsCutOff};
 ghost use Rattle.puffin_look.specs.Trees.{RefusesUnread, all_streams};
+ghost use Rattle.puffin_look.specs.ThreadLines.{start_text};
 ghost use Rattle.puffin_look.specs.Trace.{frame_event, thread_event, number_of, trace_head, untraced, IsOpenTrace, IsTrace};
-ghost use Rattle.puffin_look.specs.inner.Tracings.{tracing_of, AddsThread, AddsStream, BeginsFrame};
+ghost use Rattle.puffin_look.specs.inner.Tracings.{tracing_of, NumbersThread, AddsThread, AddsStream, BeginsFrame};
 
 use crate::events::Events;
 use crate::quoting::{push_member, push_micros};
@@ -54,6 +55,15 @@ fn push_frame(
     text.extend_from_slice(b"}}")
 }
 
+/// Appends a thread's start behind its label.
+fn push_start_member(text: &mut Vec<u8>, thread: &ThreadInfo) -> Result<(), AllocError>
+    ensures { OnOk result (text.new.items
+        ≡ text.old.items ++ (codes ",\"start\":\"" ++ start_text (key_of thread.now).start)) }
+{
+    text.extend_from_slice(b",\"start\":\"")?;
+    push_start(text, thread)
+}
+
 /// Appends the event that names a thread.
 fn push_thread_event(
     text: &mut Vec<u8>,
@@ -69,8 +79,7 @@ fn push_thread_event(
         b",\"name\":\"thread_name\",\"args\":{\"name\":",
         thread.name.as_str(),
     )?;
-    text.extend_from_slice(b",\"start\":\"")?;
-    push_start(text, thread)?;
+    push_start_member(text, thread)?;
     text.extend_from_slice(b"\"}}")
 }
 
@@ -85,20 +94,38 @@ struct Trace {
 }
 
 impl Trace {
+    /// Returns the number of a thread, if it was met.
+    fn number_under(&self, thread: &ThreadInfo) -> Option<u64>
+        ensures { result ≡ map.get (by_key self.now.numbers.entries) (key_of thread.now) }
+    {
+        self.numbers.get(thread).copied()
+    }
+
+    /// Numbers a thread that is met for the first time, and appends its event. Fails only with `Memory`.
+    fn add_thread(&mut self, thread: &ThreadInfo) -> Answer<u64>
+        requires { map.get (by_key self.old.numbers.entries) (key_of thread.now) ≡ None }
+        ensures ok { IfOk result (λ tid.
+            (tid ≡ map.len (by_key self.old.numbers.entries) + 1)
+            × NumbersThread self.old self.new (key_of thread.now) tid) }
+        ensures memory { IsOkUnless result Error.Memory }
+    {
+        let tid = self.numbers.len() as u64 + 1;
+        push_thread_event(&mut self.events.text, tid, thread)?;
+        self.numbers.insert(thread.clone()?, tid)?;
+        Ok(tid)
+    }
+
     /// Returns the number of a thread. Appends the thread's event if it is met for the first time.
     fn number(&mut self, thread: &ThreadInfo) -> Answer<u64>
         ensures ok { IfOk result (λ tid.
             (tid ≡ number_of (by_key self.old.numbers.entries) (key_of thread.now))
             × AddsThread self.old self.new (key_of thread.now)) }
-        ensures memory { IfErr result (λ e. e ≡ Error.Memory) }
+        ensures memory { IsOkUnless result Error.Memory }
     {
-        if let Some(tid) = self.numbers.get(thread) {
-            return Ok(*tid);
+        match self.number_under(thread) {
+            Some(tid) => Ok(tid),
+            None => self.add_thread(thread),
         }
-        let tid = self.numbers.len() as u64 + 1;
-        push_thread_event(&mut self.events.text, tid, thread)?;
-        self.numbers.insert(thread.clone()?, tid)?;
-        Ok(tid)
     }
 
     /// Appends the events of a thread's stream.
@@ -116,7 +143,7 @@ impl Trace {
         requires ids { list_any lacks_id (shared_details details.now) ≡ false }
         ensures ok { OnOk result (
             BeginsFrame self.old self.new meta.now (shared_details details.now)) }
-        ensures memory { IfErr result (λ e. e ≡ Error.Memory) }
+        ensures memory { IsOkUnless result Error.Memory }
     {
         let origin = self.origin.unwrap_or(meta.range_ns.0);
         self.origin = Some(origin);

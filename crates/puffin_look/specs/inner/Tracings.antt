@@ -1,6 +1,7 @@
 -- What a trace takes from frames, one after the other.
 use Rattle.std.specs.Prelude.{◌≡◌, ℕ, List, [], ◌∷◌, ◌++◌, fold, Some, unwrap_or}
 use Rattle.std.proofs.Common.{refl, sym, ap, ◌∙◌}
+use Rattle.std.specs.FinMap.{insert}
 use Rattle.std.proofs.lemmas.List.Sums.{fold-append}
 use Rattle.puffin_data.specs.declared.error.Error.{Error}
 use Rattle.puffin_data.specs.Forest.{Forest}
@@ -13,7 +14,7 @@ use Rattle.puffin_frames.specs.declared.frame_data.meta.FrameMeta.{FrameMeta}
 use Rattle.puffin_look.specs.OpenFrame.{OpenFrame}
 use Rattle.puffin_look.specs.Trees.{TreeFrame, AreRead, AreUnread, all_streams}
 use Rattle.puffin_look.specs.inner.Reads.{AreRead-append, outputs-append}
-use Rattle.puffin_look.specs.Trace.{Tracing, traced, naming, number_of, numbered, forest_events, frame_event, frame_events, events}
+use Rattle.puffin_look.specs.Trace.{Tracing, traced, naming, numbered, tree_events, thread_event, frame_event, frame_events, events}
 use Rattle.puffin_look.specs.declared.trace.Trace.{Trace}
 
 abbrev pub tracing_of : Trace → Tracing
@@ -21,6 +22,14 @@ tracing_of v =
     record { known = v.events.known; numbers = by_key v.numbers.entries; origin = v.origin }
 
 -- ---- steps of a frame
+
+-- a thread was named, and has this number
+pub record NumbersThread (v u : Trace) (key : ThreadKey) (tid : ℕ) : Type 0 where
+  pub text : u.events.text.items ≡ v.events.text.items ++ thread_event tid key
+  pub known : u.events.known ≡ v.events.known
+  pub start : u.events.origin ≡ v.events.origin
+  pub numbers : by_key u.numbers.entries ≡ insert (by_key v.numbers.entries) key tid
+  pub origin : u.origin ≡ v.origin
 
 -- A thread has its number, and was named if it was met for the first time.
 pub record AddsThread (v u : Trace) (key : ThreadKey) : Type 0 where
@@ -36,9 +45,7 @@ pub record AddsStream (v u : Trace) (key : ThreadKey) (r : StreamFacts) : Type 0
   pub spells : Spells r.form r.bytes forest
   pub text : u.events.text.items
       ≡ v.events.text.items
-      ++ (naming (by_key v.numbers.entries) key
-      ++ forest_events v.events.known v.events.origin
-      (number_of (by_key v.numbers.entries) key) forest)
+      ++ tree_events v.events.known v.events.origin (by_key v.numbers.entries) (key, forest)
   pub known : u.events.known ≡ v.events.known
   pub start : u.events.origin ≡ v.events.origin
   pub numbers : by_key u.numbers.entries ≡ numbered (by_key v.numbers.entries) key
