@@ -76,6 +76,6 @@ module _ (old new : Trace) (head : text_in old ≡ trace_head) (none : tracing_o
     }
 
 -- what a write that failed leaves
-pub cut_told : {T W : Type 0} {X Q : FileError → Type 0} (r : Result T FileError) → ((e : FileError) → e ≡ file.Io → W → Q e) → OnErr r W → IfErr r (λ e. (e ≡ file.Io) × X e) → IfErr r Q
-cut_told (Ok x) step part io = tt
-cut_told (Err e) step part io = step e io.0 part
+pub cut_told : {T W : Type 0} (X Q : FileError → Type 0) (r : Result T FileError) → ((e : FileError) → e ≡ file.Io → W → Q e) → OnErr r W → IfErr r (λ e. (e ≡ file.Io) × X e) → IfErr r Q
+cut_told X Q (Ok x) step part io = tt
+cut_told X Q (Err e) step part io = step e io.0 part

@@ -5,12 +5,17 @@ use Rattle.std.specs.FinMap as tree
 use Rattle.std.proofs.lemmas.List.Sums.{fold-append}
 use Rattle.puffin_data.specs.declared.error.Error.{Error}
 use Rattle.puffin_data.specs.Walk.{IsFault}
-use Rattle.puffin_threads.specs.Thread.ThreadKey.{by_key}
+use Rattle.puffin_data.specs.Forest.{Forest}
+use Rattle.puffin_data.specs.Forest.Spelling.{Spells}
+use Rattle.puffin_data.specs.Honesty.{StreamFacts}
+use Rattle.puffin_threads.specs.Thread.ThreadKey.{ThreadKey, by_key}
 use Rattle.puffin_look.specs.OpenFrame.{OpenFrame}
 use Rattle.puffin_look.specs.Trees.{Entry, Tree, TreeFrame, AreSpelled, AreUnread, all_streams, outputs}
-use Rattle.puffin_look.specs.Trace.{Numbers, Tracing, tree_events, numbered_with, numbered, frame_event, traced, events}
+use Rattle.puffin_look.specs.Trace.{Numbers, Tracing, tree_events, forest_events, naming, number_of, numbered_with, numbered, frame_event, traced, events}
 use Rattle.puffin_look.specs.inner.Reads.{outputs-append}
-use Rattle.puffin_look.specs.inner.Tracings.{tracing_of, AddsStream, BeginsFrame, TakesTrace}
+use Rattle.puffin_look.specs.inner.Events.{IsWithText}
+use Rattle.puffin_look.specs.inner.Tracings.{tracing_of, AddsThread, AddsStream, BeginsFrame, TakesTrace}
+use Rattle.puffin_look.specs.declared.events.Events.{Events}
 use Rattle.puffin_look.specs.declared.trace.Trace.{Trace}
 
 pub spelled_more : (es : List Entry) (ts : List Tree) (e : Entry) (t : Tree) → AreSpelled es ts → AreSpelled (e ∷ []) (t ∷ []) → AreSpelled (es ++ e ∷ []) (ts ++ t ∷ [])
@@ -82,6 +87,19 @@ module _ (v : Trace) where
     spelled = h.spelled;
     faulty = faulty;
   }
+
+-- a thread's number, and then its scopes
+pub stream_traced : (v m : Trace) (e : Events) (key : ThreadKey) (r : StreamFacts) (tid : ℕ) (f : Forest) → tid ≡ number_of (by_key v.numbers.entries) key → AddsThread v m key → Spells r.form r.bytes f
+    → IsWithText (record m.events { tid = tid }) e (forest_events m.events.known m.events.origin tid f) → AddsStream v (record m { events = e }) key r
+stream_traced v m e key r tid f is t spells w = record {
+  forest = f;
+  spells = spells;
+  text = w.text ∙ (λ i. t.text i ++ forest_events (t.known i) (t.start i) (is i) f) ∙ append_assoc v.events.text.items (naming (by_key v.numbers.entries) key) (forest_events v.events.known v.events.origin (number_of (by_key v.numbers.entries) key) f);
+  known = w.known ∙ t.known;
+  start = w.origin ∙ t.start;
+  numbers = t.numbers;
+  origin = t.origin;
+}
 
 -- a frame whose streams are all traced
 pub frame_traced : (old begun new : Trace) (frame : OpenFrame) (entries left : List Entry) → BeginsFrame old begun frame.meta frame.details → left ≡ [] → IsTracing begun new entries left → all_streams frame ≡ entries

@@ -17,7 +17,7 @@ use crate::names::{details_under, number_name};
 use crate::text::push_count;
 use puffin_data::data::{RawScope, StreamInfo, Visitor, text_of, walk_with};
 use puffin_data::{NanoSecond, Result as Answer};
-use puffin_frames::scope_details::{ScopeCollection, ScopeDetails};
+use puffin_threads::scope_details::{ScopeCollection, ScopeDetails};
 use std::alloc::AllocError;
 use std::sync::Arc;
 

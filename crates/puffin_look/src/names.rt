@@ -7,7 +7,7 @@ ghost use Rattle.std.specs.FinMap as map;
 ghost use Rattle.puffin_look.specs.inner.Events.{details_in};
 
 use puffin_data::data::ScopeId;
-use puffin_frames::scope_details::{ScopeCollection, ScopeDetails};
+use puffin_threads::scope_details::{ScopeCollection, ScopeDetails};
 use std::alloc::{AllocError, Global};
 use std::sync::Arc;
 

@@ -20,4 +20,4 @@ returns-clause-ok g c =
 
 pub returns-clause-err : goal.returns-clause-err
 returns-clause-err g c =
-    cut_told c.write_all.result (λ e io part. inr (io, trace_cut c.in_ok-trace.trace c.list_frames.new.listing c.in_ok-trace.ensures.text c.in_ok-trace.ensures.none _ _ _ _ _ c.in_ok-list_frames.ensures.ok part)) c.write_all.ensures.err c.write_all.ensures.io
+    cut_told _ _ c.write_all.result (λ e io part. inr (io, trace_cut c.in_ok-trace.trace c.list_frames.new.listing c.in_ok-trace.ensures.text c.in_ok-trace.ensures.none _ _ _ _ _ c.in_ok-list_frames.ensures.ok part)) c.write_all.ensures.err c.write_all.ensures.io

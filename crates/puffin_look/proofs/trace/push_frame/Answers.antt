@@ -16,4 +16,4 @@ returns c =
     let first = c.in_ok-push_moment.ensures ∙ (λ i. c.push_count.new.text.items ++ (codes "\",\"args\":{\"start\":" ++ signed_decimal (start i))) in
     let last = c.in_ok-push_moment-2.ensures ∙ (λ i. c.push_moment.new.text.items ++ (codes ",\"stop\":" ++ signed_decimal (stop i))) in
     on_ok_weaker c.extend_from_slice.result (pushed5 _ _ _ _ _ _ _ _ _ _ _ instant c.in_ok-push_count.ensures first last)
-    (appended_if c.extend_from_slice.result _ _ _ c.extend_from_slice.ensures.items)
+    (appended_if c.extend_from_slice.result c.extend_from_slice.new.self.items c.push_moment-2.new.text.items (codes "}}") c.extend_from_slice.ensures.items)
