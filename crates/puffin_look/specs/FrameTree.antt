@@ -1,8 +1,8 @@
 -- A frame of a file as a tree of scopes.
-use Rattle.std.specs.Prelude.{◌≡◌, ℕ, zero, suc, ◌+◌, ◌*◌, ◌/◌, ℤ, ◌-ℤ◌, unsigned_abs, Bool, true, false, List, [], ◌∷◌, ◌++◌, length, codes, filter, ◌==◌, if◌then◌else◌, Option, Some, None}
+use Rattle.std.specs.Prelude.{◌≡◌, ℕ, zero, suc, ◌*◌, ◌/◌, ℤ, ◌-ℤ◌, unsigned_abs, Bool, true, false, List, [], ◌∷◌, ◌++◌, length, codes, fold, filter, ◌==◌, if◌then◌else◌, Option, Some, None}
 use Rattle.std.specs.Fmt.{decimal, signed_decimal}
 use Rattle.std.specs.FinMap as map
-use Rattle.std.specs.List.{flat_map, list_any}
+use Rattle.std.specs.List.{flat_map}
 use Rattle.std.specs.Str.{bytes_eq}
 use Rattle.puffin_data.specs.Forest.{Span, Forest}
 use Rattle.puffin_data.specs.Text.{text_in}
@@ -66,46 +66,57 @@ abbrev pub numbers_text : ℤ → ℕ → ℕ → List ℕ
 numbers_text start time whole =
     times_text start time ++ (codes " share " ++ (share_text time whole ++ codes "\n"))
 
-abbrev pub scope_line : Collection → FrameMeta → ScopeInContext → List ℕ
-scope_line known meta s =
-    indent (length s.around)
-    ++ (name_or_id s.span.id (map.get known.by_id s.span.id)
-    ++ (text_part (text_in s.span.text)
-    ++ numbers_text (s.span.start -ℤ meta.range_ns.0) (time_of s.span)
-    (outer_time (unsigned_abs (meta.range_ns.1 -ℤ meta.range_ns.0)) s.around)))
+-- a scope within so many others, the innermost of which takes this time
+abbrev pub nested_line : Collection → ℤ → ℕ → ℕ → Span → List ℕ
+nested_line known begin level outer s =
+    indent level
+    ++ (name_or_id s.id (map.get known.by_id s.id)
+    ++ (text_part (text_in s.text) ++ numbers_text (s.start -ℤ begin) (time_of s) outer))
+
+abbrev pub length_of : ℤ × ℤ → ℕ
+length_of range = unsigned_abs (range.1 -ℤ range.0)
+
+abbrev pub scope_line : Collection → ℤ × ℤ → ScopeInContext → List ℕ
+scope_line known range s =
+    nested_line known range.0 (length s.around) (outer_time (length_of range) s.around) s.span
 
 -- ---- a frame
 
 -- a thread, and each of its scopes before the scopes in it
-abbrev pub tree_text : Collection → FrameMeta → Tree → List ℕ
-tree_text known meta t =
+abbrev pub tree_text : Collection → ℤ × ℤ → Tree → List ℕ
+tree_text known range t =
     (codes "thread " ++ (thread_text t.0 ++ codes "\n"))
-    ++ flat_map (scope_line known meta) (nested_in [] t.1)
+    ++ flat_map (scope_line known range) (nested_in [] t.1)
 
 abbrev pub head_text : FrameMeta → List ℕ
 head_text meta =
     (codes "frame " ++ decimal meta.frame_index)
     ++ (range_text meta.range_ns ++ duration_text (meta.range_ns.1 -ℤ meta.range_ns.0))
 
--- a frame with some trees, or nothing
-abbrev pub trees_text : Collection → FrameMeta → List Tree → List ℕ
-trees_text known meta [] = []
-trees_text known meta (t ∷ ts) = head_text meta ++ flat_map (tree_text known meta) (t ∷ ts)
-
 -- the details that are listed up to a frame
 abbrev pub known_with : Collection → TreeFrame → Collection
 known_with known f = with_all_details known f.details
 
-abbrev pub frame_text : Collection → TreeFrame → List ℕ
-frame_text known f = trees_text (known_with known f) f.meta f.trees
+abbrev pub trees_text : Collection → TreeFrame → List ℕ
+trees_text known f = head_text f.meta ++ flat_map (tree_text known f.meta.range_ns) f.trees
 
-abbrev pub has_trees : TreeFrame → Bool
-has_trees f = if length f.trees == 0 then false else true
+-- a frame with this index, or nothing
+abbrev pub frame_text : ℕ → Collection → TreeFrame → List ℕ
+frame_text index known f =
+    if f.meta.frame_index == index then trees_text (known_with known f) f else []
 
--- These frames, as far as they have the index and a wanted thread; `found` is whether there is one.
+abbrev pub has_trees : Bool → List Tree → Bool
+has_trees before [] = before
+has_trees before (t ∷ ts) = true
+
+-- whether there is a thread to print in one of these frames, or there was before
+abbrev pub found_in : Bool → List TreeFrame → Bool
+found_in before frames = fold (λ found f. has_trees found f.trees) before frames
+
+-- The frames with this index, each with the wanted threads; `found` is whether there is one.
 abbrev pub IsFrameText : ℕ → Option (List ℕ) → Bool → List OpenFrame → List ℕ → Type 0
 IsFrameText index thread found frames text =
     (trees : List TreeFrame)
     × AreRead (streams_at index thread) frames trees
-    × (text ≡ outputs frame_text known_with no_details trees)
-    × (found ≡ list_any has_trees trees)
+    × (text ≡ outputs (frame_text index) known_with no_details trees)
+    × (found ≡ found_in false trees)

@@ -1,24 +1,55 @@
 //! Appends JSON to a text: strings, and times in microseconds.
 
-ghost use Rattle.std.specs.Prelude.{◌≡◌, ◌++◌, ◌-ℤ◌, ◌<◌, OnOk};
+ghost use Rattle.std.specs.Prelude.{◌≡◌, ◌++◌, ◌-ℤ◌, codes, OnOk};
+ghost use Rattle.std.specs.List.{list_all};
 ghost use Rattle.json.specs.Print.{quoted};
+ghost use Rattle.puffin_look.specs.inner.Events.{is_plain};
 ghost use Rattle.puffin_look.specs.Trace.{thousandths, micros};
 
 use crate::text::push_number;
 use json::Writer;
 use puffin_data::NanoSecond;
 use std::alloc::AllocError;
-use std::mem;
+
+/// Returns whether none of these bytes needs an escape.
+fn is_plain(bytes: &[u8]) -> bool
+    ensures { result ≡ list_all is_plain bytes.now }
+{
+    bytes
+        .iter()
+        .all(|&byte| byte >= 32 && (byte != b'"' && byte != b'\\'))
+}
+
+/// Appends a string in quotes, with escapes.
+#[cold]
+fn push_escaped(text: &mut Vec<u8>, string: &str) -> Result<(), AllocError>
+    ensures { OnOk result (text.new.items ≡ text.old.items ++ quoted string.now) }
+{
+    let mut writer = Writer::new(Vec::new(*text.allocator()));
+    writer.string(string)?;
+    text.extend_from_slice(&writer.into_inner())
+}
+
+/// Appends a plain string in quotes.
+fn push_plain(text: &mut Vec<u8>, string: &str) -> Result<(), AllocError>
+    ensures { OnOk result (
+        text.new.items ≡ text.old.items ++ (codes "\"" ++ (string.now ++ codes "\""))) }
+{
+    text.extend_from_slice(b"\"")?;
+    text.extend_from_slice(string.as_bytes())?;
+    text.extend_from_slice(b"\"")
+}
 
 /// Appends a string in quotes, with escapes where JSON asks for them.
 pub(crate) fn push_quoted(text: &mut Vec<u8>, string: &str) -> Result<(), AllocError>
     ensures { OnOk result (text.new.items ≡ text.old.items ++ quoted string.now) }
 {
-    let empty = Vec::new(*text.allocator());
-    let mut writer = Writer::new(mem::replace(text, empty));
-    writer.string(string)?;
-    *text = writer.into_inner();
-    Ok(())
+    // A writer of JSON is slower, and most strings are plain.
+    if is_plain(string.as_bytes()) {
+        push_plain(text, string)
+    } else {
+        push_escaped(text, string)
+    }
 }
 
 /// Appends a label and then a string in quotes.

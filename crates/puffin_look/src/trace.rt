@@ -130,7 +130,8 @@ impl Trace {
 
     /// Appends the events of a thread's stream.
     fn add_stream(&mut self, thread: &ThreadInfo, info: &StreamInfo) -> Answer<()>
-        ensures ok { OnOk result (AddsStream self.old self.new (key_of thread.now) (facts_of info.now)) }
+        ensures ok { OnOk result (
+            AddsStream self.old self.new (key_of thread.now) (facts_of info.now)) }
         ensures err { IfErr result (λ e.
             (e ≡ Error.Memory) ⊎ IsFault (facts_of info.now).form (facts_of info.now).bytes e) }
     {
@@ -203,7 +204,13 @@ fn no_trace(alloc: Global) -> Result<Trace, AllocError>
     })
 }
 
-/// Writes a file as a trace in the Trace Event Format, which viewers of traces open.
+/// Writes the scopes of a file as a trace in the Trace Event Format, which viewers of traces open: a JSON array of events, one a
+/// line, as `docs/FORMAT.md` lists them. Each frame is written as soon as it was read.
+///
+/// Fails with the first fault of the file, as [`FrameReader::next`](puffin_view::profile_view::FrameReader::next) does, with
+/// `Compressed` or `BadStreams` for a frame that can't be unpacked, or with `Refused` for one with a stream whose bytes aren't
+/// scopes. The events of the frames before it are then printed, and the array isn't closed. Fails with `Memory`, or with `Io` if a
+/// read or a write fails, and then a prefix of the events of some first frames is written.
 pub fn print_trace<S: Source, D: Drain>(
     alloc: Global,
     source: &mut S,
@@ -215,8 +222,8 @@ pub fn print_trace<S: Source, D: Drain>(
         IsPrinted IsTrace (S.remaining source.old) (S.remaining source.new)
         (D.contents drain.old) (D.contents drain.new)) }
     ensures err { IfErr result (λ e.
-        IsStopped IsOpenTrace (RefusesUnread all_streams) (S.remaining source.old) (S.remaining source.new)
-        (D.contents drain.old) (D.contents drain.new) e
+        IsStopped IsOpenTrace (RefusesUnread all_streams) (S.remaining source.old)
+        (S.remaining source.new) (D.contents drain.old) (D.contents drain.new) e
         ⊎ ((e ≡ FileError.Io)
         × IsCutOff IsTrace (S.remaining source.old) (S.remaining source.new)
         (D.contents drain.old) (D.contents drain.new))) }

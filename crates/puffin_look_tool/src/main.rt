@@ -88,7 +88,7 @@ fn main(rt: HostRuntime) -> ExitCode {
     match run(&rt) {
         Ok(()) => ExitCode::from(0),
         Err(LookFault::Words) => {
-            let _ = eprintln!(rt; "usage: puffin-look threads FILE | frames FILE");
+            let _ = eprintln!(rt; "usage: puffin-look threads FILE | frames FILE | trace FILE");
             ExitCode::from(2)
         }
         Err(LookFault::File(fault)) => {

@@ -1,5 +1,5 @@
 -- What a trace takes from a stream, scope by scope.
-use Rattle.std.specs.Prelude.{◌≡◌, ℕ, List, [], ◌∷◌, ◌++◌, Option, option_map}
+use Rattle.std.specs.Prelude.{◌≡◌, ℕ, Bool, not, nat_le, ◌&&◌, ◌==◌, List, [], ◌∷◌, ◌++◌, Option, option_map}
 use Rattle.std.specs.Option.{option_copied}
 use Rattle.std.specs.Arc.{arc_value}
 use Rattle.std.specs.List.{flat_map}
@@ -13,6 +13,10 @@ use Rattle.puffin_threads.specs.declared.scope_details.details.ScopeDetails.{Sco
 use Rattle.puffin_threads.specs.Details.{Details, details_of}
 use Rattle.puffin_look.specs.Trace.{scope_event}
 use Rattle.puffin_look.specs.declared.events.Events.{Events}
+
+-- a byte that JSON has in a string as it is
+abbrev pub is_plain : ℕ → Bool
+is_plain byte = nat_le 32 byte && (not (byte == 34) && not (byte == 92))
 
 -- details that are borrowed
 abbrev pub details_in : Option (Bor (Arc ScopeDetails Global)) → Option Details
