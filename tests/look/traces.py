@@ -37,21 +37,23 @@ def forest_in(stream, begin, end):
 
 
 def frames_in(dump):
-    """For each frame of a dump its index, and for each thread its START:NAME and its forest."""
-    frames = []
-    for line in dump.splitlines():
-        if found := re.match(r"frame (\d+) ", line):
-            frames.append((int(found[1]), {}))
-        elif found := re.match(r"  thread (.*) scopes \d+ depth \d+ range \S+ \S+ stream ([0-9a-f]*)$", line):
-            stream = bytes.fromhex(found[2])
-            frames[-1][1][found[1]] = forest_in(stream, 0, len(stream))
+    """For each frame of a dump its index, and for each thread its START:NAME and its forest, with the names so far."""
+    frames, names = [], {}
+    for frame in re.split(r"^frame ", dump, flags=re.MULTILINE)[1:]:
+        names = names_in(frame, names)
+        trees = {}
+        for thread, stream in re.findall(r"^  thread (.*) scopes \d+ depth \d+ range \S+ \S+ stream ([0-9a-f]*)$", frame, re.MULTILINE):
+            trees[thread] = with_names(forest_in(bytes.fromhex(stream), 0, len(stream) // 2), names)
+        frames.append((int(frame.split()[0]), trees))
     return frames
 
 
-def names_in(dump):
-    """The name, file and line under each id of a dump."""
-    found = re.findall(r'ScopeId\((\d+)\).*scope_name: (None|Some\("(.*?)"\)), function_name: "(.*?)", file_path: "(.*?)", line_nr: (\d+)', dump)
-    return {int(it[0]): (it[2] or it[3], it[4], int(it[5])) for it in found}
+def names_in(lines, names):
+    """The names so far with those of these lines of a dump: under each id its name, file and line. The first one counts."""
+    details = r'ScopeId\((\d+)\)\), scope_name: (?:None|Some\("(.*?)"\)), function_name: "(.*?)", file_path: "(.*?)", line_nr: (\d+)'
+    for it in re.findall(details, lines):
+        names.setdefault(int(it[0]), (it[1] or it[2], it[3], int(it[4])))
+    return names
 
 
 # ---- traces
@@ -106,8 +108,7 @@ def trace_of(program, data):
 def faults_in_forests(program, _case):
     """What differs between a trace and what the Rust crate reads."""
     dump = (HERE / "original" / "dump").read_text()
-    names = names_in(dump)
-    wanted = [(index, {it: with_names(forest, names) for it, forest in trees.items()}) for index, trees in frames_in(dump)]
+    wanted = frames_in(dump)
     found = frames_of(trace_of(program, run.digits(HERE / "original" / "frames.hex")))
     return [] if found == wanted else [f"{found} instead of {wanted}"]
 

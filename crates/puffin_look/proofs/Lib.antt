@@ -8,3 +8,7 @@ mod Pushed
 mod Numbered
 mod Traced
 mod TracePrinted
+mod TreesShown
+mod TreesPrinted
+mod Numbers
+mod SlowestKept

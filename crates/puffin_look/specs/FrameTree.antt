@@ -82,11 +82,14 @@ scope_line known range s =
 
 -- ---- a frame
 
--- a thread, and each of its scopes before the scopes in it
+-- each scope of a forest, before the scopes in it
+abbrev pub forest_lines : Collection → ℤ × ℤ → Forest → List ℕ
+forest_lines known range f = flat_map (scope_line known range) (nested_in [] f)
+
+-- a thread, and its scopes
 abbrev pub tree_text : Collection → ℤ × ℤ → Tree → List ℕ
 tree_text known range t =
-    (codes "thread " ++ (thread_text t.0 ++ codes "\n"))
-    ++ flat_map (scope_line known range) (nested_in [] t.1)
+    (codes "thread " ++ (thread_text t.0 ++ codes "\n")) ++ forest_lines known range t.1
 
 abbrev pub head_text : FrameMeta → List ℕ
 head_text meta =

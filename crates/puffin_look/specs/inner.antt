@@ -4,3 +4,5 @@ pub mod Taken
 pub mod Reads
 pub mod Events
 pub mod Tracings
+pub mod TreeLines
+pub mod FrameTrees

@@ -17,7 +17,7 @@ use std::alloc::{AllocError, Global};
 use std::sync::Arc;
 
 /// Appends a frame's number, its threads and its scopes.
-fn push_counts(
+pub(crate) fn push_counts(
     text: &mut Vec<u8>,
     index: FrameIndex,
     threads: usize,
@@ -43,7 +43,7 @@ pub(crate) fn push_range(
 }
 
 /// Appends a duration and the end of the line.
-fn push_duration(text: &mut Vec<u8>, duration: NanoSecond) -> Result<(), AllocError>
+pub(crate) fn push_duration(text: &mut Vec<u8>, duration: NanoSecond) -> Result<(), AllocError>
     ensures { OnOk result (text.new.items ≡ text.old.items ++ duration_text duration) }
 {
     push_moment(text, b" duration ", duration)?;
@@ -51,7 +51,7 @@ fn push_duration(text: &mut Vec<u8>, duration: NanoSecond) -> Result<(), AllocEr
 }
 
 /// Returns the number of a frame's threads.
-fn thread_count(frame: &UnpackedFrameData) -> usize
+pub(crate) fn thread_count(frame: &UnpackedFrameData) -> usize
     ensures { result ≡ map.len (streams_held frame.now) }
 {
     frame.thread_streams.len()

@@ -1,7 +1,7 @@
 use crate::equal::equal;
 use puffin_data::FileError;
 use puffin_data::data::Counted;
-use puffin_look::{View, print_frames, print_threads, read_words};
+use puffin_look::{View, print_frames, print_threads, print_trace, read_words};
 use std::alloc::AllocGlobal;
 use std::process::Abort;
 use std::test::Fail;
@@ -13,6 +13,18 @@ type Printed = (Result<(), FileError>, Vec<u8>);
 /// The lines of the two frames of [`FILE`].
 const FRAMES: &[u8] = b"frame 0 threads 1 scopes 1 range 100 300 duration 200\n\
 frame 1 threads 1 scopes 1 range 400 401 duration 1\n";
+
+/// The trace of [`FILE`].
+const TRACE: &[u8] = b"[{\"ph\":\"M\",\"pid\":1,\"name\":\"process_name\",\"args\":{\"name\":\"puffin\"}},\n\
+{\"ph\":\"i\",\"s\":\"p\",\"pid\":1,\"tid\":0,\"ts\":0.000,\"name\":\"frame 0\",\"args\":{\"start\":100,\"stop\":300}},\n\
+{\"ph\":\"M\",\"pid\":1,\"tid\":1,\"name\":\"thread_name\",\"args\":{\"name\":\"main\",\"start\":\"100\"}},\n\
+{\"ph\":\"X\",\"pid\":1,\"tid\":1,\"ts\":0.000,\"dur\":0.200,\"name\":\"#1\",\"args\":{\"text\":\"data\"}},\n\
+{\"ph\":\"i\",\"s\":\"p\",\"pid\":1,\"tid\":0,\"ts\":0.300,\"name\":\"frame 1\",\"args\":{\"start\":400,\"stop\":401}},\n\
+{\"ph\":\"X\",\"pid\":1,\"tid\":1,\"ts\":0.300,\"dur\":0.001,\"name\":\"#1\",\"args\":{\"text\":\"a\"}}\n\
+]\n";
+
+/// Where the events of the second frame begin.
+const SECOND_FRAME: usize = 334;
 
 /// Where the line of the second frame begins.
 const SECOND_LINE: usize = 54;
@@ -28,6 +40,13 @@ fn threads_of(rt: &impl AllocGlobal, file: &[u8]) -> Printed {
 fn frames_of(rt: &impl AllocGlobal, file: &[u8]) -> Printed {
     let mut out = Counted::new(Vec::new(rt.alloc()));
     let answer = print_frames(rt.alloc(), &mut Counted::new(file), &mut out);
+    (answer, out.into_inner())
+}
+
+/// Writes a file as a trace.
+fn trace_of(rt: &impl AllocGlobal, file: &[u8]) -> Printed {
+    let mut out = Counted::new(Vec::new(rt.alloc()));
+    let answer = print_trace(rt.alloc(), &mut Counted::new(file), &mut out);
     (answer, out.into_inner())
 }
 
@@ -56,6 +75,14 @@ fn what_stands_before_a_fault_is_listed(rt: HostRuntime) {
     prints(&rt, &frames_of(&rt, cut), truncated, &FRAMES[..SECOND_LINE]);
     let line = b"frames 1 scopes 1 bytes 35 range 100 300 thread 100:main\n";
     prints(&rt, &threads_of(&rt, cut), truncated, line);
+}
+
+#[test]
+fn a_trace_has_each_frame_thread_and_scope(rt: HostRuntime) {
+    prints(&rt, &trace_of(&rt, &FILE), Ok(()), TRACE);
+    let truncated = Err(FileError::Truncated);
+    let cut = trace_of(&rt, &FILE[..ONE_FRAME + 20]);
+    prints(&rt, &cut, truncated, &TRACE[..SECOND_FRAME]);
 }
 
 #[test]
