@@ -11,4 +11,3 @@ mod TracePrinted
 mod TreesShown
 mod TreesPrinted
 mod Numbers
-mod SlowestKept

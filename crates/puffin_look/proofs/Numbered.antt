@@ -15,8 +15,7 @@ use Rattle.puffin_look.specs.declared.trace.Trace.{Trace}
 
 pub known_thread : (v : Trace) (key : ThreadKey) (tid : ℕ) → tree.get (by_key v.numbers.entries) key ≡ Some tid → (tid ≡ number_of (by_key v.numbers.entries) key) × AddsThread v v key
 known_thread v key tid is =
-    let numbers = by_key v.numbers.entries in
-    (
+    let numbers = by_key v.numbers.entries in (
       sym (ap (number_or numbers) is),
       record {
         text = sym (append-nil v.events.text.items) ∙ sym (ap (λ (o : Option ℕ). v.events.text.items ++ naming_or numbers key o) is);
@@ -31,8 +30,7 @@ pub new_thread : {E : Type 0} (v u : Trace) (key : ThreadKey) (r : Result ℕ E)
     → IfOk r (λ tid. (tid ≡ tree.len (by_key v.numbers.entries) + 1) × NumbersThread v u key tid) → IfOk r (λ tid. (tid ≡ number_of (by_key v.numbers.entries) key) × AddsThread v u key)
 new_thread v u key (Ok tid) none h =
     let numbers = by_key v.numbers.entries in
-    let n = h.1 in
-    (
+    let n = h.1 in (
       h.0 ∙ sym (ap (number_or numbers) none),
       record {
         text = n.text ∙ ap (λ (k : ℕ). v.events.text.items ++ Rattle.puffin_look.specs.Trace.thread_event k key) h.0 ∙ sym (ap (λ (o : Option ℕ). v.events.text.items ++ naming_or numbers key o) none);

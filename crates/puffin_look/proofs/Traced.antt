@@ -109,11 +109,10 @@ frame_traced old begun new frame entries left b none h same =
     let origin = unwrap_or old.origin frame.meta.range_ns.0 in
     let first = frame_event origin frame.meta in
     let numbers : by_key begun.numbers.entries ≡ by_key old.numbers.entries = ap (λ m. by_key m.entries) b.numbers in
-    let others = outputs (tree_events (Rattle.puffin_look.specs.Trace.known_at (tracing_of old) f) origin) numbered_with (by_key old.numbers.entries) h.trees in
-    (
+    let others = outputs (tree_events (Rattle.puffin_look.specs.Trace.known_at (tracing_of old) f) origin) numbered_with (by_key old.numbers.entries) h.trees in (
       events (tracing_of old) (f ∷ []),
       h.text ∙ (λ i. b.text i ++ outputs (tree_events (b.known i) (b.start i)) numbered_with (numbers i) h.trees)
-      ∙ append_assoc old.events.text.items first others ∙ ap (λ (x : List ℕ). old.events.text.items ++ x) (sym (append-nil (first ++ others))),
+          ∙ append_assoc old.events.text.items first others ∙ ap (λ (x : List ℕ). old.events.text.items ++ x) (sym (append-nil (first ++ others))),
       record {
         trees = f ∷ [];
         read = (record { meta = refl; details = refl; trees = subst (λ (es : List Entry). AreSpelled es h.trees) (sym (same ∙ h.all ∙ ap (λ (es : List Entry). h.earlier ++ es) none ∙ append-nil h.earlier)) h.spelled }, tt);

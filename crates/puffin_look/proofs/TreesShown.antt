@@ -174,11 +174,10 @@ module _ (old : Trees) (frame : OpenFrame) (k : Collection) (is : k ≡ with_all
       → (more : List ℕ) × (new.lines.text.items ≡ old.lines.text.items ++ more) × TakesTrees old (frame ∷ []) more new
   frame_shown new entries there same a =
       let f = read_of a.trees in
-      let shown = trees_text (with_all_details old.lines.known frame.details) f in
-      (
+      let shown = trees_text (with_all_details old.lines.known frame.details) f in (
         outputs (frame_text old.index) known_with old.lines.known (f ∷ []),
         a.text ∙ (λ i. old.lines.text.items ++ (head_text frame.meta ++ flat_map (tree_text (is i) frame.meta.range_ns) a.trees))
-        ∙ ap (λ (x : List ℕ). old.lines.text.items ++ x) (sym (append-nil shown) ∙ sym (ap (λ (b : Bool). (if b then shown else []) ++ []) there)),
+            ∙ ap (λ (x : List ℕ). old.lines.text.items ++ x) (sym (append-nil shown) ∙ sym (ap (λ (b : Bool). (if b then shown else []) ++ []) there)),
         record {
           trees = f ∷ [];
           read = (
@@ -201,8 +200,7 @@ module _ (old : Trees) (frame : OpenFrame) (k : Collection) (is : k ≡ with_all
   pub frame_left_out : (frame.meta.frame_index == old.index) ≡ false → (more : List ℕ) × (told.lines.text.items ≡ old.lines.text.items ++ more) × TakesTrees old (frame ∷ []) more told
   frame_left_out other =
       let f = read_of [] in
-      let shown = trees_text (with_all_details old.lines.known frame.details) f in
-      (
+      let shown = trees_text (with_all_details old.lines.known frame.details) f in (
         [],
         sym (append-nil old.lines.text.items),
         record {

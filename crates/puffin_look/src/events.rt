@@ -12,8 +12,8 @@ ghost use Rattle.puffin_look.specs.Names.{name_or_id};
 ghost use Rattle.puffin_look.specs.Trace.{times_text, place_text, labels_text, scope_event, forest_events};
 ghost use Rattle.puffin_look.specs.inner.Events.{details_in, IsWithText};
 
-use crate::quoting::{push_member, push_micros, push_quoted};
 use crate::names::{details_under, number_name};
+use crate::quoting::{push_member, push_micros, push_quoted};
 use crate::text::push_count;
 use puffin_data::data::{RawScope, StreamInfo, Visitor, text_of, walk_with};
 use puffin_data::{NanoSecond, Result as Answer};
@@ -53,10 +53,7 @@ fn push_name(
 }
 
 /// Appends the file and the line in these details, if there are any, and the end of the event.
-fn push_place(
-    text: &mut Vec<u8>,
-    details: Option<&Arc<ScopeDetails>>,
-) -> Result<(), AllocError>
+fn push_place(text: &mut Vec<u8>, details: Option<&Arc<ScopeDetails>>) -> Result<(), AllocError>
     ensures { OnOk result (
         text.new.items ≡ text.old.items ++ place_text (details_in details.entry)) }
 {

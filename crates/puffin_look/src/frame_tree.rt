@@ -29,11 +29,7 @@ use std::alloc::{AllocError, Global};
 use std::sync::Arc;
 
 /// Returns whether a thread is printed: any thread if none is named, and else the one with this text.
-fn is_wanted(
-    alloc: Global,
-    wanted: Option<&str>,
-    thread: &ThreadInfo,
-) -> Result<bool, AllocError>
+fn is_wanted(alloc: Global, wanted: Option<&str>, thread: &ThreadInfo) -> Result<bool, AllocError>
     ensures { IfOk result (λ is.
         is ≡ is_wanted (option_map (λ t. t.now) wanted.entry) (key_of thread.now)) }
 {

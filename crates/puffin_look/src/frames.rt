@@ -102,8 +102,12 @@ impl Listing for FrameLines {
     }
 }
 
-/// Prints a line for each frame of a file: its index, the number of its threads and scopes, its range and duration, in
-/// nanoseconds.
+/// Prints a line for each frame of a file, each as soon as it was read: its index, the number of its threads and scopes, its range
+/// and duration, in nanoseconds.
+///
+/// Fails with the first fault of the file, as [`FrameReader::next`](puffin_view::profile_view::FrameReader::next) does, or with
+/// `Compressed` or `BadStreams` for a frame that can't be unpacked. The lines of the frames before it are then printed. Fails with
+/// `Memory`, or with `Io` if a read or a write fails, and then a prefix of the lines of some first frames is written.
 pub fn print_frames<S: Source, D: Drain>(
     alloc: Global,
     source: &mut S,

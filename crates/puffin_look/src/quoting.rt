@@ -53,11 +53,7 @@ pub(crate) fn push_quoted(text: &mut Vec<u8>, string: &str) -> Result<(), AllocE
 }
 
 /// Appends a label and then a string in quotes.
-pub(crate) fn push_member(
-    text: &mut Vec<u8>,
-    label: &[u8],
-    string: &str,
-) -> Result<(), AllocError>
+pub(crate) fn push_member(text: &mut Vec<u8>, label: &[u8], string: &str) -> Result<(), AllocError>
     ensures { OnOk result (
         text.new.items ≡ text.old.items ++ (label.now ++ quoted string.now)) }
 {
@@ -80,11 +76,7 @@ fn push_thousandths(text: &mut Vec<u8>, number: u64) -> Result<(), AllocError>
 }
 
 /// Appends the time between two moments, in microseconds.
-fn push_time_between(
-    text: &mut Vec<u8>,
-    from: NanoSecond,
-    to: NanoSecond,
-) -> Result<(), AllocError>
+fn push_time_between(text: &mut Vec<u8>, from: NanoSecond, to: NanoSecond) -> Result<(), AllocError>
     ensures { OnOk result (text.new.items ≡ text.old.items ++ micros (to -ℤ from)) }
 {
     if to < from {

@@ -16,8 +16,8 @@ ghost use Rattle.puffin_look.specs.Trace.{frame_event, thread_event, number_of, 
 ghost use Rattle.puffin_look.specs.inner.Tracings.{tracing_of, NumbersThread, AddsThread, AddsStream, BeginsFrame};
 
 use crate::events::Events;
-use crate::quoting::{push_member, push_micros};
 use crate::listing::{Listing, list_frames};
+use crate::quoting::{push_member, push_micros};
 use crate::text::{push_count, push_moment};
 use crate::threads::push_start;
 use puffin_data::data::{Drain, Source, StreamInfo, write_all};
@@ -34,11 +34,7 @@ const TRACE_HEAD: &[u8] =
     b"[{\"ph\":\"M\",\"pid\":1,\"name\":\"process_name\",\"args\":{\"name\":\"puffin\"}}";
 
 /// Appends a frame's event.
-fn push_frame(
-    text: &mut Vec<u8>,
-    origin: NanoSecond,
-    meta: &FrameMeta,
-) -> Result<(), AllocError>
+fn push_frame(text: &mut Vec<u8>, origin: NanoSecond, meta: &FrameMeta) -> Result<(), AllocError>
     ensures { OnOk result (
         text.new.items ≡ text.old.items ++ frame_event origin meta.now) }
 {
@@ -65,11 +61,7 @@ fn push_start_member(text: &mut Vec<u8>, thread: &ThreadInfo) -> Result<(), Allo
 }
 
 /// Appends the event that names a thread.
-fn push_thread_event(
-    text: &mut Vec<u8>,
-    tid: u64,
-    thread: &ThreadInfo,
-) -> Result<(), AllocError>
+fn push_thread_event(text: &mut Vec<u8>, tid: u64, thread: &ThreadInfo) -> Result<(), AllocError>
     ensures { OnOk result (
         text.new.items ≡ text.old.items ++ thread_event tid (key_of thread.now)) }
 {

@@ -148,6 +148,13 @@ impl Lines {
         let outside = self.outside();
         let mut tries = 0;
         let stream = &info.stream;
-        walk_with(alloc, stream.form(), stream.bytes(), self, outside, &mut tries)
+        walk_with(
+            alloc,
+            stream.form(),
+            stream.bytes(),
+            self,
+            outside,
+            &mut tries,
+        )
     }
 }

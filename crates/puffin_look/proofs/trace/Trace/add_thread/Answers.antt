@@ -8,8 +8,7 @@ use Rattle.puffin_look.proofs.trace.Trace.add_thread.Goals as goal
 
 pub returns-clause-ok : goal.returns-clause-ok
 returns-clause-ok c =
-    let sorted : IsStrictlySortedBy thread_cmp (keys_of c.args.self.now.numbers.entries) = search rules in
-    (
+    let sorted : IsStrictlySortedBy thread_cmp (keys_of c.args.self.now.numbers.entries) = search rules in (
       ap (λ (n : ℕ). n + 1) (c.len.ensures.len ∙ sym (numbers_len c.args.self.now.numbers.entries sorted)),
       record {
         text = c.in_ok-push_thread_event.ensures;

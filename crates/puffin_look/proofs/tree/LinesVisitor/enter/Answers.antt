@@ -15,8 +15,7 @@ returns-clause-ok c = λ around stands.
     let start = to_z-of_z w64 c.args.scope.now.start (omega (arith, ints)) in
     let stop = to_z-of_z w64 c.args.scope.now.stop (omega (arith, ints)) in
     let time = c.abs_diff.ensures ∙ (λ i. unsigned_abs (stop i -ℤ start i)) in
-    let level = stands.level in
-    (
+    let level = stands.level in (
       record {
         text = c.in_ok-push_scope.ensures.text ∙ (λ i. v.text.items ++ nested_line v.known (begin i) (stands.level i) (stands.time i) s)
             ∙ ap (λ (t : List ℕ). v.text.items ++ t) (sym (append-nil (scope_line v.known v.range_ns (record { around = around; span = s }))));
