@@ -1,7 +1,7 @@
 use crate::equal::equal;
 use puffin_data::FileError;
 use puffin_data::data::Counted;
-use puffin_look::{View, print_frames, print_threads, print_trace, read_words};
+use puffin_look::{View, print_frame, print_frames, print_threads, print_trace, read_words};
 use std::alloc::AllocGlobal;
 use std::process::Abort;
 use std::test::Fail;
@@ -9,6 +9,9 @@ use tests_support::samples::{FILE, ONE_FRAME};
 
 /// What a call returned, and what it wrote.
 type Printed = (Result<(), FileError>, Vec<u8>);
+
+/// Whether a thread was printed.
+type Found = Result<bool, FileError>;
 
 /// The lines of the two frames of [`FILE`].
 const FRAMES: &[u8] = b"frame 0 threads 1 scopes 1 range 100 300 duration 200\n\
@@ -40,6 +43,19 @@ fn threads_of(rt: &impl AllocGlobal, file: &[u8]) -> Printed {
 fn frames_of(rt: &impl AllocGlobal, file: &[u8]) -> Printed {
     let mut out = Counted::new(Vec::new(rt.alloc()));
     let answer = print_frames(rt.alloc(), &mut Counted::new(file), &mut out);
+    (answer, out.into_inner())
+}
+
+/// Prints the frame of [`FILE`] with an index.
+fn frame_of(rt: &impl AllocGlobal, index: u64, thread: Option<&str>) -> (Found, Vec<u8>) {
+    let mut out = Counted::new(Vec::new(rt.alloc()));
+    let answer = print_frame(
+        rt.alloc(),
+        &mut Counted::new(&FILE[..]),
+        &mut out,
+        index,
+        thread,
+    );
     (answer, out.into_inner())
 }
 
@@ -78,6 +94,17 @@ fn what_stands_before_a_fault_is_listed(rt: HostRuntime) {
 }
 
 #[test]
+fn a_frame_is_a_tree(rt: HostRuntime) {
+    let printed = frame_of(&rt, 1, Some("100:main"));
+    equal(&rt, printed.0, Ok(true));
+    let lines = b"frame 1 range 400 401 duration 1\nthread 100:main\n\
+        #1 (a) start 0 duration 1 share 100.0%\n";
+    equal(&rt, printed.1.as_slice(), lines);
+    equal(&rt, frame_of(&rt, 2, None).0, Ok(false));
+    equal(&rt, frame_of(&rt, 1, Some("-:main")).0, Ok(false));
+}
+
+#[test]
 fn a_trace_has_each_frame_thread_and_scope(rt: HostRuntime) {
     prints(&rt, &trace_of(&rt, &FILE), Ok(()), TRACE);
     let truncated = Err(FileError::Truncated);
@@ -94,5 +121,14 @@ fn words_name_what_is_shown(rt: HostRuntime) -> Result<(), Fail> {
     ];
     equal(&rt, read_words(&words), Some((View::Frames, "a.puffin")));
     equal(&rt, read_words(&words[..1]), None);
+    let words = [
+        String::from_str(alloc, "frame")?,
+        String::from_str(alloc, "a.puffin")?,
+        String::from_str(alloc, "7")?,
+        String::from_str(alloc, "-:main")?,
+    ];
+    let frame = View::Frame(7, Some("-:main"));
+    equal(&rt, read_words(&words), Some((frame, "a.puffin")));
+    equal(&rt, read_words(&words[..2]), None);
     Ok(())
 }
