@@ -11,3 +11,5 @@ mod TracePrinted
 mod TreesShown
 mod TreesPrinted
 mod Numbers
+mod SlowestKept
+mod SlowestPrinted

@@ -5,7 +5,7 @@ use Rattle.std.specs.Str.{bytes_eq, all_ascii_digits}
 use Rattle.std.specs.Str.Parse.{digits_value}
 use denote.Ref.{Bor}
 use Rattle.puffin_look.specs.declared.task.View.{View}
-use Rattle.puffin_look.specs.declared.task.View.TheVariants.{Threads, Frames, Frame, Trace}
+use Rattle.puffin_look.specs.declared.task.View.TheVariants.{Threads, Frames, Slowest, Frame, Trace}
 
 -- a decimal number without a sign
 abbrev pub digits_in : List ℕ → Option ℕ
@@ -24,6 +24,7 @@ number_in word = option_and_then (if_below (2 ^ 64)) (digits_in word)
 pub data Wish : Type 0 where
   all_threads : Wish
   all_frames : Wish
+  slowest_frames : (limit : ℕ) → Wish
   a_frame : (index : ℕ) → (thread : Option (List ℕ)) → Wish
   a_trace : Wish
 
@@ -40,6 +41,12 @@ frame_in word index thread =
     if bytes_eq word (codes "frame") then option_map (λ n. a_frame n thread) (number_in index)
     else None
 
+-- a word that is followed by the path and a number
+abbrev pub numbered_in : List ℕ → List ℕ → Option Wish
+numbered_in word number =
+    if bytes_eq word (codes "frames") then option_map (λ n. slowest_frames n) (number_in number)
+    else frame_in word number None
+
 -- what to show, and the path of the file
 abbrev pub Request : Type 0
 Request = Wish × List ℕ
@@ -47,7 +54,7 @@ Request = Wish × List ℕ
 abbrev pub request_in : List (List ℕ) → Option Request
 request_in (word ∷ (path ∷ [])) = option_map (λ wish. (wish, path)) (list_in word)
 request_in (word ∷ (path ∷ (index ∷ []))) =
-    option_map (λ wish. (wish, path)) (frame_in word index None)
+    option_map (λ wish. (wish, path)) (numbered_in word index)
 request_in (word ∷ (path ∷ (index ∷ (thread ∷ [])))) =
     option_map (λ wish. (wish, path)) (frame_in word index (Some thread))
 request_in _ = None
@@ -56,6 +63,7 @@ request_in _ = None
 abbrev pub wish_of : View → Wish
 wish_of Threads = all_threads
 wish_of Frames = all_frames
+wish_of (Slowest limit) = slowest_frames limit
 wish_of (Frame index thread) = a_frame index (option_map (λ t. t.now) thread)
 wish_of Trace = a_trace
 

@@ -6,5 +6,6 @@ pub mod Trees
 pub mod Names
 pub mod Trace
 pub mod FrameTree
+pub mod Slowest
 pub mod Arguments
 pub mod inner

@@ -2,7 +2,7 @@
 
 ghost use Rattle.std.specs.Prelude.{◌≡◌, ◌^◌, option_map, map};
 ghost use Rattle.std.specs.String.{string_bytes};
-ghost use Rattle.puffin_look.specs.Arguments.{number_in, list_in, frame_in, request_in, wish_of, request_of};
+ghost use Rattle.puffin_look.specs.Arguments.{number_in, list_in, frame_in, numbered_in, request_in, wish_of, request_of};
 
 use puffin_data::FrameIndex;
 
@@ -13,6 +13,8 @@ pub enum View<'w> {
     Threads,
     /// A line for each frame.
     Frames,
+    /// The lines of so many of the slowest frames.
+    Slowest(usize),
     /// The frame with this index, with all threads or the one with this text.
     Frame(FrameIndex, Option<&'w str>),
     /// A trace.
@@ -41,6 +43,16 @@ fn list_of<'w>(word: &str) -> Option<View<'w>>
     }
 }
 
+/// Parses a word that is followed by the path and a number.
+fn numbered_of<'w>(word: &str, index: &str) -> Option<View<'w>>
+    ensures { option_map wish_of result ≡ numbered_in word.now index.now }
+{
+    if word == "frames" {
+        return Some(View::Slowest(number(index)? as usize));
+    }
+    frame_of(word, index, None)
+}
+
 /// Parses a word that is followed by the path, an index and perhaps a thread.
 fn frame_of<'w>(word: &str, index: &str, thread: Option<&'w str>) -> Option<View<'w>>
     ensures { option_map wish_of result
@@ -59,7 +71,7 @@ pub fn read_words(words: &[String]) -> Option<(View<'_>, &str)>
     match words {
         [word, path] => Some((list_of(word.as_str())?, path.as_str())),
         [word, path, index] => Some((
-            frame_of(word.as_str(), index.as_str(), None)?,
+            numbered_of(word.as_str(), index.as_str())?,
             path.as_str(),
         )),
         [word, path, index, thread] => Some((

@@ -3,7 +3,7 @@
 
 use puffin_data::FileError;
 use puffin_data::data::{Buffered, Counted};
-use puffin_look::{View, print_frame, print_frames, print_threads, print_trace, read_words};
+use puffin_look::{View, print_frame, print_frames, print_slowest, print_threads, print_trace, read_words};
 use std::fs::File;
 use std::io::BufReader;
 use std::process::ExitCode;
@@ -68,6 +68,9 @@ fn show(rt: &HostRuntime, view: View<'_>, path: &str) -> Result<(), LookFault> {
     let printed = match view {
         View::Threads => print_threads(rt.alloc(), &mut file, &mut out).map(|()| true),
         View::Frames => print_frames(rt.alloc(), &mut file, &mut out).map(|()| true),
+        View::Slowest(limit) => {
+            print_slowest(rt.alloc(), &mut file, &mut out, limit).map(|()| true)
+        }
         View::Frame(index, thread) => {
             print_frame(rt.alloc(), &mut file, &mut out, index, thread)
         }
@@ -95,7 +98,7 @@ fn main(rt: HostRuntime) -> ExitCode {
         Ok(()) => ExitCode::from(0),
         Err(LookFault::Words) => {
             let _ = eprintln!(rt;
-                "usage: puffin-look threads FILE | frames FILE | frame FILE INDEX [THREAD] | trace FILE"
+                "usage: puffin-look threads FILE | frames FILE [N] | frame FILE INDEX [THREAD] | trace FILE"
             );
             ExitCode::from(2)
         }

@@ -1,7 +1,9 @@
 use crate::equal::equal;
 use puffin_data::FileError;
 use puffin_data::data::Counted;
-use puffin_look::{View, print_frame, print_frames, print_threads, print_trace, read_words};
+use puffin_look::{
+    View, print_frame, print_frames, print_slowest, print_threads, print_trace, read_words,
+};
 use std::alloc::AllocGlobal;
 use std::process::Abort;
 use std::test::Fail;
@@ -9,6 +11,13 @@ use tests_support::samples::{FILE, ONE_FRAME};
 
 /// What a call returned, and what it wrote.
 type Printed = (Result<(), FileError>, Vec<u8>);
+
+/// Lists the slowest frames of a file.
+fn slowest_of(rt: &impl AllocGlobal, file: &[u8], limit: usize) -> Printed {
+    let mut out = Counted::new(Vec::new(rt.alloc()));
+    let answer = print_slowest(rt.alloc(), &mut Counted::new(file), &mut out, limit);
+    (answer, out.into_inner())
+}
 
 /// Whether a thread was printed.
 type Found = Result<bool, FileError>;
@@ -82,6 +91,13 @@ fn a_thread_is_listed_with_the_sums_of_its_frames(rt: HostRuntime) {
 #[test]
 fn each_frame_is_listed(rt: HostRuntime) {
     prints(&rt, &frames_of(&rt, &FILE), Ok(()), FRAMES);
+}
+
+#[test]
+fn the_slowest_frames_come_first(rt: HostRuntime) {
+    prints(&rt, &slowest_of(&rt, &FILE, 3), Ok(()), FRAMES);
+    let first = &FRAMES[..SECOND_LINE];
+    prints(&rt, &slowest_of(&rt, &FILE, 1), Ok(()), first);
 }
 
 #[test]
