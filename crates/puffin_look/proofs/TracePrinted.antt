@@ -1,9 +1,8 @@
 -- What is written of a trace.
-use Rattle.std.proofs.Common.{◌≡◌, ℕ, List, [], ◌∷◌, ◌++◌, Option, Result, Ok, Err, inl, inr, refl, ap, subst, sym, ◌∙◌, append_assoc}
-use Rattle.std.specs.Prelude.{OnOk, OnErr, IfErr}
+use Rattle.std.proofs.Common.{◌≡◌, ℕ, List, [], ◌++◌, Option, Result, Ok, Err, inl, refl, ap, sym, ◌∙◌, append_assoc}
+use Rattle.std.specs.Prelude.{OnErr, IfErr}
 use Rattle.std.specs.Io.KnownBytes.{Appends}
 use Rattle.std.proofs.KnownBytes.{Appends-nil, Appends-trans}
-use Rattle.puffin_data.specs.declared.error.Error.{Error}
 use Rattle.puffin_data.specs.declared.file_error.FileError.{FileError}
 use Rattle.puffin_data.specs.declared.file_error.FileError.TheVariants as file
 use Rattle.puffin_data.specs.Device.{IsOutside, WritesBeginning}
@@ -14,7 +13,7 @@ use Rattle.puffin_look.specs.Trace.{Tracing, untraced, events, trace_head, trace
 use Rattle.puffin_look.specs.inner.Tracings.{tracing_of, TakesTrace, RefusesFrame}
 use Rattle.puffin_look.specs.inner.Listings.{ListsAll, StopsListing}
 use Rattle.puffin_look.specs.declared.trace.Trace.{Trace}
-use Rattle.puffin_look.proofs.Listed.{stopped, begun_more}
+use Rattle.puffin_look.proofs.Listed.{stopped}
 
 abbrev pub text_in : Trace → List ℕ
 text_in v = v.events.text.items

@@ -1,7 +1,6 @@
 -- A frame that is traced, thread after thread.
 use Rattle.std.proofs.Common.{◌≡◌, ℕ, List, [], ◌∷◌, ◌++◌, refl, ap, subst, sym, ◌∙◌, append_assoc, append-nil}
-use Rattle.std.specs.Prelude.{fold, Some, unwrap_or}
-use Rattle.std.specs.FinMap as tree
+use Rattle.std.specs.Prelude.{fold, unwrap_or}
 use Rattle.std.proofs.lemmas.List.Sums.{fold-append}
 use Rattle.puffin_data.specs.declared.error.Error.{Error}
 use Rattle.puffin_data.specs.Walk.{IsFault}

@@ -1,24 +1,20 @@
 -- A frame that is shown as a tree, thread after thread.
-use Rattle.std.proofs.Common.{◌≡◌, ℕ, Bool, true, false, List, [], ◌∷◌, ◌++◌, length, ◌⊎◌, inl, inr, refl, ap, subst, sym, ◌∙◌, append_assoc, append-nil, arith}
+use Rattle.std.proofs.Common.{◌≡◌, ℕ, Bool, true, false, List, [], ◌∷◌, ◌++◌, inl, inr, refl, ap, subst, sym, ◌∙◌, append_assoc, append-nil, arith}
 use Rattle.std.proofs.lemmas.Bool.Decides.{nat_tests}
 use Rattle.std.specs.Prelude.{filter, codes, if◌then◌else◌, ◌==◌, fold, ◌+◌}
 use Rattle.std.specs.List.{flat_map}
 use Rattle.std.proofs.lemmas.List.Elements.{filter-append}
 use Rattle.std.proofs.lemmas.List.Concat.{flat_map-append}
-use Rattle.puffin_data.specs.declared.data.form.Form.{Form}
 use Rattle.puffin_data.specs.declared.error.Error.{Error}
 use Rattle.puffin_data.specs.Forest.{Forest, Span}
-use Rattle.puffin_data.specs.Forest.Spelling.{Spells}
 use Rattle.puffin_data.specs.Walk.{IsFault}
-use Rattle.puffin_data.specs.Walk.PlacedScopes.{nested_in}
-use Rattle.puffin_data.specs.Walk.Visitor.{TakesAll}
 use Rattle.puffin_threads.specs.Thread.ThreadKey.{ThreadKey}
 use Rattle.puffin_threads.specs.Details.Collection.{Collection, with_all_details}
 use Rattle.puffin_look.specs.OpenFrame.{OpenFrame}
 use Rattle.puffin_look.specs.Trees.{Entry, Tree, TreeFrame, AreSpelled, AreUnread, all_streams, outputs}
 use Rattle.puffin_look.specs.ThreadLines.{thread_text}
-use Rattle.puffin_look.specs.FrameTree.{is_wanted, streams_at, outer_time, time_of, forest_lines, tree_text, head_text, frame_text, trees_text, known_with, has_trees, found_in}
-use Rattle.puffin_look.specs.inner.TreeLines.{HasMoreLines, TakesScopes}
+use Rattle.puffin_look.specs.FrameTree.{is_wanted, streams_at, outer_time, time_of, forest_lines, tree_text, head_text, frame_text, trees_text, known_with, has_trees}
+use Rattle.puffin_look.specs.inner.TreeLines.{HasMoreLines}
 use Rattle.puffin_look.specs.inner.FrameTrees.{wanted_of, wanted_in, StepsTree, AddsTrees, TakesTrees}
 use Rattle.puffin_look.specs.declared.tree.Lines.{Lines}
 use Rattle.puffin_look.specs.declared.frame_tree.Trees.{Trees}

@@ -11,7 +11,7 @@ use Rattle.puffin_threads.specs.Details.Collection.{Collection, no_details, with
 use Rattle.puffin_threads.specs.Thread.ThreadKey.{ThreadKey}
 use Rattle.puffin_frames.specs.declared.frame_data.meta.FrameMeta.{FrameMeta}
 use Rattle.puffin_look.specs.OpenFrame.{OpenFrame}
-use Rattle.puffin_look.specs.Trees.{Entry, Tree, TreeFrame, Pick, all_streams, AreRead, outputs}
+use Rattle.puffin_look.specs.Trees.{Tree, TreeFrame, Pick, all_streams, AreRead, outputs}
 use Rattle.puffin_look.specs.Names.{name_or_id}
 use Rattle.puffin_look.specs.ThreadLines.{thread_text}
 use Rattle.puffin_look.specs.FrameLines.{range_text, duration_text}

@@ -70,10 +70,7 @@ pub fn read_words(words: &[String]) -> Option<(View<'_>, &str)>
 {
     match words {
         [word, path] => Some((list_of(word.as_str())?, path.as_str())),
-        [word, path, index] => Some((
-            numbered_of(word.as_str(), index.as_str())?,
-            path.as_str(),
-        )),
+        [word, path, index] => Some((numbered_of(word.as_str(), index.as_str())?, path.as_str())),
         [word, path, index, thread] => Some((
             frame_of(word.as_str(), index.as_str(), Some(thread.as_str()))?,
             path.as_str(),

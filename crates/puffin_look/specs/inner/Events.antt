@@ -1,5 +1,5 @@
 -- What a trace takes from a stream, scope by scope.
-use Rattle.std.specs.Prelude.{◌≡◌, ℕ, Bool, not, nat_le, ◌&&◌, ◌==◌, List, [], ◌∷◌, ◌++◌, Option, option_map}
+use Rattle.std.specs.Prelude.{◌≡◌, ℕ, Bool, not, nat_le, ◌&&◌, ◌==◌, List, [], ◌++◌, Option, option_map}
 use Rattle.std.specs.Option.{option_copied}
 use Rattle.std.specs.Arc.{arc_value}
 use Rattle.std.specs.List.{flat_map}

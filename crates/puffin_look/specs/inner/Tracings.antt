@@ -1,5 +1,5 @@
 -- What a trace takes from frames, one after the other.
-use Rattle.std.specs.Prelude.{◌≡◌, ℕ, List, [], ◌∷◌, ◌++◌, fold, Some, unwrap_or}
+use Rattle.std.specs.Prelude.{◌≡◌, ℕ, List, [], ◌++◌, fold, Some, unwrap_or}
 use Rattle.std.proofs.Common.{refl, sym, ap, ◌∙◌}
 use Rattle.std.specs.FinMap.{insert}
 use Rattle.std.proofs.lemmas.List.Sums.{fold-append}

@@ -1,5 +1,5 @@
 -- The event's parts, one after the other.
-use Rattle.std.proofs.Common.{List, ℕ, ◌++◌, ap, ◌∙◌, Option, w64, arith}
+use Rattle.std.proofs.Common.{◌++◌, ap, ◌∙◌, Option, w64, arith}
 use Rattle.std.proofs.lemmas.Int.{ints, to_z-of_z}
 use Rattle.std.proofs.lemmas.Result.{on_ok_weaker}
 use Rattle.puffin_threads.specs.Details.{Details}

@@ -1,5 +1,5 @@
 -- The times are those of the scope.
-use Rattle.std.proofs.Common.{List, ℕ, ◌++◌, ◌-ℤ◌, codes, w64, ◌∙◌}
+use Rattle.std.proofs.Common.{◌++◌, ◌-ℤ◌, codes, w64, ◌∙◌}
 use Rattle.std.proofs.lemmas.Int.{to_z-of_z}
 use Rattle.std.proofs.lemmas.Result.{on_ok_weaker}
 use Rattle.puffin_look.specs.Trace.{micros}

@@ -1,7 +1,7 @@
 -- What was printed is the frames with the index.
 use Rattle.std.proofs.Common.{refl}
 use Rattle.std.proofs.lemmas.Result.{err_from_is_err_and}
-use Rattle.puffin_look.proofs.TreesPrinted.{frames_stopped, frames_printed}
+use Rattle.puffin_look.proofs.TreesPrinted.{frames_stopped}
 use Rattle.puffin_look.proofs.frame_tree.print_frame.Goals as goal
 
 pub returns-in_err-list_frames-clause-err : goal.returns-in_err-list_frames-clause-err

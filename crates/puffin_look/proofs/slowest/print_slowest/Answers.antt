@@ -1,11 +1,9 @@
 -- What was printed is the lines of the slowest frames.
-use Rattle.std.proofs.Common.{List, ℕ, inl, inr, subst, ap, ◌∙◌}
+use Rattle.std.proofs.Common.{inl, inr, ap, ◌∙◌}
 use Rattle.std.specs.List.{flat_map}
 use Rattle.std.proofs.lemmas.Result.{err_from_is_err_and, on_ok_weaker}
-use Rattle.std.specs.Io.KnownBytes.{Appends}
-use Rattle.puffin_data.specs.Device.{WritesBeginning}
 use Rattle.puffin_look.specs.Slowest.{row_line}
-use Rattle.puffin_look.proofs.SlowestPrinted.{slowest_stopped, none_printed, slowest_printed, slowest_cut}
+use Rattle.puffin_look.proofs.SlowestPrinted.{slowest_stopped, slowest_printed, slowest_cut}
 use Rattle.puffin_look.proofs.TracePrinted.{cut_told}
 use Rattle.puffin_look.proofs.slowest.print_slowest.Goals as goal
 
