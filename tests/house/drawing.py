@@ -32,7 +32,7 @@ WORDS = {
     "puffin_c": "the C interface",
     "puffin_replay": "scripts, recording",
     "puffin_tool": "count, replay, report",
-    "puffin_look_tool": "threads, frames",
+    "puffin_look_tool": "lists, traces",
     "example_single": "one thread",
     "example_proved": "a proof of one's own",
     "example_rounds": "four threads",

@@ -2,3 +2,14 @@ mod Listed
 mod HeldStreams
 mod ThreadsTotaled
 mod ThreadsPrinted
+mod Quotes
+mod Indents
+mod Pushed
+mod Numbered
+mod Traced
+mod TracePrinted
+mod TreesShown
+mod TreesPrinted
+mod Numbers
+mod SlowestKept
+mod SlowestPrinted

@@ -2,5 +2,10 @@ pub mod OpenFrame
 pub mod Printed
 pub mod ThreadLines
 pub mod FrameLines
+pub mod Trees
+pub mod Names
+pub mod Trace
+pub mod FrameTree
+pub mod Slowest
 pub mod Arguments
 pub mod inner

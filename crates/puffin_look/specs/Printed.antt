@@ -66,3 +66,14 @@ pub record IsStopped (IsText : List OpenFrame → List ℕ → Type 0)
 -- no frame is refused
 abbrev pub RefusesNone : List OpenFrame → OpenFrame → Error → Type 0
 RefusesNone frames frame cause = ⊥
+
+-- All frames of a file were read, and a prefix of this text was written.
+pub record IsCutOff (IsText : List OpenFrame → List ℕ → Type 0)
+    (unread left before after : Option (List ℕ)) : Type 0 where
+  pub stored : List Stored
+  pub took : TookFrames file_at unread left stored
+  pub frames : List OpenFrame
+  pub opens : AreOpened stored frames
+  pub text : List ℕ
+  pub is : IsText frames text
+  pub written : WritesBeginning before after text

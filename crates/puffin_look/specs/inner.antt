@@ -1,3 +1,8 @@
 -- How a file is listed, frame after frame: steps of the proof.
 pub mod Listings
 pub mod Taken
+pub mod Reads
+pub mod Events
+pub mod Tracings
+pub mod TreeLines
+pub mod FrameTrees

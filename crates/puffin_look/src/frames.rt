@@ -17,7 +17,7 @@ use std::alloc::{AllocError, Global};
 use std::sync::Arc;
 
 /// Appends a frame's number, its threads and its scopes.
-fn push_counts(
+pub(crate) fn push_counts(
     text: &mut Vec<u8>,
     index: FrameIndex,
     threads: usize,
@@ -43,7 +43,7 @@ pub(crate) fn push_range(
 }
 
 /// Appends a duration and the end of the line.
-fn push_duration(text: &mut Vec<u8>, duration: NanoSecond) -> Result<(), AllocError>
+pub(crate) fn push_duration(text: &mut Vec<u8>, duration: NanoSecond) -> Result<(), AllocError>
     ensures { OnOk result (text.new.items ≡ text.old.items ++ duration_text duration) }
 {
     push_moment(text, b" duration ", duration)?;
@@ -51,7 +51,7 @@ fn push_duration(text: &mut Vec<u8>, duration: NanoSecond) -> Result<(), AllocEr
 }
 
 /// Returns the number of a frame's threads.
-fn thread_count(frame: &UnpackedFrameData) -> usize
+pub(crate) fn thread_count(frame: &UnpackedFrameData) -> usize
     ensures { result ≡ map.len (streams_held frame.now) }
 {
     frame.thread_streams.len()
@@ -102,8 +102,12 @@ impl Listing for FrameLines {
     }
 }
 
-/// Prints a line for each frame of a file: its index, the number of its threads and scopes, its range and duration, in
-/// nanoseconds.
+/// Prints a line for each frame of a file, each as soon as it was read: its index, the number of its threads and scopes, its range
+/// and duration, in nanoseconds.
+///
+/// Fails with the first fault of the file, as [`FrameReader::next`](puffin_view::profile_view::FrameReader::next) does, or with
+/// `Compressed` or `BadStreams` for a frame that can't be unpacked. The lines of the frames before it are then printed. Fails with
+/// `Memory`, or with `Io` if a read or a write fails, and then a prefix of the lines of some first frames is written.
 pub fn print_frames<S: Source, D: Drain>(
     alloc: Global,
     source: &mut S,

@@ -3,15 +3,28 @@
 //! | to | call |
 //! |---|---|
 //! | list the threads of a file | [`print_threads`] |
-//! | list its frames | [`print_frames`] |
+//! | list its frames, or the slowest of them | [`print_frames`], [`print_slowest`] |
+//! | print a frame as a tree | [`print_frame`] |
+//! | write a trace for other tools | [`print_trace`] |
 #![tactic(auto)]
 
+mod columns;
+mod events;
+mod frame_tree;
 mod frames;
 mod listing;
+mod names;
+mod quoting;
+mod slowest;
 mod task;
 mod text;
 mod threads;
+mod trace;
+mod tree;
 
+pub use frame_tree::print_frame;
 pub use frames::print_frames;
+pub use slowest::print_slowest;
 pub use task::{View, read_words};
 pub use threads::print_threads;
+pub use trace::print_trace;

@@ -1,35 +1,80 @@
 //! The program's arguments.
 
-ghost use Rattle.std.specs.Prelude.{◌≡◌, option_map, map};
+ghost use Rattle.std.specs.Prelude.{◌≡◌, ◌^◌, option_map, map};
 ghost use Rattle.std.specs.String.{string_bytes};
-ghost use Rattle.puffin_look.specs.Arguments.{listing_in, request_in, request_of};
+ghost use Rattle.puffin_look.specs.Arguments.{number_in, list_in, frame_in, numbered_in, request_in, wish_of, request_of};
+
+use puffin_data::FrameIndex;
 
 /// What the program shows of a file.
 #[derive(Clone, Copy, Debug, PartialEq, Eq)]
-pub enum View {
+pub enum View<'w> {
     /// A line for each thread.
     Threads,
     /// A line for each frame.
     Frames,
+    /// The lines of so many of the slowest frames.
+    Slowest(usize),
+    /// The frame with this index, with all threads or the one with this text.
+    Frame(FrameIndex, Option<&'w str>),
+    /// A trace.
+    Trace,
 }
 
-/// Parses the word that names what is shown.
-fn view_of(word: &str) -> Option<View>
-    ensures { result ≡ listing_in word.now }
+/// Parses a decimal number without a sign, below `2^64`.
+fn number(word: &str) -> Option<u64>
+    ensures { result ≡ number_in word.now }
+{
+    if word.starts_with('+') {
+        return None;
+    }
+    word.parse::<u64>().ok()
+}
+
+/// Parses a word that is followed by the path alone.
+fn list_of<'w>(word: &str) -> Option<View<'w>>
+    ensures { option_map wish_of result ≡ list_in word.now }
 {
     match word {
         "threads" => Some(View::Threads),
         "frames" => Some(View::Frames),
+        "trace" => Some(View::Trace),
         _ => None,
     }
 }
 
+/// Parses a word that is followed by the path and a number.
+fn numbered_of<'w>(word: &str, index: &str) -> Option<View<'w>>
+    ensures { option_map wish_of result ≡ numbered_in word.now index.now }
+{
+    if word == "frames" {
+        return Some(View::Slowest(number(index)? as usize));
+    }
+    frame_of(word, index, None)
+}
+
+/// Parses a word that is followed by the path, an index and perhaps a thread.
+fn frame_of<'w>(word: &str, index: &str, thread: Option<&'w str>) -> Option<View<'w>>
+    ensures { option_map wish_of result
+        ≡ frame_in word.now index.now (option_map (λ t. t.now) thread.entry) }
+{
+    if word != "frame" {
+        return None;
+    }
+    Some(View::Frame(number(index)?, thread))
+}
+
 /// Parses the program's arguments: what is shown, and the path of a file. Returns `None` if they are anything else.
-pub fn read_words(words: &[String]) -> Option<(View, &str)>
+pub fn read_words(words: &[String]) -> Option<(View<'_>, &str)>
     ensures { option_map request_of result ≡ request_in (map string_bytes words.now) }
 {
     match words {
-        [word, path] => Some((view_of(word.as_str())?, path.as_str())),
+        [word, path] => Some((list_of(word.as_str())?, path.as_str())),
+        [word, path, index] => Some((numbered_of(word.as_str(), index.as_str())?, path.as_str())),
+        [word, path, index, thread] => Some((
+            frame_of(word.as_str(), index.as_str(), Some(thread.as_str()))?,
+            path.as_str(),
+        )),
         _ => None,
     }
 }

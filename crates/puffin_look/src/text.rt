@@ -8,7 +8,7 @@ use puffin_data::NanoSecond;
 use std::alloc::AllocError;
 
 /// Appends a number in decimal digits.
-fn push_number(text: &mut Vec<u8>, number: u64) -> Result<(), AllocError>
+pub(crate) fn push_number(text: &mut Vec<u8>, number: u64) -> Result<(), AllocError>
     ensures { OnOk result (text.new.items ≡ text.old.items ++ decimal number) }
 {
     text.extend_from_slice(Buffer::new().format(number).as_bytes())

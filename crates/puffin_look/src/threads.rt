@@ -121,15 +121,23 @@ impl Listing for Threads {
     fn clear(&mut self) {}
 }
 
+/// Appends a thread's start, or `-` if it is unknown.
+pub(crate) fn push_start(text: &mut Vec<u8>, thread: &ThreadInfo) -> Result<(), AllocError>
+    ensures { OnOk result (
+        text.new.items ≡ text.old.items ++ start_text (key_of thread.now).start) }
+{
+    match thread.start_time_ns {
+        Some(start) => push_time(text, start),
+        None => text.extend_from_slice(b"-"),
+    }
+}
+
 /// Appends a thread as `report` takes it.
 pub(crate) fn push_thread(text: &mut Vec<u8>, thread: &ThreadInfo) -> Result<(), AllocError>
     ensures { OnOk result (
         text.new.items ≡ text.old.items ++ thread_text (key_of thread.now)) }
 {
-    match thread.start_time_ns {
-        Some(start) => push_time(text, start)?,
-        None => text.extend_from_slice(b"-")?,
-    }
+    push_start(text, thread)?;
     text.extend_from_slice(b":")?;
     text.extend_from_slice(thread.name.as_bytes())
 }
@@ -181,7 +189,7 @@ fn lines_of(alloc: Global, threads: &Threads) -> Result<Vec<u8>, AllocError>
 }
 
 /// Returns whether a call failed because the reader, the writer or memory did.
-fn fails_outside(answer: &Result<(), FileError>) -> bool
+pub(crate) fn fails_outside(answer: &Result<(), FileError>) -> bool
     ensures { result ≡ fails_outside answer.now }
 {
     matches!(answer, Err(FileError::Io | FileError::Memory))

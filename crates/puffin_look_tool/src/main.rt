@@ -1,9 +1,11 @@
-//! `puffin-look`: shows what is in a file of frames: its threads and its frames.
+//! `puffin-look`: shows what is in a file of frames: its threads, its frames, a frame as a tree, all of it as a trace.
 #![tactic(auto)]
 
 use puffin_data::FileError;
 use puffin_data::data::{Buffered, Counted};
-use puffin_look::{View, print_frames, print_threads, read_words};
+use puffin_look::{
+    View, print_frame, print_frames, print_slowest, print_threads, print_trace, read_words,
+};
 use std::fs::File;
 use std::io::BufReader;
 use std::process::ExitCode;
@@ -18,6 +20,8 @@ enum LookFault {
     Words,
     /// Reading or writing failed with this error.
     File(FileError),
+    /// The file has no such frame or thread.
+    NotFound,
 }
 
 /// Opens three files, which take the places of standard input, output and error if those are closed, so that no file opened
@@ -57,18 +61,26 @@ fn read_ahead(rt: &HostRuntime, path: &str) -> io::Result<BufReader<File>> {
 }
 
 /// Prints what was asked for of the file at a path.
-fn show(rt: &HostRuntime, view: View, path: &str) -> Result<(), LookFault> {
+fn show(rt: &HostRuntime, view: View<'_>, path: &str) -> Result<(), LookFault> {
     let mut file = match read_ahead(rt, path) {
         Ok(file) => Buffered::new(file),
         Err(error) => return Err(fault_of(&error)),
     };
     let mut out = Counted::new(rt.stdout());
     let printed = match view {
-        View::Threads => print_threads(rt.alloc(), &mut file, &mut out),
-        View::Frames => print_frames(rt.alloc(), &mut file, &mut out),
+        View::Threads => print_threads(rt.alloc(), &mut file, &mut out).map(|()| true),
+        View::Frames => print_frames(rt.alloc(), &mut file, &mut out).map(|()| true),
+        View::Slowest(limit) => {
+            print_slowest(rt.alloc(), &mut file, &mut out, limit).map(|()| true)
+        }
+        View::Frame(index, thread) => {
+            print_frame(rt.alloc(), &mut file, &mut out, index, thread)
+        }
+        View::Trace => print_trace(rt.alloc(), &mut file, &mut out).map(|()| true),
     };
     match printed {
-        Ok(()) => Ok(()),
+        Ok(true) => Ok(()),
+        Ok(false) => Err(LookFault::NotFound),
         Err(fault) => Err(LookFault::File(fault)),
     }
 }
@@ -87,8 +99,14 @@ fn main(rt: HostRuntime) -> ExitCode {
     match run(&rt) {
         Ok(()) => ExitCode::from(0),
         Err(LookFault::Words) => {
-            let _ = eprintln!(rt; "usage: puffin-look threads FILE | frames FILE");
+            let _ = eprintln!(rt;
+                "usage: puffin-look threads FILE | frames FILE [N] | frame FILE INDEX [THREAD] | trace FILE"
+            );
             ExitCode::from(2)
+        }
+        Err(LookFault::NotFound) => {
+            let _ = eprintln!(rt; "puffin-look: NotFound");
+            ExitCode::from(1)
         }
         Err(LookFault::File(fault)) => {
             let _ = eprintln!(rt; "puffin-look: {fault}");

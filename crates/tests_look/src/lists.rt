@@ -1,7 +1,9 @@
 use crate::equal::equal;
 use puffin_data::FileError;
 use puffin_data::data::Counted;
-use puffin_look::{View, print_frames, print_threads, read_words};
+use puffin_look::{
+    View, print_frame, print_frames, print_slowest, print_threads, print_trace, read_words,
+};
 use std::alloc::AllocGlobal;
 use std::process::Abort;
 use std::test::Fail;
@@ -10,9 +12,32 @@ use tests_support::samples::{FILE, ONE_FRAME};
 /// What a call returned, and what it wrote.
 type Printed = (Result<(), FileError>, Vec<u8>);
 
+/// Lists the slowest frames of a file.
+fn slowest_of(rt: &impl AllocGlobal, file: &[u8], limit: usize) -> Printed {
+    let mut out = Counted::new(Vec::new(rt.alloc()));
+    let answer = print_slowest(rt.alloc(), &mut Counted::new(file), &mut out, limit);
+    (answer, out.into_inner())
+}
+
+/// Whether a thread was printed.
+type Found = Result<bool, FileError>;
+
 /// The lines of the two frames of [`FILE`].
 const FRAMES: &[u8] = b"frame 0 threads 1 scopes 1 range 100 300 duration 200\n\
 frame 1 threads 1 scopes 1 range 400 401 duration 1\n";
+
+/// The trace of [`FILE`].
+const TRACE: &[u8] =
+    b"[{\"ph\":\"M\",\"pid\":1,\"name\":\"process_name\",\"args\":{\"name\":\"puffin\"}},\n\
+{\"ph\":\"i\",\"s\":\"p\",\"pid\":1,\"tid\":0,\"ts\":0.000,\"name\":\"frame 0\",\"args\":{\"start\":100,\"stop\":300}},\n\
+{\"ph\":\"M\",\"pid\":1,\"tid\":1,\"name\":\"thread_name\",\"args\":{\"name\":\"main\",\"start\":\"100\"}},\n\
+{\"ph\":\"X\",\"pid\":1,\"tid\":1,\"ts\":0.000,\"dur\":0.200,\"name\":\"#1\",\"args\":{\"text\":\"data\"}},\n\
+{\"ph\":\"i\",\"s\":\"p\",\"pid\":1,\"tid\":0,\"ts\":0.300,\"name\":\"frame 1\",\"args\":{\"start\":400,\"stop\":401}},\n\
+{\"ph\":\"X\",\"pid\":1,\"tid\":1,\"ts\":0.300,\"dur\":0.001,\"name\":\"#1\",\"args\":{\"text\":\"a\"}}\n\
+]\n";
+
+/// Where the events of the second frame begin.
+const SECOND_FRAME: usize = 334;
 
 /// Where the line of the second frame begins.
 const SECOND_LINE: usize = 54;
@@ -28,6 +53,26 @@ fn threads_of(rt: &impl AllocGlobal, file: &[u8]) -> Printed {
 fn frames_of(rt: &impl AllocGlobal, file: &[u8]) -> Printed {
     let mut out = Counted::new(Vec::new(rt.alloc()));
     let answer = print_frames(rt.alloc(), &mut Counted::new(file), &mut out);
+    (answer, out.into_inner())
+}
+
+/// Prints the frame of [`FILE`] with an index.
+fn frame_of(rt: &impl AllocGlobal, index: u64, thread: Option<&str>) -> (Found, Vec<u8>) {
+    let mut out = Counted::new(Vec::new(rt.alloc()));
+    let answer = print_frame(
+        rt.alloc(),
+        &mut Counted::new(&FILE[..]),
+        &mut out,
+        index,
+        thread,
+    );
+    (answer, out.into_inner())
+}
+
+/// Writes a file as a trace.
+fn trace_of(rt: &impl AllocGlobal, file: &[u8]) -> Printed {
+    let mut out = Counted::new(Vec::new(rt.alloc()));
+    let answer = print_trace(rt.alloc(), &mut Counted::new(file), &mut out);
     (answer, out.into_inner())
 }
 
@@ -50,12 +95,38 @@ fn each_frame_is_listed(rt: HostRuntime) {
 }
 
 #[test]
+fn the_slowest_frames_come_first(rt: HostRuntime) {
+    prints(&rt, &slowest_of(&rt, &FILE, 3), Ok(()), FRAMES);
+    let first = &FRAMES[..SECOND_LINE];
+    prints(&rt, &slowest_of(&rt, &FILE, 1), Ok(()), first);
+}
+
+#[test]
 fn what_stands_before_a_fault_is_listed(rt: HostRuntime) {
     let cut = &FILE[..ONE_FRAME + 20];
     let truncated = Err(FileError::Truncated);
     prints(&rt, &frames_of(&rt, cut), truncated, &FRAMES[..SECOND_LINE]);
     let line = b"frames 1 scopes 1 bytes 35 range 100 300 thread 100:main\n";
     prints(&rt, &threads_of(&rt, cut), truncated, line);
+}
+
+#[test]
+fn a_frame_is_a_tree(rt: HostRuntime) {
+    let printed = frame_of(&rt, 1, Some("100:main"));
+    equal(&rt, printed.0, Ok(true));
+    let lines = b"frame 1 range 400 401 duration 1\nthread 100:main\n\
+        #1 (a) start 0 duration 1 share 100.0%\n";
+    equal(&rt, printed.1.as_slice(), lines);
+    equal(&rt, frame_of(&rt, 2, None).0, Ok(false));
+    equal(&rt, frame_of(&rt, 1, Some("-:main")).0, Ok(false));
+}
+
+#[test]
+fn a_trace_has_each_frame_thread_and_scope(rt: HostRuntime) {
+    prints(&rt, &trace_of(&rt, &FILE), Ok(()), TRACE);
+    let truncated = Err(FileError::Truncated);
+    let cut = trace_of(&rt, &FILE[..ONE_FRAME + 20]);
+    prints(&rt, &cut, truncated, &TRACE[..SECOND_FRAME]);
 }
 
 #[test]
@@ -67,5 +138,14 @@ fn words_name_what_is_shown(rt: HostRuntime) -> Result<(), Fail> {
     ];
     equal(&rt, read_words(&words), Some((View::Frames, "a.puffin")));
     equal(&rt, read_words(&words[..1]), None);
+    let words = [
+        String::from_str(alloc, "frame")?,
+        String::from_str(alloc, "a.puffin")?,
+        String::from_str(alloc, "7")?,
+        String::from_str(alloc, "-:main")?,
+    ];
+    let frame = View::Frame(7, Some("-:main"));
+    equal(&rt, read_words(&words), Some((frame, "a.puffin")));
+    equal(&rt, read_words(&words[..2]), None);
     Ok(())
 }

@@ -1,0 +1,30 @@
+-- Numbers that are read.
+use Rattle.std.proofs.Common.{◌≡◌, ◌≢◌, ◌==◌, ℕ, ◌<◌, ◌≤◌, List, [], ◌∷◌, get_or, Bool, true, false, Some, None, Result, Ok, Err, refl, arith, if◌then◌else◌}
+use Rattle.std.specs.Option.{option_and_then}
+use Rattle.std.specs.Result.{result_ok}
+use Rattle.std.specs.Str.{all_ascii_digits}
+use Rattle.std.specs.Str.Parse.{ParsesUnsigned, digits_value}
+use Rattle.std.proofs.lemmas.Str.Parse.{IsNumeralModel, numerals_by_value, tells_all_ascii_digits, parse_plain}
+use Rattle.std.proofs.lemmas.Bool.Decides.{nat_tests}
+use Rattle.puffin_look.specs.Arguments.{if_below, number_in}
+
+own : IsNumeralModel (λ ds. all_ascii_digits ds ≡ true) (digits_value 10)
+own = numerals_by_value _ tells_all_ascii_digits
+
+number_given : (digits : Bool) (v limit x : ℕ) → digits ≡ true → v < limit → x ≡ v → Some x ≡ option_and_then (if_below limit) (if digits then Some v else None)
+number_given digits v limit x h small same = grind (arith, nat_tests)
+
+number_refused : (digits : Bool) (v limit : ℕ) → ¬ ((digits ≡ true) × (v < limit)) → None ≡ option_and_then (if_below limit) (if digits then Some v else None)
+number_refused true v limit h = let big : limit ≤ v = omega (arith, λ (small : v < limit). h (refl, small)) in grind (arith, nat_tests)
+number_refused false v limit h = refl
+
+pub number_read : {E : Type 0} (word : List ℕ) (r : Result ℕ E) → ParsesUnsigned 64 10 word r → get_or word 0 0 ≢ 43 → result_ok r ≡ number_in word
+number_read {E} [] (Ok x) h plain = absurd (let read = parse_plain own {E = E} 64 [] (Ok x) h plain in omega arith)
+number_read {E} [] (Err e) h plain = refl
+number_read {E} (b ∷ bs) (Ok x) h plain =
+    let read = parse_plain own {E = E} 64 (b ∷ bs) (Ok x) h plain in
+    number_given (all_ascii_digits (b ∷ bs)) _ _ x read.0.0 read.0.2 read.1
+number_read {E} (b ∷ bs) (Err e) h plain = number_refused (all_ascii_digits (b ∷ bs)) _ _ (λ q. parse_plain own {E = E} 64 (b ∷ bs) (Err e) h plain (q.0, omega arith, q.1))
+
+pub is_not_plus : (byte : ℕ) → false ≡ (byte == 43) → byte ≢ 43
+is_not_plus byte h = grind (arith, nat_tests)

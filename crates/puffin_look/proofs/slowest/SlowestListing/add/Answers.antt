@@ -1,0 +1,15 @@
+use Rattle.std.proofs.Common.{[], take, refl, ap, ◌∙◌}
+use Rattle.puffin_look.specs.Slowest.{with_row}
+use Rattle.puffin_look.specs.declared.slowest.Row.{Row}
+use Rattle.puffin_look.proofs.slowest.SlowestListing.add.Goals as goal
+
+pub returns-clause-ok : goal.returns-clause-ok
+returns-clause-ok c = (
+  [],
+  refl,
+  record {
+    none = refl;
+    limit = c.in_ok-add_row.ensures.limit;
+    rows = c.in_ok-add_row.ensures.rows ∙ ap (λ (r : Row). take c.args.self.now.limit (with_row c.args.self.now.rows.items r)) c.new.ensures;
+  },
+)

@@ -1,0 +1,71 @@
+-- A frame of a file with its streams read as forests of scopes, and why a frame can't be read so.
+use Rattle.std.specs.Prelude.{◌≡◌, ℕ, List, [], ◌∷◌, ◌++◌}
+use Rattle.std.specs.FinMap as map
+use Rattle.puffin_data.specs.declared.error.Error.{Error}
+use Rattle.puffin_data.specs.Forest.{Forest}
+use Rattle.puffin_data.specs.Forest.Spelling.{Spells}
+use Rattle.puffin_data.specs.Honesty.{StreamFacts}
+use Rattle.puffin_data.specs.Walk.{IsFault}
+use Rattle.puffin_threads.specs.Details.{Details}
+use Rattle.puffin_threads.specs.Thread.ThreadKey.{ThreadKey}
+use Rattle.puffin_frames.specs.declared.frame_data.meta.FrameMeta.{FrameMeta}
+use Rattle.puffin_look.specs.OpenFrame.{OpenFrame}
+
+-- a thread's stream, and its scopes
+abbrev pub Entry : Type 0
+Entry = ThreadKey × StreamFacts
+
+abbrev pub Tree : Type 0
+Tree = ThreadKey × Forest
+
+-- the streams of these threads, in order, spell these forests
+abbrev pub AreSpelled : List Entry → List Tree → Type 0
+AreSpelled [] [] = Unit {0}
+AreSpelled [] (t ∷ ts) = ⊥
+AreSpelled (e ∷ es) [] = ⊥
+AreSpelled (e ∷ es) (t ∷ ts) =
+    ((t.0 ≡ e.0) × Spells e.1.form e.1.bytes t.1) × AreSpelled es ts
+
+-- a frame's totals, the details that it lists, and its scopes by thread
+pub record TreeFrame : Type 0 where
+  pub meta : FrameMeta
+  pub details : List Details
+  pub trees : List Tree
+
+-- the streams of a frame that are read
+abbrev pub Pick : Type 0
+Pick = OpenFrame → List Entry
+
+abbrev pub all_streams : Pick
+all_streams frame = map.entries frame.streams
+
+pub record IsRead (pick : Pick) (frame : OpenFrame) (tree : TreeFrame) : Type 0 where
+  pub meta : tree.meta ≡ frame.meta
+  pub details : tree.details ≡ frame.details
+  pub trees : AreSpelled (pick frame) tree.trees
+
+-- frames, each with its scopes
+abbrev pub AreRead : Pick → List OpenFrame → List TreeFrame → Type 0
+AreRead pick [] [] = Unit {0}
+AreRead pick [] (t ∷ ts) = ⊥
+AreRead pick (f ∷ fs) [] = ⊥
+AreRead pick (f ∷ fs) (t ∷ ts) = IsRead pick f t × AreRead pick fs ts
+
+-- The streams of the first threads spell forests, and that of the next thread has this fault.
+pub record AreUnread (entries : List Entry) (fault : Error) : Type 0 where
+  pub earlier : List Entry
+  pub entry : Entry
+  pub later : List Entry
+  pub all : entries ≡ earlier ++ (entry ∷ later)
+  pub trees : List Tree
+  pub spelled : AreSpelled earlier trees
+  pub faulty : IsFault entry.1.form entry.1.bytes fault
+
+-- a frame is refused with the fault of its first stream that isn't a forest
+abbrev pub RefusesUnread : Pick → List OpenFrame → OpenFrame → Error → Type 0
+RefusesUnread pick frames frame fault = AreUnread (pick frame) fault
+
+-- The text of items, one after the other. Each is printed in a state that those before it leave.
+abbrev pub outputs : {S X : Type 0} → (S → X → List ℕ) → (S → X → S) → S → List X → List ℕ
+outputs out next s [] = []
+outputs out next s (x ∷ xs) = out s x ++ outputs out next (next s x) xs

@@ -1,0 +1,55 @@
+-- What a trace takes from a stream, scope by scope.
+use Rattle.std.specs.Prelude.{◌≡◌, ℕ, Bool, not, nat_le, ◌&&◌, ◌==◌, List, [], ◌++◌, Option, option_map}
+use Rattle.std.specs.Option.{option_copied}
+use Rattle.std.specs.Arc.{arc_value}
+use Rattle.std.specs.List.{flat_map}
+use Rattle.std.specs.declared.sync.Arc.{Arc}
+use Rattle.std.specs.declared.alloc.Global.{Global}
+use Rattle.std.proofs.Common.{refl, sym, ap, ◌∙◌, append_assoc, append-nil}
+use Rattle.std.proofs.lemmas.List.Concat.{flat_map-append}
+use denote.Ref.{Bor}
+use Rattle.puffin_data.specs.Walk.PlacedScopes.{ScopeInContext}
+use Rattle.puffin_threads.specs.declared.scope_details.details.ScopeDetails.{ScopeDetails}
+use Rattle.puffin_threads.specs.Details.{Details, details_of}
+use Rattle.puffin_look.specs.Trace.{scope_event}
+use Rattle.puffin_look.specs.declared.events.Events.{Events}
+
+-- a byte that JSON has in a string as it is
+abbrev pub is_plain : ℕ → Bool
+is_plain byte = nat_le 32 byte && (not (byte == 34) && not (byte == 92))
+
+-- details that are borrowed
+abbrev pub details_in : Option (Bor (Arc ScopeDetails Global)) → Option Details
+details_in o = option_map (λ d. details_of (arc_value d)) (option_copied o)
+
+-- this text was appended, and the rest stayed
+pub record IsWithText (v u : Events) (more : List ℕ) : Type 0 where
+  pub text : u.text.items ≡ v.text.items ++ more
+  pub known : u.known ≡ v.known
+  pub tid : u.tid ≡ v.tid
+  pub origin : u.origin ≡ v.origin
+
+abbrev pub scope_events : Events → List ScopeInContext → List ℕ
+scope_events v xs = flat_map (λ s. scope_event v.known v.origin v.tid s.span) xs
+
+abbrev pub TakesScopes : Events → List ScopeInContext → Events → Type 0
+TakesScopes v xs u = IsWithText v u (scope_events v xs)
+
+pub scopes_none : (v : Events) → TakesScopes v [] v
+scopes_none v =
+    record { text = sym (append-nil v.text.items); known = refl; tid = refl; origin = refl }
+
+pub scopes_more : (u v w : Events) (xs ys : List ScopeInContext) → TakesScopes u xs v →
+    TakesScopes v ys w → TakesScopes u (xs ++ ys) w
+scopes_more u v w xs ys a b =
+    let same : scope_events v ys ≡ scope_events u ys =
+    λ i. flat_map (λ s. scope_event (a.known i) (a.origin i) (a.tid i) s.span) ys in
+    record {
+      text = b.text ∙ (λ i. a.text i ++ same i)
+          ∙ append_assoc u.text.items (scope_events u xs) (scope_events u ys)
+          ∙ ap (λ (t : List ℕ). u.text.items ++ t)
+          (sym (flat_map-append (λ s. scope_event u.known u.origin u.tid s.span) xs ys));
+      known = b.known ∙ a.known;
+      tid = b.tid ∙ a.tid;
+      origin = b.origin ∙ a.origin;
+    }

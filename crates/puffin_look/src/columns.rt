@@ -1,0 +1,96 @@
+//! Appends the parts of the line of a scope in a frame's tree.
+
+ghost use Rattle.std.specs.Prelude.{◌≡◌, ◌++◌, ◌<◌, ◌^◌, ◌-ℤ◌, codes, OnOk};
+ghost use Rattle.std.specs.Fmt.{signed_decimal};
+ghost use Rattle.puffin_look.specs.FrameTree.{indent, text_part, share_text, times_text, numbers_text};
+
+use crate::text::{push_count, push_number};
+use itoa::Buffer;
+use puffin_data::NanoSecond;
+use std::alloc::AllocError;
+
+/// Appends two blanks for each level.
+pub(crate) fn push_indent(text: &mut Vec<u8>, level: usize) -> Result<(), AllocError>
+    ensures text { OnOk result (text.new.items ≡ text.old.items ++ indent level) }
+    // This many blanks fit into memory, so the next level fits `usize`.
+    ensures level { OnOk result (level < 2 ^ 63) }
+{
+    for _ in 0..level {
+        text.extend_from_slice(b"  ")?;
+    }
+    Ok(())
+}
+
+/// Appends a text in parentheses, unless it is empty.
+pub(crate) fn push_text(text: &mut Vec<u8>, part: &str) -> Result<(), AllocError>
+    ensures { OnOk result (text.new.items ≡ text.old.items ++ text_part part.now) }
+{
+    if part.is_empty() {
+        return Ok(());
+    }
+    text.extend_from_slice(b" (")?;
+    text.extend_from_slice(part.as_bytes())?;
+    text.extend_from_slice(b")")
+}
+
+/// Appends a share in percent, with a digit behind the point.
+fn push_share(text: &mut Vec<u8>, part: u64, whole: u64) -> Result<(), AllocError>
+    ensures { OnOk result (text.new.items ≡ text.old.items ++ share_text part whole) }
+{
+    if whole == 0 {
+        return text.extend_from_slice(b"-");
+    }
+    let share = part as u128 * 1000 / whole as u128;
+    text.extend_from_slice(Buffer::new().format(share / 10).as_bytes())?;
+    text.extend_from_slice(&[b'.', 48 + (share % 10) as u8, b'%'])
+}
+
+/// Appends the time from one moment to another in decimal digits, with a minus if it is negative.
+fn push_difference(text: &mut Vec<u8>, from: NanoSecond, to: NanoSecond) -> Result<(), AllocError>
+    ensures { OnOk result (text.new.items ≡ text.old.items ++ signed_decimal (to -ℤ from)) }
+{
+    if to < from {
+        text.extend_from_slice(b"-")?;
+    }
+    push_number(text, to.abs_diff(from))
+}
+
+/// Appends when a scope began in its frame, and how long it took.
+fn push_times(
+    text: &mut Vec<u8>,
+    begin: NanoSecond,
+    start: NanoSecond,
+    time: u64,
+) -> Result<(), AllocError>
+    ensures { OnOk result (
+        text.new.items ≡ text.old.items ++ times_text (start -ℤ begin) time) }
+{
+    text.extend_from_slice(b" start ")?;
+    push_difference(text, begin, start)?;
+    push_count(text, b" duration ", time)
+}
+
+/// Appends a scope's share behind its label, and the end of the line.
+fn push_share_end(text: &mut Vec<u8>, part: u64, whole: u64) -> Result<(), AllocError>
+    ensures { OnOk result (text.new.items
+        ≡ text.old.items ++ (codes " share " ++ (share_text part whole ++ codes "\n"))) }
+{
+    text.extend_from_slice(b" share ")?;
+    push_share(text, part, whole)?;
+    text.extend_from_slice(b"\n")
+}
+
+/// Appends the numbers of a scope, and the end of the line.
+pub(crate) fn push_numbers(
+    text: &mut Vec<u8>,
+    begin: NanoSecond,
+    start: NanoSecond,
+    time: u64,
+    whole: u64,
+) -> Result<(), AllocError>
+    ensures { OnOk result (
+        text.new.items ≡ text.old.items ++ numbers_text (start -ℤ begin) time whole) }
+{
+    push_times(text, begin, start, time)?;
+    push_share_end(text, time, whole)
+}

@@ -1,0 +1,170 @@
+//! Prints a frame of a file as a tree of scopes.
+
+ghost use Rattle.std.specs.Prelude.{◌≡◌, false, option_map, ◌++◌, ◌+◌, ◌-◌, ◌^◌, ◌<◌, ◌⊎◌, ◌-ℤ◌, FitsSigned, IsOkUnless, OnOk, IfOk, IfErr};
+ghost use Rattle.std.specs.Int.{w64};
+ghost use Rattle.std.specs.List.{list_any};
+ghost use Rattle.std.specs.FinMap as map;
+ghost use Rattle.puffin_data.specs.declared.error.Error.{Error};
+ghost use Rattle.puffin_data.specs.Device.{TookNothing};
+ghost use Rattle.puffin_data.specs.Honesty.{facts_of};
+ghost use Rattle.puffin_threads.specs.Details.{lacks_id, shared_details};
+ghost use Rattle.puffin_threads.specs.Thread.ThreadKey.{key_of};
+ghost use Rattle.puffin_frames.specs.Frame.Contents.{streams_held};
+ghost use Rattle.puffin_look.specs.Printed.{IsPrinted, IsStopped};
+ghost use Rattle.puffin_look.specs.Trees.{AreUnread, RefusesUnread};
+ghost use Rattle.puffin_look.specs.FrameTree.{is_wanted, streams_at, head_text, IsFrameText};
+ghost use Rattle.puffin_look.specs.inner.FrameTrees.{wanted_of, wanted_in, StepsTree, IsTreeFault, AddsTrees, IsAnyFrameText};
+
+use crate::frames::{push_duration, push_range};
+use crate::listing::{Listing, list_frames};
+use crate::text::push_count;
+use crate::threads::push_thread;
+use crate::tree::Lines;
+use puffin_data::data::{Drain, Source, StreamInfo};
+use puffin_data::{FileError, FrameIndex, Result as Answer};
+use puffin_frames::frame_data::UnpackedFrameData;
+use puffin_threads::scope_details::{ScopeCollection, ScopeDetails};
+use puffin_threads::thread_profiler::ThreadInfo;
+use std::alloc::{AllocError, Global};
+use std::sync::Arc;
+
+/// Returns whether a thread is printed: any thread if none is named, and else the one with this text.
+fn is_wanted(alloc: Global, wanted: Option<&str>, thread: &ThreadInfo) -> Result<bool, AllocError>
+    ensures { IfOk result (λ is.
+        is ≡ is_wanted (option_map (λ t. t.now) wanted.entry) (key_of thread.now)) }
+{
+    let Some(wanted) = wanted else {
+        return Ok(true);
+    };
+    let mut text = Vec::new(alloc);
+    push_thread(&mut text, thread)?;
+    Ok(text.as_slice() == wanted.as_bytes())
+}
+
+/// Appends a frame's index, range and duration.
+fn push_head(text: &mut Vec<u8>, frame: &UnpackedFrameData) -> Result<(), AllocError>
+    ensures { OnOk result (text.new.items ≡ text.old.items ++ head_text frame.now.meta) }
+{
+    push_count(text, b"frame ", frame.meta.frame_index)?;
+    push_range(text, frame.range_ns())?;
+    push_duration(text, frame.duration_ns())
+}
+
+/// The frames with an index, as far as they are still to be written.
+#[derive(Drop)]
+struct Trees<'t> {
+    lines: Lines,
+    index: FrameIndex,
+    /// The text of the thread that is wanted, or `None` if all are.
+    thread: Option<&'t str>,
+    is_found: bool,
+}
+
+impl<'t> Trees<'t> {
+    /// Appends a thread's scopes, if the thread is wanted.
+    fn add_stream(&mut self, thread: &ThreadInfo, info: &StreamInfo) -> Answer<()>
+        ensures ok { OnOk result (
+            StepsTree self.old self.new (key_of thread.now) (facts_of info.now)) }
+        ensures err { IfErr result (λ e.
+            (e ≡ Error.Memory) ⊎ IsTreeFault self.old (key_of thread.now) (facts_of info.now) e) }
+    {
+        if is_wanted(*self.lines.text.allocator(), self.thread, thread)? {
+            self.lines.add_stream(thread, info)?;
+            self.is_found = true;
+        }
+        Ok(())
+    }
+
+    /// Appends a frame with its wanted threads.
+    fn add_trees(&mut self, frame: &UnpackedFrameData) -> Answer<()>
+        ensures ok { OnOk result (
+            AddsTrees self.old self.new frame.now.meta (map.entries (streams_held frame.now))) }
+        ensures err { IfErr result (λ e.
+            (e ≡ Error.Memory)
+            ⊎ AreUnread (wanted_in self.old (map.entries (streams_held frame.now))) e) }
+    {
+        push_head(&mut self.lines.text, frame)?;
+        self.lines.range_ns = frame.meta.range_ns;
+        'streams: for (thread, info) in frame.thread_streams.iter() {
+            self.add_stream(thread, info)?;
+        }
+        Ok(())
+    }
+}
+
+impl<'t> Listing for Trees<'t> {
+    ghost use Rattle.puffin_look.specs.inner.FrameTrees.{TakesTrees, RefusesFrame, trees_none, trees_more};
+
+    ghost text = { λ v. v.lines.text.items };
+
+    ghost takes = { TakesTrees };
+
+    ghost refuses = { RefusesFrame };
+
+    ghost takes_none = { trees_none };
+
+    ghost takes_more = { trees_more };
+
+    fn add(&mut self, frame: &UnpackedFrameData, details: &[Arc<ScopeDetails>]) -> Answer<()> {
+        self.lines.known.insert_all(details)?;
+        if frame.meta.frame_index == self.index {
+            self.add_trees(frame)?;
+        }
+        Ok(())
+    }
+
+    fn pending(&self) -> &[u8] {
+        &self.lines.text
+    }
+
+    fn clear(&mut self) {
+        self.lines.text.clear();
+    }
+}
+
+/// Prints the frames of a file that have this index: for each a line with its range and duration, for each of its threads a line,
+/// and for each scope of the thread a line, indented by two blanks for each scope that it is nested in: its name by the details
+/// that the file lists up to this frame, or `#` and the id; its text in parentheses, unless it is empty; its start in the frame,
+/// its duration, and its share of what it is nested in. Times are in nanoseconds. If `thread` is given, only the thread is
+/// printed that [`print_threads`](crate::print_threads) lists by this text.
+///
+/// Returns whether a thread was printed. Fails as [`print_trace`](crate::print_trace) does; only the streams that are printed have
+/// to consist of scopes.
+pub fn print_frame<S: Source, D: Drain>(
+    alloc: Global,
+    source: &mut S,
+    drain: &mut D,
+    index: FrameIndex,
+    thread: Option<&str>,
+) -> Result<bool, FileError>
+    requires source { S.failures source.old < 2 ^ 64 - 1 }
+    requires drain { D.failures drain.old < 2 ^ 64 - 1 }
+    ensures ok { IfOk result (λ found.
+        IsPrinted (IsFrameText index (option_map (λ t. t.now) thread.entry) found)
+        (S.remaining source.old) (S.remaining source.new) (D.contents drain.old)
+        (D.contents drain.new)) }
+    ensures err { IfErr result (λ e.
+        IsStopped (IsAnyFrameText index (option_map (λ t. t.now) thread.entry))
+        (RefusesUnread (streams_at index (option_map (λ t. t.now) thread.entry)))
+        (S.remaining source.old) (S.remaining source.new) (D.contents drain.old)
+        (D.contents drain.new) e) }
+    // `Io` means that the reader or the writer failed in this call, or that the writer took no bytes.
+    ensures io { (result ≡ Err FileError.Io) → (S.failures source.new ≡ S.failures source.old + 1)
+        ⊎ ((D.failures drain.new ≡ D.failures drain.old + 1) ⊎ TookNothing D.takes drain.new) }
+    ensures failures { OnOk result (
+        (S.failures source.new ≡ S.failures source.old)
+        × (D.failures drain.new ≡ D.failures drain.old)) }
+{
+    let mut trees = Trees {
+        lines: Lines {
+            text: Vec::new(alloc),
+            known: ScopeCollection::new(alloc),
+            range_ns: (0, 0),
+        },
+        index,
+        thread,
+        is_found: false,
+    };
+    list_frames(alloc, source, drain, &mut trees)?;
+    Ok(trees.is_found)
+}

@@ -1,0 +1,160 @@
+//! The lines of a frame's scopes.
+
+ghost use Rattle.std.specs.Prelude.{◌≡◌, ◌++◌, ◌+◌, ◌<◌, ◌^◌, ◌⊎◌, codes, OnOk, IfErr};
+ghost use Rattle.std.specs.FinMap as map;
+ghost use Rattle.puffin_data.specs.declared.error.Error.{Error};
+ghost use Rattle.puffin_data.specs.Forest.{Forest};
+ghost use Rattle.puffin_data.specs.Forest.Spelling.{Spells};
+ghost use Rattle.puffin_data.specs.Honesty.{facts_of};
+ghost use Rattle.puffin_data.specs.Walk.{IsFault};
+ghost use Rattle.puffin_data.specs.Walk.FoundScopes.{found_of};
+ghost use Rattle.puffin_threads.specs.Thread.ThreadKey.{key_of};
+ghost use Rattle.puffin_look.specs.Names.{name_or_id};
+ghost use Rattle.puffin_look.specs.ThreadLines.{thread_text};
+ghost use Rattle.puffin_look.specs.FrameTree.{nested_line, length_of, forest_lines, tree_text};
+ghost use Rattle.puffin_look.specs.inner.TreeLines.{HasMoreLines};
+
+use crate::columns::{push_indent, push_numbers, push_text};
+use crate::names::{details_under, number_name};
+use crate::threads::push_thread;
+use puffin_data::data::{RawScope, StreamInfo, Visitor, text_of, walk_with};
+use puffin_data::{NanoSecond, Result as Answer};
+use puffin_threads::scope_details::ScopeCollection;
+use puffin_threads::thread_profiler::ThreadInfo;
+use std::alloc::AllocError;
+
+/// Appends the name of the scope with this id, or `#` and the id if it has no details.
+fn push_name(text: &mut Vec<u8>, known: &ScopeCollection, id: u32) -> Result<(), AllocError>
+    requires { 0 < id }
+    ensures { OnOk result (text.new.items
+        ≡ text.old.items ++ name_or_id id (map.get known.now.by_id id)) }
+{
+    match details_under(known, id) {
+        Some(details) => text.extend_from_slice(details.name().as_str().as_bytes()),
+        None => {
+            let name = number_name(*text.allocator(), id)?;
+            text.extend_from_slice(name.as_str().as_bytes())
+        }
+    }
+}
+
+/// What a walk keeps for an open scope, or for a frame: how many scopes those within it are nested in, and its duration.
+#[derive(Clone, Copy, Debug)]
+pub(crate) struct Outer {
+    pub level: usize,
+    pub time: u64,
+}
+
+/// Appends a scope's line.
+fn push_scope(
+    text: &mut Vec<u8>,
+    known: &ScopeCollection,
+    begin: NanoSecond,
+    outer: Outer,
+    scope: &RawScope,
+) -> Result<(), AllocError>
+    requires { 0 < scope.now.id }
+    ensures text { OnOk result (text.new.items ≡ text.old.items
+        ++ nested_line known.now begin outer.level outer.time (found_of scope.now).span) }
+    ensures level { OnOk result (outer.level < 2 ^ 63) }
+{
+    push_indent(text, outer.level)?;
+    push_name(text, known, scope.id)?;
+    push_text(text, text_of(scope.text))?;
+    let time = scope.stop.abs_diff(scope.start);
+    push_numbers(text, begin, scope.start, time, outer.time)
+}
+
+/// The lines that are still to be written, and what the next ones depend on.
+#[derive(Drop)]
+pub(crate) struct Lines {
+    pub text: Vec<u8>,
+    pub known: ScopeCollection,
+    /// The range of the frame whose scopes are met.
+    pub range_ns: (NanoSecond, NanoSecond),
+}
+
+impl<'s> Visitor<'s> for Lines {
+    ghost use Rattle.puffin_look.specs.inner.TreeLines.{TakesScopes, StandsFor, scopes_none, scopes_more, still_stands};
+
+    type Within = Outer;
+
+    ghost takes = { TakesScopes };
+
+    ghost refuses = { λ _ _ _. ⊥ };
+
+    ghost stands_for = { StandsFor };
+
+    ghost takes_none = { scopes_none };
+
+    ghost takes_more = { scopes_more };
+
+    ghost still_stands = { still_stands };
+
+    fn enter(&mut self, within: Outer, scope: &RawScope<'s>) -> Answer<Outer> {
+        push_scope(&mut self.text, &self.known, self.range_ns.0, within, scope)?;
+        Ok(Outer {
+            level: within.level + 1,
+            time: scope.stop.abs_diff(scope.start),
+        })
+    }
+}
+
+impl Lines {
+    /// Appends a thread's line.
+    fn push_head(&mut self, thread: &ThreadInfo) -> Result<(), AllocError>
+        ensures { OnOk result (HasMoreLines self.old self.new
+            (codes "thread " ++ (thread_text (key_of thread.now) ++ codes "\n"))) }
+    {
+        self.text.extend_from_slice(b"thread ")?;
+        push_thread(&mut self.text, thread)?;
+        self.text.extend_from_slice(b"\n")
+    }
+
+    /// Returns what the top-level scopes are nested in: the frame.
+    fn outside(&self) -> Outer
+        ensures level { result.level ≡ 0 }
+        ensures time { result.time ≡ length_of self.now.range_ns }
+    {
+        Outer {
+            level: 0,
+            time: self.range_ns.1.abs_diff(self.range_ns.0),
+        }
+    }
+
+    /// Appends a thread's line and those of its scopes. Fails with the first fault of the stream, or with `Memory`.
+    pub(crate) fn add_stream(&mut self, thread: &ThreadInfo, info: &StreamInfo) -> Answer<()>
+        ensures ok { OnOk result ((f : Forest)
+            × Spells (facts_of info.now).form (facts_of info.now).bytes f
+            × HasMoreLines self.old self.new
+            (tree_text self.old.known self.old.range_ns (key_of thread.now, f))) }
+        ensures err { IfErr result (λ e.
+            (e ≡ Error.Memory) ⊎ IsFault (facts_of info.now).form (facts_of info.now).bytes e) }
+    {
+        self.push_head(thread)?;
+        self.add_scopes(info)
+    }
+
+    /// Appends the lines of a stream's scopes. Fails as [`Lines::add_stream`] does.
+    fn add_scopes(&mut self, info: &StreamInfo) -> Answer<()>
+        ensures ok { OnOk result ((f : Forest)
+            × Spells (facts_of info.now).form (facts_of info.now).bytes f
+            × HasMoreLines self.old self.new
+            (forest_lines self.old.known self.old.range_ns f)) }
+        ensures err { IfErr result (λ e.
+            (e ≡ Error.Memory) ⊎ IsFault (facts_of info.now).form (facts_of info.now).bytes e) }
+    {
+        let alloc = *self.text.allocator();
+        let outside = self.outside();
+        let mut tries = 0;
+        let stream = &info.stream;
+        walk_with(
+            alloc,
+            stream.form(),
+            stream.bytes(),
+            self,
+            outside,
+            &mut tries,
+        )
+    }
+}
