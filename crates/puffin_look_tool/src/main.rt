@@ -3,7 +3,9 @@
 
 use puffin_data::FileError;
 use puffin_data::data::{Buffered, Counted};
-use puffin_look::{View, print_frame, print_frames, print_slowest, print_threads, print_trace, read_words};
+use puffin_look::{
+    View, print_frame, print_frames, print_slowest, print_threads, print_trace, read_words,
+};
 use std::fs::File;
 use std::io::BufReader;
 use std::process::ExitCode;
