@@ -27,7 +27,8 @@ const FRAMES: &[u8] = b"frame 0 threads 1 scopes 1 range 100 300 duration 200\n\
 frame 1 threads 1 scopes 1 range 400 401 duration 1\n";
 
 /// The trace of [`FILE`].
-const TRACE: &[u8] = b"[{\"ph\":\"M\",\"pid\":1,\"name\":\"process_name\",\"args\":{\"name\":\"puffin\"}},\n\
+const TRACE: &[u8] =
+    b"[{\"ph\":\"M\",\"pid\":1,\"name\":\"process_name\",\"args\":{\"name\":\"puffin\"}},\n\
 {\"ph\":\"i\",\"s\":\"p\",\"pid\":1,\"tid\":0,\"ts\":0.000,\"name\":\"frame 0\",\"args\":{\"start\":100,\"stop\":300}},\n\
 {\"ph\":\"M\",\"pid\":1,\"tid\":1,\"name\":\"thread_name\",\"args\":{\"name\":\"main\",\"start\":\"100\"}},\n\
 {\"ph\":\"X\",\"pid\":1,\"tid\":1,\"ts\":0.000,\"dur\":0.200,\"name\":\"#1\",\"args\":{\"text\":\"data\"}},\n\
