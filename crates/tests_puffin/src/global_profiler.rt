@@ -5,7 +5,7 @@ ghost use Rattle.puffin_data.specs.Honesty.{IsHonest, IsHonestReport};
 use crate::equal::equal;
 use puffin::data::{Stream, StreamInfo, StreamInfoRef};
 use puffin::frame_data::FrameData;
-use puffin::global_profiler::{GlobalProfiler, Totals};
+use puffin::global_profiler::{Emitted, GlobalProfiler, Totals};
 use puffin::thread_profiler::{Reporter, ThreadInfo};
 use puffin::{Error, NanoSecond, Result};
 use std::process::Abort;
@@ -96,9 +96,9 @@ pub(crate) fn holds<R: AllocGlobal + Abort>(
 
 /// The only frame that is emitted now.
 pub(crate) fn emitted<R: Wait + Abort>(rt: &R, profiler: &mut GlobalProfiler) -> Arc<FrameData> {
-    let emitted = profiler.new_frame(rt).expect(rt, "a frame");
-    equal(rt, emitted.refused, 0);
-    emitted.frame.expect(rt, "a frame")
+    let Emitted { frame, refused } = profiler.new_frame(rt).expect(rt, "a frame");
+    equal(rt, refused, 0);
+    frame.expect(rt, "a frame")
 }
 
 /// The frame of three scopes under two threads.
