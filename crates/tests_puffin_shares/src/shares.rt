@@ -6,7 +6,7 @@ ghost use Rattle.puffin.specs.Profiler.{collected_of};
 use crate::equal::equal;
 use puffin::data::{Form, ScopeId};
 use puffin::frame_data::FrameData;
-use puffin::global_profiler::{GlobalProfiler, Share, SharedProfiler, SharedReporter};
+use puffin::global_profiler::{Emitted, GlobalProfiler, Share, SharedProfiler, SharedReporter};
 use puffin::thread_profiler::{Closed, ScriptClock, ThreadProfiler};
 use std::alloc::Global;
 use std::process::Abort;
@@ -82,7 +82,7 @@ pub(crate) fn next_frame<L: Ledger, M: Ledger, R: Wait + Abort>(
     profiler: &SharedProfiler<L, M>,
     share: &mut Share<L, M>,
 ) -> Arc<FrameData> {
-    let emitted = profiler.new_frame(rt, share).expect(rt, "a frame");
-    equal(rt, emitted.refused, 0);
-    emitted.frame.expect(rt, "a frame")
+    let Emitted { frame, refused } = profiler.new_frame(rt, share).expect(rt, "a frame");
+    equal(rt, refused, 0);
+    frame.expect(rt, "a frame")
 }
