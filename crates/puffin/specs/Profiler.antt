@@ -1,4 +1,5 @@
 -- What contracts see of a profiler: what it collects, and its sinks.
+pub mod Calls
 use Rattle.std.specs.Prelude.{◌≡◌, ℕ, List, []}
 use Rattle.puffin_collector.specs.Collector.State.{Collected, nothing_collected}
 use Rattle.puffin.specs.declared.global_profiler.profiler.GlobalProfiler.{GlobalProfiler}

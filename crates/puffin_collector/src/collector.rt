@@ -7,7 +7,7 @@ ghost use Rattle.puffin_frames.specs.Frame.Contents.{AreHonest};
 ghost use Rattle.puffin_frames.specs.Frame.Sums.{total_scopes};
 ghost use Rattle.puffin_collector.specs.Collector.State.{nothing_collected, after_adding, after_learning, after_wanting};
 ghost use Rattle.puffin_collector.specs.Collector.Registering.{known_id, Adds, AddsSome};
-ghost use Rattle.puffin_collector.specs.Collector.Collecting.{Collects, TellsIds, KeepsPending, KnowsSome};
+ghost use Rattle.puffin_collector.specs.Collector.Collecting.{CollectsFrame, CountsScopes, KnowsSome};
 ghost use Rattle.puffin_collector.specs.inner.HandingOut.{HoldsPending, after_handing_out};
 
 use crate::delta::scope_delta;
@@ -171,15 +171,7 @@ impl Collector {
     /// only with `Memory`; nothing changes then, except that the first few of the new details, or all of them, may be known.
     #[tactic(auto, using(puffin_frames::proofs::lemmas::Honest::no_scopes_there,))]
     pub fn collect_frame(&mut self) -> Result<Option<Arc<FrameData>>>
-        ensures ok { IfOk result (λ frame. Collects self.old frame self.new) }
-        // All details that a frame lists have ids.
-        ensures ids { IfOk result TellsIds }
-        ensures honest { AreHonest self.old.streams }
-        // Each reported scope is pending or was handed out.
-        ensures sum { self.old.reported
-            ≡ self.old.emitted + total_scopes (map.values self.old.streams) }
-        ensures exhausted { (result ≡ Err Error.IndexExhausted) ↔ (self.old.index ≡ 2 ^ 64 - 1) }
-        ensures err { IfErr result (λ e. KeepsPending self.old e self.new) }
+        ensures { CollectsFrame (λ frame. frame) self.old result self.new }
     {
         let Some(next) = self.meta.frame_index.checked_add(1) else {
             return Err(Error::IndexExhausted);
@@ -237,11 +229,7 @@ impl Collector {
 
     /// Returns how many scopes were reported, are pending, and were handed out. Allocates nothing.
     pub fn totals(&self) -> Totals
-        ensures reported { result.reported ≡ self.now.reported }
-        ensures pending { result.pending ≡ total_scopes (map.values self.now.streams) }
-        ensures emitted { result.emitted ≡ self.now.emitted }
-        // At any time, what is pending is honest.
-        ensures honest { AreHonest self.now.streams }
+        ensures { CountsScopes self.now result }
     {
         Totals {
             reported: self.reported,

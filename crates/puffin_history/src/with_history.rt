@@ -11,7 +11,8 @@ ghost use Rattle.puffin_frames.specs.Frame.Contents.{AreHonest, frame_details};
 ghost use Rattle.puffin_frames.specs.Frame.Sums.{total_scopes};
 ghost use Rattle.puffin_collector.specs.Collector.State.{AcceptsReport, RefusesReport, after_learning, after_wanting};
 ghost use Rattle.puffin_collector.specs.Collector.Registering.{Adds, AddsSome};
-ghost use Rattle.puffin_collector.specs.Collector.Collecting.{Collects, TellsIds, KeepsPending, KnowsSome};
+ghost use Rattle.puffin_collector.specs.Collector.Collecting.{CountsScopes};
+ghost use Rattle.puffin.specs.Profiler.Calls.{TakesReport, RegistersScopes, HandsOutFrame, AddsFrame, AddsSink, RemovesSink};
 ghost use Rattle.puffin.specs.Profiler.{collected_of, SameSinks};
 ghost use Rattle.puffin.specs.Sinks.{PutsIn, TakesOut, HasNone};
 ghost use Rattle.puffin.specs.Sinks.Handing.{HandsOn, HandsOnAny};
@@ -27,7 +28,7 @@ use crate::leaving::leave_all;
 use crate::parts::Parts;
 use crate::share::HistoryShare;
 use history::{History, Log};
-use puffin::global_profiler::{FrameSinkId, GlobalProfiler, Settled, Sink};
+use puffin::global_profiler::{FrameSink, FrameSinkId, GlobalProfiler, Settled, Sink};
 use puffin_collector::{Emitted, Totals};
 use puffin_data::data::{ScopeId, StreamInfoRef};
 use puffin_data::{Error, Result};
@@ -110,23 +111,16 @@ impl<L: Ledger + History, M: Ledger> WithHistory<L, M> {
         times: &StreamInfoRef,
     ) -> Result<()>
         requires { IsHonestReport times.now }
-        ensures ok { OnOk result (
-            AcceptsReport (collected_in self.old) (key_of info)
-            (details_seen details.now) (facts_of_ref times.now)
-            (collected_in self.new)) }
+        ensures reported { TakesReport (profiler_of self.old) (key_of info)
+            (details_seen details.now) (facts_of_ref times.now) result (profiler_of self.new) }
         ensures counted { OnOk result (
             share.new.counts ≡ with_reported share.old.counts times.now.num_scopes) }
         ensures told { OnOk result (
             Tells share.old (reported (key_of info) (facts_of_ref times.now))
             (entries_of self.old) share.new) }
         ensures log { OnOk result (entries_of self.new ≡ share.new.seen) }
-        ensures err { IfErr result (λ e.
-            RefusesReport (collected_in self.old) (key_of info)
-            (details_seen details.now) (facts_of_ref times.now) e
-            (collected_in self.new)) }
         ensures unchanged { OnErr result (
             (share.new ≡ share.old) × (entries_of self.new ≡ entries_of self.old)) }
-        ensures sinks { SameSinks (profiler_of self.old) (profiler_of self.new) }
     {
         let key = Snapshot::of(&info);
         self.profiler.report(info, details, times)?;
@@ -147,21 +141,16 @@ impl<L: Ledger + History, M: Ledger> WithHistory<L, M> {
         times: &StreamInfoRef,
     ) -> Result<()>
         requires { IsHonestReport times.now }
-        ensures ok { OnOk result (
-            AcceptsReport (collected_in self.old) (key_of info) []
-            (facts_of_ref times.now) (collected_in self.new)) }
+        ensures reported { TakesReport (profiler_of self.old) (key_of info) []
+            (facts_of_ref times.now) result (profiler_of self.new) }
         ensures counted { OnOk result (
             share.new.counts ≡ with_reported share.old.counts times.now.num_scopes) }
         ensures told { OnOk result (
             Tells share.old (reported (key_of info) (facts_of_ref times.now))
             (entries_of self.old) share.new) }
         ensures log { OnOk result (entries_of self.new ≡ share.new.seen) }
-        ensures err { IfErr result (λ e.
-            RefusesReport (collected_in self.old) (key_of info) []
-            (facts_of_ref times.now) e (collected_in self.new)) }
         ensures unchanged { OnErr result (
             (share.new ≡ share.old) × (entries_of self.new ≡ entries_of self.old)) }
-        ensures sinks { SameSinks (profiler_of self.old) (profiler_of self.new) }
     {
         self.report(share, info, &[], times)
     }
@@ -173,13 +162,8 @@ impl<L: Ledger + History, M: Ledger> WithHistory<L, M> {
         details: &[ScopeDetails],
     ) -> Result<Vec<ScopeId>>
         requires boxed_sinks { ⊤ }
-        ensures ok { IfOk result (λ scope_ids.
-            Adds (collected_in self.old) (details_seen details.now) scope_ids.items
-            (collected_in self.new)) }
-        ensures err { IfErr result (λ e.
-            AddsSome (collected_in self.old) (details_seen details.now) e
-            (collected_in self.new)) }
-        ensures sinks { SameSinks (profiler_of self.old) (profiler_of self.new) }
+        ensures registered { RegistersScopes (λ scope_ids. scope_ids.items)
+            (profiler_of self.old) (details_seen details.now) result (profiler_of self.new) }
         ensures log { entries_of self.new ≡ entries_of self.old }
     {
         self.profiler.register_user_scopes(ids, details)
@@ -200,25 +184,13 @@ impl<L: Ledger + History, M: Ledger> WithHistory<L, M> {
     /// the history's next entry.
     pub fn new_frame<R: Wait>(&mut self, rt: &R, share: &mut HistoryShare<L, M>) -> Result<Emitted>
         requires boxed_sinks { ⊤ }
-        ensures ok { IfOk result (λ emitted.
-            Collects (collected_in self.old) emitted.frame
-            (collected_in self.new)) }
-        ensures ids { IfOk result (λ emitted. TellsIds emitted.frame) }
+        ensures handed_out { HandsOutFrame (λ b. (FrameSink-box b).accepts)
+            (profiler_of self.old) result (profiler_of self.new) }
         ensures counted { IfOk result (λ emitted.
             CountsFrame share.old.counts emitted.frame share.new.counts) }
         ensures taken { IfOk result (λ emitted. TakesFrame share.old emitted.frame share.new) }
-        ensures honest { AreHonest (collected_in self.old).streams }
-        ensures sum { (collected_in self.old).reported
-            ≡ (collected_in self.old).emitted
-            + total_scopes (map.values (collected_in self.old).streams) }
-        ensures exhausted { (result ≡ Err Error.IndexExhausted)
-            ↔ ((collected_in self.old).index ≡ 2 ^ 64 - 1) }
-        ensures err { IfErr result (λ e.
-            KeepsPending (collected_in self.old) e (collected_in self.new)) }
-        ensures kept { OnErr result (sinks_in self.new ≡ sinks_in self.old) }
         ensures unchanged { OnErr result (
             (share.new ≡ share.old) × (entries_of self.new ≡ entries_of self.old)) }
-        ensures next { next_sink_in self.new ≡ next_sink_in self.old }
     {
         let Emitted { frame, refused } = self.profiler.new_frame(rt)?;
         let Some(frame) = frame else {
@@ -241,19 +213,8 @@ impl<L: Ledger + History, M: Ledger> WithHistory<L, M> {
     /// entry of the history.
     pub fn add_frame<R: Wait>(&mut self, rt: &R, frame: Arc<FrameData>) -> Result<usize>
         requires boxed_sinks { ⊤ }
-        ensures learnt { OnOk result (
-            collected_in self.new
-            ≡ after_learning (collected_in self.old) (frame_details (arc_value frame))) }
-        ensures missing { (result ≡ Err Error.MissingId)
-            ↔ IsTrue (list_any lacks_id (frame_details (arc_value frame))) }
-        ensures unchanged { (result ≡ Err Error.MissingId) →
-            collected_in self.new ≡ collected_in self.old }
-        ensures cause { IfErr result IsDetailsCause }
-        ensures known { OnErr result (
-            KnowsSome (collected_in self.old) (frame_details (arc_value frame))
-            (collected_in self.new)) }
-        ensures kept { OnErr result (sinks_in self.new ≡ sinks_in self.old) }
-        ensures next { next_sink_in self.new ≡ next_sink_in self.old }
+        ensures added { AddsFrame (λ b. (FrameSink-box b).accepts)
+            (profiler_of self.old) (arc_value frame) result (profiler_of self.new) }
         ensures log { entries_of self.new ≡ entries_of self.old }
     {
         self.profiler.add_frame(rt, frame)
@@ -262,18 +223,7 @@ impl<L: Ledger + History, M: Ledger> WithHistory<L, M> {
     /// Adds a sink as [`GlobalProfiler::add_sink`] does.
     pub fn add_sink(&mut self, sink: Sink) -> std::result::Result<FrameSinkId, (Error, Sink)>
         requires boxed_sinks { ⊤ }
-        ensures ok { IfOk result (λ id.
-            (id ≡ next_sink_in self.old)
-            × (next_sink_in self.new ≡ next_sink_in self.old + 1)
-            × PutsIn id sink (sinks_in self.old) (sinks_in self.new)) }
-        ensures err { IfErr result (λ e.
-            (e.1 ≡ sink)
-            × (sinks_in self.new ≡ sinks_in self.old)
-            × (next_sink_in self.new ≡ next_sink_in self.old)) }
-        ensures cause { IfErr result (λ e.
-            ((e.0 ≡ Error.SinkIdsExhausted) × (next_sink_in self.old ≡ 2 ^ 64 - 1))
-            ⊎ ((e.0 ≡ Error.Memory) × (next_sink_in self.old < 2 ^ 64 - 1))) }
-        ensures rest { collected_in self.new ≡ collected_in self.old }
+        ensures added { AddsSink (profiler_of self.old) sink result (profiler_of self.new) }
         ensures log { entries_of self.new ≡ entries_of self.old }
     {
         self.profiler.add_sink(sink)
@@ -282,13 +232,7 @@ impl<L: Ledger + History, M: Ledger> WithHistory<L, M> {
     /// Removes a sink as [`GlobalProfiler::remove_sink`] does.
     pub fn remove_sink(&mut self, id: FrameSinkId) -> Option<Sink>
         requires boxed_sinks { ⊤ }
-        ensures some { IfSome result (λ sink.
-            TakesOut id sink (sinks_in self.old) (sinks_in self.new)) }
-        ensures none { IfNone result (
-            HasNone id (sinks_in self.old)
-            × (sinks_in self.new ≡ sinks_in self.old)) }
-        ensures next { next_sink_in self.new ≡ next_sink_in self.old }
-        ensures rest { collected_in self.new ≡ collected_in self.old }
+        ensures removed { RemovesSink (profiler_of self.old) id result (profiler_of self.new) }
         ensures log { entries_of self.new ≡ entries_of self.old }
     {
         self.profiler.remove_sink(id)
@@ -298,10 +242,7 @@ impl<L: Ledger + History, M: Ledger> WithHistory<L, M> {
     /// scopes reported and handed out. The share doesn't change.
     pub fn totals(&mut self, share: &mut HistoryShare<L, M>) -> Totals
         requires boxed_sinks { ⊤ }
-        ensures reported { result.reported ≡ (collected_in self.old).reported }
-        ensures pending { result.pending
-            ≡ total_scopes (map.values (collected_in self.old).streams) }
-        ensures emitted { result.emitted ≡ (collected_in self.old).emitted }
+        ensures counted { CountsScopes (collected_in self.old) result }
         ensures own { (share.old.counts.reported ≤ result.reported)
             × (share.old.counts.handed ≤ result.emitted) }
         ensures same { (profiler_of self.new ≡ profiler_of self.old)

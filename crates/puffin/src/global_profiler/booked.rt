@@ -10,7 +10,8 @@ ghost use Rattle.puffin_frames.specs.Frame.Contents.{AreHonest, frame_details};
 ghost use Rattle.puffin_frames.specs.Frame.Sums.{total_scopes};
 ghost use Rattle.puffin_collector.specs.Collector.State.{AcceptsReport, RefusesReport, after_learning, after_wanting};
 ghost use Rattle.puffin_collector.specs.Collector.Registering.{Adds, AddsSome};
-ghost use Rattle.puffin_collector.specs.Collector.Collecting.{Collects, TellsIds, KeepsPending, KnowsSome};
+ghost use Rattle.puffin_collector.specs.Collector.Collecting.{CountsScopes};
+ghost use Rattle.puffin.specs.Profiler.Calls.{TakesReport, RegistersScopes, HandsOutFrame, AddsFrame, AddsSink, RemovesSink};
 ghost use Rattle.puffin.specs.Profiler.{collected_of, SameSinks};
 ghost use Rattle.puffin.specs.Sinks.{PutsIn, TakesOut, HasNone};
 ghost use Rattle.puffin.specs.Sinks.Handing.{HandsOn, HandsOnAny};
@@ -103,18 +104,11 @@ impl<L: Ledger, M: Ledger> Booked<L, M> {
         times: &StreamInfoRef,
     ) -> Result<()>
         requires { IsHonestReport times.now }
-        ensures ok { OnOk result (
-            AcceptsReport (collected_in self.old) (key_of info)
-            (details_seen details.now) (facts_of_ref times.now)
-            (collected_in self.new)) }
+        ensures reported { TakesReport (profiler_of self.old) (key_of info)
+            (details_seen details.now) (facts_of_ref times.now) result (profiler_of self.new) }
         ensures counted { OnOk result (
             share.new ≡ with_reported share.old times.now.num_scopes) }
-        ensures err { IfErr result (λ e.
-            RefusesReport (collected_in self.old) (key_of info)
-            (details_seen details.now) (facts_of_ref times.now) e
-            (collected_in self.new)) }
         ensures uncounted { OnErr result (share.new ≡ share.old) }
-        ensures sinks { SameSinks (profiler_of self.old) (profiler_of self.new) }
     {
         self.profiler.report(info, details, times)?;
         self.reported
@@ -131,16 +125,11 @@ impl<L: Ledger, M: Ledger> Booked<L, M> {
         times: &StreamInfoRef,
     ) -> Result<()>
         requires { IsHonestReport times.now }
-        ensures ok { OnOk result (
-            AcceptsReport (collected_in self.old) (key_of info) []
-            (facts_of_ref times.now) (collected_in self.new)) }
+        ensures reported { TakesReport (profiler_of self.old) (key_of info) []
+            (facts_of_ref times.now) result (profiler_of self.new) }
         ensures counted { OnOk result (
             share.new ≡ with_reported share.old times.now.num_scopes) }
-        ensures err { IfErr result (λ e.
-            RefusesReport (collected_in self.old) (key_of info) []
-            (facts_of_ref times.now) e (collected_in self.new)) }
         ensures uncounted { OnErr result (share.new ≡ share.old) }
-        ensures sinks { SameSinks (profiler_of self.old) (profiler_of self.new) }
     {
         self.report(share, info, &[], times)
     }
@@ -152,13 +141,8 @@ impl<L: Ledger, M: Ledger> Booked<L, M> {
         details: &[ScopeDetails],
     ) -> Result<Vec<ScopeId>>
         requires boxed_sinks { ⊤ }
-        ensures ok { IfOk result (λ scope_ids.
-            Adds (collected_in self.old) (details_seen details.now) scope_ids.items
-            (collected_in self.new)) }
-        ensures err { IfErr result (λ e.
-            AddsSome (collected_in self.old) (details_seen details.now) e
-            (collected_in self.new)) }
-        ensures sinks { SameSinks (profiler_of self.old) (profiler_of self.new) }
+        ensures { RegistersScopes (λ scope_ids. scope_ids.items)
+            (profiler_of self.old) (details_seen details.now) result (profiler_of self.new) }
     {
         self.profiler.register_user_scopes(ids, details)
     }
@@ -176,26 +160,11 @@ impl<L: Ledger, M: Ledger> Booked<L, M> {
     /// Hands out a frame as [`GlobalProfiler::new_frame`] does. If there is one, the share counts its scopes.
     pub fn new_frame<R: Wait>(&mut self, rt: &R, share: &mut Share<L, M>) -> Result<Emitted>
         requires boxed_sinks { ⊤ }
-        ensures ok { IfOk result (λ emitted.
-            Collects (collected_in self.old) emitted.frame
-            (collected_in self.new)) }
-        ensures ids { IfOk result (λ emitted. TellsIds emitted.frame) }
-        ensures handed { IfOk result (λ emitted.
-            HandsOnAny (λ b. (FrameSink-box b).accepts) emitted.frame (sinks_in self.old)
-            emitted.refused (sinks_in self.new)) }
+        ensures handed_out { HandsOutFrame (λ b. (FrameSink-box b).accepts)
+            (profiler_of self.old) result (profiler_of self.new) }
         ensures counted { IfOk result (λ emitted.
             CountsFrame share.old emitted.frame share.new) }
-        ensures honest { AreHonest (collected_in self.old).streams }
-        ensures sum { (collected_in self.old).reported
-            ≡ (collected_in self.old).emitted
-            + total_scopes (map.values (collected_in self.old).streams) }
-        ensures exhausted { (result ≡ Err Error.IndexExhausted)
-            ↔ ((collected_in self.old).index ≡ 2 ^ 64 - 1) }
-        ensures err { IfErr result (λ e.
-            KeepsPending (collected_in self.old) e (collected_in self.new)) }
-        ensures kept { OnErr result (sinks_in self.new ≡ sinks_in self.old) }
         ensures uncounted { OnErr result (share.new ≡ share.old) }
-        ensures next { next_sink_in self.new ≡ next_sink_in self.old }
     {
         let Emitted { frame, refused } = self.profiler.new_frame(rt)?;
         let Some(frame) = frame else {
@@ -215,22 +184,8 @@ impl<L: Ledger, M: Ledger> Booked<L, M> {
     /// Hands a frame that was made elsewhere to the sinks, as [`GlobalProfiler::add_frame`] does. No share counts it.
     pub fn add_frame<R: Wait>(&mut self, rt: &R, frame: Arc<FrameData>) -> Result<usize>
         requires boxed_sinks { ⊤ }
-        ensures learnt { OnOk result (
-            collected_in self.new
-            ≡ after_learning (collected_in self.old) (frame_details (arc_value frame))) }
-        ensures handed { IfOk result (λ refused.
-            HandsOn (λ b. (FrameSink-box b).accepts) (arc_value frame)
-            (sinks_in self.old) refused (sinks_in self.new)) }
-        ensures missing { (result ≡ Err Error.MissingId)
-            ↔ IsTrue (list_any lacks_id (frame_details (arc_value frame))) }
-        ensures unchanged { (result ≡ Err Error.MissingId) →
-            collected_in self.new ≡ collected_in self.old }
-        ensures cause { IfErr result IsDetailsCause }
-        ensures known { OnErr result (
-            KnowsSome (collected_in self.old) (frame_details (arc_value frame))
-            (collected_in self.new)) }
-        ensures kept { OnErr result (sinks_in self.new ≡ sinks_in self.old) }
-        ensures next { next_sink_in self.new ≡ next_sink_in self.old }
+        ensures { AddsFrame (λ b. (FrameSink-box b).accepts)
+            (profiler_of self.old) (arc_value frame) result (profiler_of self.new) }
     {
         self.profiler.add_frame(rt, frame)
     }
@@ -238,18 +193,7 @@ impl<L: Ledger, M: Ledger> Booked<L, M> {
     /// Adds a sink as [`GlobalProfiler::add_sink`] does.
     pub fn add_sink(&mut self, sink: Sink) -> std::result::Result<FrameSinkId, (Error, Sink)>
         requires boxed_sinks { ⊤ }
-        ensures ok { IfOk result (λ id.
-            (id ≡ next_sink_in self.old)
-            × (next_sink_in self.new ≡ next_sink_in self.old + 1)
-            × PutsIn id sink (sinks_in self.old) (sinks_in self.new)) }
-        ensures err { IfErr result (λ e.
-            (e.1 ≡ sink)
-            × (sinks_in self.new ≡ sinks_in self.old)
-            × (next_sink_in self.new ≡ next_sink_in self.old)) }
-        ensures cause { IfErr result (λ e.
-            ((e.0 ≡ Error.SinkIdsExhausted) × (next_sink_in self.old ≡ 2 ^ 64 - 1))
-            ⊎ ((e.0 ≡ Error.Memory) × (next_sink_in self.old < 2 ^ 64 - 1))) }
-        ensures rest { collected_in self.new ≡ collected_in self.old }
+        ensures { AddsSink (profiler_of self.old) sink result (profiler_of self.new) }
     {
         self.profiler.add_sink(sink)
     }
@@ -257,13 +201,7 @@ impl<L: Ledger, M: Ledger> Booked<L, M> {
     /// Removes a sink as [`GlobalProfiler::remove_sink`] does.
     pub fn remove_sink(&mut self, id: FrameSinkId) -> Option<Sink>
         requires boxed_sinks { ⊤ }
-        ensures some { IfSome result (λ sink.
-            TakesOut id sink (sinks_in self.old) (sinks_in self.new)) }
-        ensures none { IfNone result (
-            HasNone id (sinks_in self.old)
-            × (sinks_in self.new ≡ sinks_in self.old)) }
-        ensures next { next_sink_in self.new ≡ next_sink_in self.old }
-        ensures rest { collected_in self.new ≡ collected_in self.old }
+        ensures { RemovesSink (profiler_of self.old) id result (profiler_of self.new) }
     {
         self.profiler.remove_sink(id)
     }
@@ -272,11 +210,7 @@ impl<L: Ledger, M: Ledger> Booked<L, M> {
     /// counts of scopes reported and handed out. The share doesn't change.
     pub fn totals(&mut self, share: &mut Share<L, M>) -> Totals
         requires boxed_sinks { ⊤ }
-        ensures reported { result.reported ≡ (collected_in self.old).reported }
-        ensures pending { result.pending
-            ≡ total_scopes (map.values (collected_in self.old).streams) }
-        ensures emitted { result.emitted ≡ (collected_in self.old).emitted }
-        ensures honest { AreHonest (collected_in self.old).streams }
+        ensures counted { CountsScopes (collected_in self.old) result }
         ensures own { (share.old.reported ≤ result.reported)
             × (share.old.handed ≤ result.emitted) }
         ensures same { (profiler_of self.new ≡ profiler_of self.old) × (share.new ≡ share.old) }

@@ -10,7 +10,8 @@ ghost use Rattle.puffin_frames.specs.Frame.Contents.{AreHonest, frame_details};
 ghost use Rattle.puffin_frames.specs.Frame.Sums.{total_scopes};
 ghost use Rattle.puffin_collector.specs.Collector.State.{AcceptsReport, RefusesReport, after_learning, after_wanting};
 ghost use Rattle.puffin_collector.specs.Collector.Registering.{Adds, AddsSome};
-ghost use Rattle.puffin_collector.specs.Collector.Collecting.{Collects, TellsIds, KeepsPending, KnowsSome};
+ghost use Rattle.puffin_collector.specs.Collector.Collecting.{CollectsFrame, CountsScopes, KnowsSome};
+ghost use Rattle.puffin.specs.Profiler.Calls.{TakesReport, RegistersScopes, HandsOutFrame, AddsFrame, AddsSink, RemovesSink};
 ghost use Rattle.puffin.specs.Profiler.{collected_of, sinks_of, next_sink_of, SameSinks, IsNewProfiler};
 ghost use Rattle.puffin.specs.Sinks.{PutsIn, TakesOut, HasNone};
 ghost use Rattle.puffin.specs.Sinks.Handing.{HandsOn, HandsOnAny};
@@ -81,13 +82,8 @@ impl GlobalProfiler {
         times: &StreamInfoRef,
     ) -> Result<()>
         requires { IsHonestReport times.now }
-        ensures ok { OnOk result (
-            AcceptsReport (collected_of self.old) (key_of info) (details_seen details.now)
-            (facts_of_ref times.now) (collected_of self.new)) }
-        ensures err { IfErr result (λ e.
-            RefusesReport (collected_of self.old) (key_of info) (details_seen details.now)
-            (facts_of_ref times.now) e (collected_of self.new)) }
-        ensures sinks { SameSinks self.old self.new }
+        ensures { TakesReport self.old (key_of info) (details_seen details.now)
+            (facts_of_ref times.now) result self.new }
     {
         self.collector.report(info, details, times)
     }
@@ -95,13 +91,7 @@ impl GlobalProfiler {
     /// Appends the caller's own scopes to the pending ones, as [`Collector::report_user_scopes`] does. Fails in the same cases.
     pub fn report_user_scopes(&mut self, info: ThreadInfo, times: &StreamInfoRef) -> Result<()>
         requires { IsHonestReport times.now }
-        ensures ok { OnOk result (
-            AcceptsReport (collected_of self.old) (key_of info) [] (facts_of_ref times.now)
-            (collected_of self.new)) }
-        ensures err { IfErr result (λ e.
-            RefusesReport (collected_of self.old) (key_of info) [] (facts_of_ref times.now) e
-            (collected_of self.new)) }
-        ensures sinks { SameSinks self.old self.new }
+        ensures { TakesReport self.old (key_of info) [] (facts_of_ref times.now) result self.new }
     {
         self.collector.report_user_scopes(info, times)
     }
@@ -114,13 +104,8 @@ impl GlobalProfiler {
         details: &[ScopeDetails],
     ) -> Result<Vec<ScopeId>>
         requires boxed_sinks { ⊤ }
-        ensures ok { IfOk result (λ scope_ids.
-            Adds (collected_of self.old) (details_seen details.now) scope_ids.items (
-            collected_of self.new)) }
-        ensures err { IfErr result (λ e.
-            AddsSome (collected_of self.old) (details_seen details.now) e (
-            collected_of self.new)) }
-        ensures sinks { SameSinks self.old self.new }
+        ensures { RegistersScopes (λ scope_ids. scope_ids.items) self.old
+            (details_seen details.now) result self.new }
     {
         self.collector.register_user_scopes(ids, details)
     }
@@ -173,18 +158,8 @@ impl GlobalProfiler {
     /// ```
     pub fn collect_frame(&mut self) -> Result<Option<Arc<FrameData>>>
         requires boxed_sinks { ⊤ }
-        ensures ok { IfOk result (λ frame.
-            Collects (collected_of self.old) frame (collected_of self.new)) }
-        // All of the frame's details have ids.
-        ensures ids { IfOk result TellsIds }
-        ensures honest { AreHonest (collected_of self.old).streams }
-        // Each reported scope is pending or was handed out.
-        ensures sum { (collected_of self.old).reported ≡ (collected_of self.old).emitted
-            + total_scopes (map.values (collected_of self.old).streams) }
-        ensures exhausted { (result ≡ Err Error.IndexExhausted)
-            ↔ ((collected_of self.old).index ≡ 2 ^ 64 - 1) }
-        ensures err { IfErr result (λ e.
-            KeepsPending (collected_of self.old) e (collected_of self.new)) }
+        ensures collected { CollectsFrame (λ frame. frame) (collected_of self.old) result
+            (collected_of self.new) }
         ensures sinks { SameSinks self.old self.new }
     {
         self.collector.collect_frame()
@@ -198,23 +173,7 @@ impl GlobalProfiler {
     /// Fails as [`Collector::collect_frame`] does, before any sink is called.
     pub fn new_frame<R: Wait>(&mut self, rt: &R) -> Result<Emitted>
         requires boxed_sinks { ⊤ }
-        ensures ok { IfOk result (λ emitted.
-            Collects (collected_of self.old) emitted.frame (collected_of self.new)) }
-        // All of the frame's details have ids.
-        ensures ids { IfOk result (λ emitted. TellsIds emitted.frame) }
-        ensures handed { IfOk result (λ emitted.
-            HandsOnAny (λ b. (FrameSink-box b).accepts) emitted.frame (sinks_of self.old)
-            emitted.refused (sinks_of self.new)) }
-        ensures honest { AreHonest (collected_of self.old).streams }
-        // Each reported scope is pending or was handed out.
-        ensures sum { (collected_of self.old).reported ≡ (collected_of self.old).emitted
-            + total_scopes (map.values (collected_of self.old).streams) }
-        ensures exhausted { (result ≡ Err Error.IndexExhausted)
-            ↔ ((collected_of self.old).index ≡ 2 ^ 64 - 1) }
-        ensures err { IfErr result (λ e.
-            KeepsPending (collected_of self.old) e (collected_of self.new)) }
-        ensures kept { OnErr result (sinks_of self.new ≡ sinks_of self.old) }
-        ensures next { next_sink_of self.new ≡ next_sink_of self.old }
+        ensures { HandsOutFrame (λ b. (FrameSink-box b).accepts) self.old result self.new }
     {
         let Some(frame) = self.collector.collect_frame()? else {
             return Ok(Emitted {
@@ -237,22 +196,8 @@ impl GlobalProfiler {
     /// `Memory`, and then the first few of its details may have become known. If it fails, no sink is called.
     pub fn add_frame<R: Wait>(&mut self, rt: &R, frame: Arc<FrameData>) -> Result<usize>
         requires boxed_sinks { ⊤ }
-        ensures learnt { OnOk result (
-            collected_of self.new
-            ≡ after_learning (collected_of self.old) (frame_details (arc_value frame))) }
-        ensures handed { IfOk result (λ refused.
-            HandsOn (λ b. (FrameSink-box b).accepts) (arc_value frame) (sinks_of self.old) refused
-            (sinks_of self.new)) }
-        ensures missing { (result ≡ Err Error.MissingId)
-            ↔ IsTrue (list_any lacks_id (frame_details (arc_value frame))) }
-        ensures unchanged { (result ≡ Err Error.MissingId) →
-            collected_of self.new ≡ collected_of self.old }
-        ensures cause { IfErr result IsDetailsCause }
-        ensures known { OnErr result (
-            KnowsSome (collected_of self.old) (frame_details (arc_value frame))
-            (collected_of self.new)) }
-        ensures kept { OnErr result (sinks_of self.new ≡ sinks_of self.old) }
-        ensures next { next_sink_of self.new ≡ next_sink_of self.old }
+        ensures { AddsFrame (λ b. (FrameSink-box b).accepts) self.old (arc_value frame) result
+            self.new }
     {
         self.collector.learn(&frame.scope_delta)?;
         Ok(self.sinks.hand_on(rt, &frame))
@@ -269,18 +214,7 @@ impl GlobalProfiler {
     /// ```
     pub fn add_sink(&mut self, sink: Sink) -> std::result::Result<FrameSinkId, (Error, Sink)>
         requires boxed_sinks { ⊤ }
-        ensures ok { IfOk result (λ id.
-            (id ≡ next_sink_of self.old)
-            × (next_sink_of self.new ≡ next_sink_of self.old + 1)
-            × PutsIn id sink (sinks_of self.old) (sinks_of self.new)) }
-        ensures err { IfErr result (λ e.
-            (e.1 ≡ sink)
-            × (sinks_of self.new ≡ sinks_of self.old)
-            × (next_sink_of self.new ≡ next_sink_of self.old)) }
-        ensures cause { IfErr result (λ e.
-            ((e.0 ≡ Error.SinkIdsExhausted) × (next_sink_of self.old ≡ 2 ^ 64 - 1))
-            ⊎ ((e.0 ≡ Error.Memory) × (next_sink_of self.old < 2 ^ 64 - 1))) }
-        ensures rest { collected_of self.new ≡ collected_of self.old }
+        ensures { AddsSink self.old sink result self.new }
     {
         self.sinks.add(sink)
     }
@@ -289,24 +223,14 @@ impl GlobalProfiler {
     /// numbers, and the removed sink's number isn't used again. Allocates nothing.
     pub fn remove_sink(&mut self, id: FrameSinkId) -> Option<Sink>
         requires boxed_sinks { ⊤ }
-        ensures some { IfSome result (λ sink.
-            TakesOut id sink (sinks_of self.old) (sinks_of self.new)) }
-        ensures none { IfNone result (
-            HasNone id (sinks_of self.old) × (sinks_of self.new ≡ sinks_of self.old)) }
-        ensures next { next_sink_of self.new ≡ next_sink_of self.old }
-        ensures rest { collected_of self.new ≡ collected_of self.old }
+        ensures { RemovesSink self.old id result self.new }
     {
         self.sinks.remove(id)
     }
 
     /// Returns how many scopes were reported, are pending, and were handed out. Allocates nothing.
     pub fn totals(&self) -> Totals
-        ensures reported { result.reported ≡ (collected_of self.now).reported }
-        ensures pending { result.pending
-            ≡ total_scopes (map.values (collected_of self.now).streams) }
-        ensures emitted { result.emitted ≡ (collected_of self.now).emitted }
-        // Pending scopes are always honest.
-        ensures honest { AreHonest (collected_of self.now).streams }
+        ensures { CountsScopes (collected_of self.now) result }
     {
         self.collector.totals()
     }

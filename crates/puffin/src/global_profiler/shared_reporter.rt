@@ -4,7 +4,7 @@ ghost use Rattle.puffin_data.specs.declared.error.Error.{Error};
 ghost use Rattle.puffin_data.specs.Forest.{Forest};
 ghost use Rattle.puffin_data.specs.Honesty.{IsHonestRef};
 ghost use Rattle.puffin_threads.specs.Thread.Calls.{offsets_of};
-ghost use Rattle.puffin_threads.specs.Thread.Closing.{Closes, Reports};
+ghost use Rattle.puffin_threads.specs.Thread.Closing.{EndsInnermost, Closes, Reports};
 ghost use Rattle.puffin.specs.Reporters.{share_of};
 
 use crate::global_profiler::share::Share;
@@ -70,11 +70,7 @@ impl<L: Ledger, M: Ledger, R: Wait> SharedReporter<L, M, R> {
     /// ```
     pub fn end_scope<T: AnyThread>(&mut self, thread: &mut T, offset: usize) -> Result<Closed>
         requires boxed_sinks { ⊤ }
-        ensures innermost { OnOk result (
-            slice_get (offsets_of (T.state thread.old)) 0 ≡ Some offset) }
-        ensures mismatched { IfErr result (λ e.
-            (e ≡ Error.MismatchedEnd)
-            × (slice_get (offsets_of (T.state thread.old)) 0 ≢ Some offset)) }
+        ensures innermost { EndsInnermost (T.state thread.old) offset result }
         ensures unchanged { OnErr result ((thread.new ≡ thread.old) × (self.new ≡ self.old)) }
         ensures closed { IfOk result (λ closed.
             (at : ℤ)

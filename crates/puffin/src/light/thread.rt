@@ -6,7 +6,7 @@ ghost use Rattle.puffin_data.specs.declared.data.form.Form.{Form};
 ghost use Rattle.puffin_threads.specs.Thread.Calls.{new_thread, num_ended};
 ghost use Rattle.puffin_threads.specs.Thread.Closing.{Reports};
 ghost use Rattle.puffin_threads.specs.Thread.ThreadProfiler.{thread_of, clock_of};
-ghost use Rattle.puffin_collector.specs.Collector.Collecting.{Collects, TellsIds, KeepsPending};
+ghost use Rattle.puffin_collector.specs.Collector.Collecting.{CollectsFrame};
 ghost use Rattle.puffin_collector.specs.Collector.State.{after_learning, after_wanting};
 ghost use Rattle.puffin.specs.Profiler.{collected_of, sinks_of, next_sink_of};
 ghost use Rattle.puffin.specs.Sinks.Handing.{HandsOnAny};
@@ -86,18 +86,11 @@ impl<C> Thread<C, GlobalProfiler> {
     ///
     /// Fails with `IndexExhausted` or `Memory`; then what was reported waits for the next frame.
     pub fn new_frame(&mut self, rt: &impl Wait) -> Result<Option<Arc<FrameData>>>
-        ensures ok { IfOk result (λ frame.
-            Collects (collected_of (reporter_of self.old)) frame
-            (collected_of (reporter_of self.new))) }
-        ensures ids { IfOk result (λ frame. TellsIds frame) }
+        ensures collected { CollectsFrame (λ frame. frame) (collected_of (reporter_of self.old))
+            result (collected_of (reporter_of self.new)) }
         ensures handed { IfOk result (λ frame. (refused : ℕ)
             × HandsOnAny (λ b. (FrameSink-box b).accepts) frame (sinks_of (reporter_of self.old))
             refused (sinks_of (reporter_of self.new))) }
-        ensures exhausted { (result ≡ Err Error.IndexExhausted)
-            ↔ ((collected_of (reporter_of self.old)).index ≡ 2 ^ 64 - 1) }
-        ensures err { IfErr result (λ e.
-            KeepsPending (collected_of (reporter_of self.old)) e
-            (collected_of (reporter_of self.new))) }
         ensures kept { OnErr result (
             sinks_of (reporter_of self.new) ≡ sinks_of (reporter_of self.old)) }
         ensures next { next_sink_of (reporter_of self.new) ≡ next_sink_of (reporter_of self.old) }

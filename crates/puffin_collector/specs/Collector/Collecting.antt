@@ -1,5 +1,5 @@
 -- What a call that collects a frame hands out, and what it leaves behind.
-use Rattle.std.specs.Prelude.{◌≡◌, ℕ, ◌+◌, ◌-◌, ◌^◌, ◌<◌, List, Option, Some, None, ◌⊎◌}
+use Rattle.std.specs.Prelude.{◌≡◌, ℕ, ◌+◌, ◌-◌, ◌^◌, ◌<◌, List, Option, Some, None, ◌⊎◌, ◌↔◌, Result, Err, IfOk, IfErr}
 use Rattle.std.specs.FinMap as map
 use Rattle.std.specs.Arc.{arc_value}
 use Rattle.std.specs.declared.sync.Arc.{Arc}
@@ -14,6 +14,7 @@ use Rattle.puffin_frames.specs.declared.frame_data.meta.FrameMeta.{FrameMeta}
 use Rattle.puffin_frames.specs.Frame.Contents.{Streams, AreHonest, holding_of, frame_meta, frame_details}
 use Rattle.puffin_frames.specs.Frame.Holding.{HaveLayout}
 use Rattle.puffin_frames.specs.Frame.Sums.{total_scopes, meta_of, IsOrdered, DurationFits}
+use Rattle.puffin_collector.specs.declared.totals.Totals.{Totals}
 use Rattle.puffin_collector.specs.Collector.State.{Collected, delta_of, after_frame, after_no_frame, after_learning}
 
 -- The frame has all that is pending, unpacked, under the next index. It lists the new details, and all known ones if a snapshot was wanted.
@@ -52,6 +53,25 @@ abbrev pub KeepsPending : Collected → Error → Collected → Type 0
 KeepsPending old e new =
     ((e ≡ IndexExhausted) × (old.index ≡ 2 ^ 64 - 1) × (new ≡ old))
     ⊎ ((e ≡ Memory) × KnowsSome old old.new_details new)
+
+-- What a call that collects a frame returns, as `frame_in` sees it, and leaves.
+pub record CollectsFrame {X A : Type 0} (frame_in : X → Option (Arc FrameData A)) (old : Collected)
+    (result : Result X Error) (new : Collected) : Type 0 where
+  pub ok : IfOk result (λ x. Collects old (frame_in x) new)
+  -- all details that the frame lists have ids
+  pub ids : IfOk result (λ x. TellsIds (frame_in x))
+  -- what was pending is honest, and each reported scope was pending or had been handed out
+  pub honest : AreHonest old.streams
+  pub sum : old.reported ≡ old.emitted + total_scopes (map.values old.streams)
+  pub exhausted : (result ≡ Err IndexExhausted) ↔ (old.index ≡ 2 ^ 64 - 1)
+  pub err : IfErr result (λ e. KeepsPending old e new)
+
+-- the numbers of scopes reported, pending and handed out; what is pending is honest
+pub record CountsScopes (c : Collected) (totals : Totals) : Type 0 where
+  pub reported : totals.reported ≡ c.reported
+  pub pending : totals.pending ≡ total_scopes (map.values c.streams)
+  pub emitted : totals.emitted ≡ c.emitted
+  pub honest : AreHonest c.streams
 
 -- what is kept beside the pending streams, which are honest and have a layout: the meta of a frame of all of them, and the totals
 pub record IsTallied (streams : Streams) (meta : FrameMeta) (reported emitted : ℕ) : Type 0 where

@@ -1,7 +1,7 @@
 -- What ending a scope or asking for a report does to a thread and its reporter.
-use Rattle.std.specs.Prelude.{◌≡◌, ◌≢◌, ◌<◌, ◌⊎◌, ℤ, Bool, true, false, List, [], Result, Ok, Err}
+use Rattle.std.specs.Prelude.{◌≡◌, ◌≢◌, ◌<◌, ◌⊎◌, ℕ, ℤ, Bool, true, false, List, [], Some, Result, Ok, Err, OnOk, IfErr, slice_get}
 use Rattle.puffin_data.specs.declared.error.Error.{Error}
-use Rattle.puffin_data.specs.declared.error.Error.TheVariants.{Memory, ScopesOpen}
+use Rattle.puffin_data.specs.declared.error.Error.TheVariants.{Memory, MismatchedEnd, ScopesOpen}
 use Rattle.puffin_data.specs.Forest.{Forest}
 use Rattle.puffin_data.specs.Forest.Tour.{tour}
 use Rattle.puffin_data.specs.Honesty.{StreamFacts, AreHonestFacts}
@@ -10,7 +10,7 @@ use Rattle.puffin_threads.specs.declared.thread_profiler.reporter.Closed.{Closed
 use Rattle.puffin_threads.specs.declared.thread_profiler.reporter.Closed.TheVariants.{Inner, Reported, Kept}
 use Rattle.puffin_threads.specs.Thread.ThreadKey.{ThreadKey}
 use Rattle.puffin_threads.specs.Details.{Details}
-use Rattle.puffin_threads.specs.Thread.Calls.{Thread, after_end, after_handing, key_of_thread}
+use Rattle.puffin_threads.specs.Thread.Calls.{Thread, after_end, after_handing, key_of_thread, offsets_of}
 
 -- an honest record, in the thread's form, of scopes whose events are all that the thread has to report
 pub record IsReportOf (thread : Thread) (r : StreamFacts) : Type 0 where
@@ -26,6 +26,12 @@ GoesTo answered thread before after =
     (r : StreamFacts)
     × IsReportOf thread r
     × answered before (key_of_thread thread) thread.details r after
+
+-- Ends a scope only if this is the offset of the innermost open one; otherwise, and for no other reason, fails with `MismatchedEnd`.
+pub record EndsInnermost {X : Type 0} (thread : Thread) (offset : ℕ) (result : Result X Error) : Type 0 where
+  pub innermost : OnOk result (slice_get (offsets_of thread) 0 ≡ Some offset)
+  pub mismatched : IfErr result (λ e.
+      (e ≡ MismatchedEnd) × (slice_get (offsets_of thread) 0 ≢ Some offset))
 
 -- Ends the innermost scope at a time. While others are open, the reporter doesn't change. After the last one, all events go to the reporter, and stay with the thread if it refuses them.
 abbrev pub Closes : {R : Type 0} → (R → ThreadKey → List Details → StreamFacts → R → Type 0) →

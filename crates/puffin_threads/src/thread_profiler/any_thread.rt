@@ -3,7 +3,7 @@
 ghost use Rattle.std.specs.Prelude.{◌≡◌, ◌≢◌, ℤ, pos, ◌≤ℤ◌, Some, OnOk, OnErr, IfOk, IfErr, slice_get};
 ghost use Rattle.puffin_data.specs.declared.error.Error.{Error};
 ghost use Rattle.puffin_threads.specs.Thread.Calls.{Thread, offsets_of};
-ghost use Rattle.puffin_threads.specs.Thread.Closing.{Closes, Reports};
+ghost use Rattle.puffin_threads.specs.Thread.Closing.{EndsInnermost, Closes, Reports};
 
 use crate::thread_profiler::clock::NsSource;
 use crate::thread_profiler::profiler::ThreadProfiler;
@@ -26,11 +26,7 @@ pub trait AnyThread {
 
     /// Ends the innermost open scope, like [`ThreadProfiler::end_scope`].
     fn end_scope<R: Reporter>(&mut self, offset: usize, reporter: &mut R) -> Result<Closed>
-        ensures innermost { OnOk result (
-            slice_get (offsets_of (state self.old)) 0 ≡ Some offset) }
-        ensures mismatched { IfErr result (λ e.
-            (e ≡ Error.MismatchedEnd)
-            × (slice_get (offsets_of (state self.old)) 0 ≢ Some offset)) }
+        ensures innermost { EndsInnermost (state self.old) offset result }
         ensures unchanged { OnErr result ((self.new ≡ self.old) × (reporter.new ≡ reporter.old)) }
         ensures closed { IfOk result (λ closed.
             (at : ℤ)

@@ -27,7 +27,7 @@ impl<C: NsSource> ThreadProfiler<C> {
     ghost use Rattle.puffin_data.specs.Forest.Words.{word_size, open_after};
     ghost use Rattle.puffin_threads.specs.Thread.Calls.{new_thread, after_begin, after_end, RegistersScope, offsets_of, num_ended};
     ghost use Rattle.puffin_threads.specs.Details.{default_details};
-    ghost use Rattle.puffin_threads.specs.Thread.Closing.{Closes, Reports};
+    ghost use Rattle.puffin_threads.specs.Thread.Closing.{EndsInnermost, Closes, Reports};
     ghost use Rattle.puffin_threads.specs.Thread.Discarding.{after_discarding};
     ghost use Rattle.puffin_threads.specs.Thread.ThreadProfiler.{thread_of, clock_of, allocator_of, with_clock};
     ghost use Rattle.puffin_threads.specs.contracts.thread_profiler.profiler.ThreadProfiler.{the_row};
@@ -127,11 +127,7 @@ impl<C: NsSource> ThreadProfiler<C> {
     /// thread.end_scope(scope, &mut profiler)?;
     /// ```
     pub fn end_scope<R: Reporter>(&mut self, offset: usize, reporter: &mut R) -> Result<Closed>
-        ensures innermost { OnOk result (
-            slice_get (offsets_of (thread_of self.old)) 0 ≡ Some offset) }
-        ensures mismatched { IfErr result (λ e.
-            (e ≡ Error.MismatchedEnd)
-            × (slice_get (offsets_of (thread_of self.old)) 0 ≢ Some offset)) }
+        ensures innermost { EndsInnermost (thread_of self.old) offset result }
         ensures unchanged { OnErr result ((self.new ≡ self.old) × (reporter.new ≡ reporter.old)) }
         ensures closed { IfOk result (λ closed.
             (at : ℤ)
@@ -157,11 +153,7 @@ impl<C: NsSource> ThreadProfiler<C> {
     /// changes. Allocates nothing.
     #[inline]
     pub fn close_scope(&mut self, offset: usize) -> Result<()>
-        ensures innermost { OnOk result (
-            slice_get (offsets_of (thread_of self.old)) 0 ≡ Some offset) }
-        ensures mismatched { IfErr result (λ e.
-            (e ≡ Error.MismatchedEnd)
-            × (slice_get (offsets_of (thread_of self.old)) 0 ≢ Some offset)) }
+        ensures innermost { EndsInnermost (thread_of self.old) offset result }
         ensures unchanged { OnErr result (self.new ≡ self.old) }
         ensures closed { OnOk result (
             (at : ℤ)
@@ -178,11 +170,7 @@ impl<C: NsSource> ThreadProfiler<C> {
     /// `MismatchedEnd`, and then doesn't read the clock.
     #[inline(always)]
     fn time_of_end(&mut self, offset: usize) -> Result<NanoSecond>
-        ensures innermost { OnOk result (
-            slice_get (offsets_of (thread_of self.old)) 0 ≡ Some offset) }
-        ensures mismatched { IfErr result (λ e.
-            (e ≡ Error.MismatchedEnd)
-            × (slice_get (offsets_of (thread_of self.old)) 0 ≢ Some offset)) }
+        ensures innermost { EndsInnermost (thread_of self.old) offset result }
         ensures unchanged { OnErr result (self.new ≡ self.old) }
         ensures answered { IfOk result (λ now_ns.
             C.answers (clock_of self.old) now_ns (clock_of self.new) × (pos 0 ≤ℤ now_ns)) }

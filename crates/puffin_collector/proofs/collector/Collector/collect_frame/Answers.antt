@@ -1,5 +1,5 @@
 -- Where the new details couldn't all be learnt, a prefix of them is known.
-use Rattle.std.proofs.Common.{◌≡◌, inr, refl, sym, ap, subst}
+use Rattle.std.proofs.Common.{rules, ◌≡◌, inr, refl, sym, ap, subst}
 use Rattle.std.proofs.lemmas.Result.{err_from_is_err_and}
 use Rattle.puffin_data.specs.declared.error.Error.TheVariants.{Memory}
 use Rattle.puffin_frames.specs.Frame.Contents.{shared_streams}
@@ -10,8 +10,8 @@ use Rattle.puffin_collector.specs.Collector.Collecting.{KeepsPending}
 use Rattle.puffin_collector.proofs.Knowing.{memory_alone}
 use Rattle.puffin_collector.proofs.collector.Collector.collect_frame.Goals as goal
 
-pub returns-in_err-insert_all-clause-err : goal.returns-in_err-insert_all-clause-err
-returns-in_err-insert_all-clause-err c =
+pub returns-in_err-insert_all : goal.returns-in_err-insert_all
+returns-in_err-insert_all c =
     let p = err_from_is_err_and c.from_residual-in_err-insert_all.result c.from_residual-in_err-insert_all.ensures.1 in
     let new = shared_details c.self.inside.new_details.items in
     let given : shared_details c.deref-2.result.now ≡ new = ap shared_details c.deref-2.ensures.value in
@@ -51,4 +51,11 @@ returns-in_err-insert_all-clause-err c =
         },
       ),
     )) in
-    rw (p.1, p.2, memory) kept
+    record {
+      ok = search rules;
+      ids = search rules;
+      honest = search rules;
+      sum = search rules;
+      exhausted = search rules;
+      err = rw (p.1, p.2, memory) kept;
+    }

@@ -16,7 +16,7 @@ returns-clause-back c =
     c.self.invariant.0
     (omega (arith, depth, c.if-depth-back.false))
     (c.index-offset.ensures ∙ ap (λ (n : ℕ). get_or items (n - 1 - c.args.back) c.index-offset.result.now) depth)
-    c.in_ok-closed.ensures.innermost
+    c.in_ok-closed.ensures.innermost.innermost
 
 pub returns-clause-ok : goal.returns-clause-ok
 returns-clause-ok c =
@@ -35,7 +35,7 @@ pub returns-in_err-closed-clause-cause : goal.returns-in_err-closed-clause-cause
 returns-in_err-closed-clause-cause c =
     let items = c.self.inside.offsets.items in
     let depth : c.len-depth.result ≡ length items = search rules in
-    let refused = c.in_err-closed.ensures.mismatched in
+    let refused = c.in_err-closed.ensures.innermost.mismatched in
     let outer = outer_or_none items c.self.inside.profiler.state.form c.self.inside.profiler.state.word c.args.back c.index-offset.result.now
     c.self.invariant.0
     (omega (arith, depth, c.if-depth-back.false))
