@@ -1,6 +1,6 @@
 //! The frame of [`PACKET`](crate::samples::PACKET), with its thread and its stream.
 
-ghost use Rattle.std.specs.Prelude.{◌≡◌, ◌⊎◌, ◌↔◌, ◌∷◌, [], false, Some, IfOk, IfErr, IsTrue, map, option_map};
+ghost use Rattle.std.specs.Prelude.{◌≡◌, ◌⊎◌, ◌↔◌, ◌∷◌, [], false, Some, IfOk, IfErr, IsTrue, map, option_map, IsOkUnless};
 ghost use Rattle.puffin_data.specs.declared.error.Error.{Error};
 ghost use Rattle.puffin_data.specs.declared.file_error.FileError.{FileError};
 ghost use Rattle.puffin_data.specs.Honesty.{facts_of};
@@ -23,7 +23,7 @@ use std::collections::BTreeMap;
 /// Makes the thread of [`PACKET`](crate::samples::PACKET): `main`, whose first scope began at 100. Fails only with `Memory`.
 pub fn packet_thread(alloc: Global) -> Result<ThreadInfo>
     ensures ok { IfOk result (λ info. key_of info ≡ packet_key) }
-    ensures memory { IfErr result (λ e. e ≡ Error.Memory) }
+    ensures memory { IsOkUnless result Error.Memory }
 {
     thread_info(alloc, Some(100), "main")
 }
@@ -31,7 +31,7 @@ pub fn packet_thread(alloc: Global) -> Result<ThreadInfo>
 /// Makes the info of [`ONE_SCOPE`] in this form. Its bytes are the same in both forms. Fails only with `Memory`.
 pub fn packet_info(alloc: Global, form: Form) -> Result<StreamInfo>
     ensures ok { IfOk result (λ info. facts_of info ≡ packet_facts form) }
-    ensures memory { IfErr result (λ e. e ≡ Error.Memory) }
+    ensures memory { IsOkUnless result Error.Memory }
 {
     let bytes = Vec::from_slice(alloc, &ONE_SCOPE)?;
     StreamInfo::parse(alloc, Stream::from_bytes(bytes, form))
@@ -44,7 +44,7 @@ pub fn one_stream(
     info: StreamInfo,
 ) -> Result<BTreeMap<ThreadInfo, StreamInfo>>
     ensures ok { IfOk result (λ streams. streams.entries ≡ (thread, info) ∷ []) }
-    ensures memory { IfErr result (λ e. e ≡ Error.Memory) }
+    ensures memory { IsOkUnless result Error.Memory }
 {
     let mut streams = BTreeMap::new(alloc);
     let _none = streams.insert(thread, info)?;
@@ -57,7 +57,7 @@ pub fn packet_frame(alloc: Global, frame_index: FrameIndex) -> Result<FrameData>
     ensures streams { IfOk result (λ frame. holding_of frame ≡ packet_holding) }
     ensures details { IfOk result (λ frame.
         (frame.scope_delta.items ≡ []) × (frame.full_delta ≡ false)) }
-    ensures memory { IfErr result (λ e. e ≡ Error.Memory) }
+    ensures memory { IsOkUnless result Error.Memory }
 {
     let streams = one_stream(
         alloc,

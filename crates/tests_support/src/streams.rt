@@ -1,6 +1,6 @@
 //! Ids, bytes and streams.
 
-ghost use Rattle.std.specs.Prelude.{◌≡◌, ◌+◌, ◌≤◌, ◌⊎◌, length, flat_map, IfOk, IfErr, OnOk, OnErr};
+ghost use Rattle.std.specs.Prelude.{◌≡◌, ◌+◌, ◌≤◌, ◌⊎◌, length, flat_map, IfOk, IfErr, OnOk, OnErr, IsOkUnless};
 ghost use Rattle.puffin_data.specs.declared.error.Error.{Error};
 ghost use Rattle.puffin_data.specs.declared.data.form.Form.{Form};
 ghost use Rattle.puffin_data.specs.Forest.Open.{ended_bytes};
@@ -21,7 +21,7 @@ pub fn id(number: u32) -> Result<ScopeId>
 pub fn stream_of(alloc: Global, bytes: &[u8]) -> Result<Stream>
     ensures bytes { IfOk result (λ stream. stream.bytes ≡ bytes.now) }
     ensures form { IfOk result (λ stream. stream.form ≡ Form.Short) }
-    ensures memory { IfErr result (λ e. e ≡ Error.Memory) }
+    ensures memory { IsOkUnless result Error.Memory }
 {
     Ok(Stream::from(Vec::from_slice(alloc, bytes)?))
 }
@@ -29,7 +29,7 @@ pub fn stream_of(alloc: Global, bytes: &[u8]) -> Result<Stream>
 /// Joins pieces. Fails only with `Memory`.
 pub fn bytes_of(alloc: Global, pieces: &[&[u8]]) -> Result<Vec<u8>>
     ensures joined { IfOk result (λ bytes. bytes.items ≡ flat_map (λ piece. piece.now) pieces.now) }
-    ensures memory { IfErr result (λ e. e ≡ Error.Memory) }
+    ensures memory { IsOkUnless result Error.Memory }
 {
     Ok(pieces.concat(alloc)?)
 }

@@ -1,6 +1,6 @@
 //! Threads and details of scopes.
 
-ghost use Rattle.std.specs.Prelude.{◌≡◌, ◌⊎◌, IfOk, IfErr, Some, codes};
+ghost use Rattle.std.specs.Prelude.{◌≡◌, ◌⊎◌, IfOk, IfErr, Some, codes, IsOkUnless};
 ghost use Rattle.std.specs.Arc.{arc_value};
 ghost use Rattle.puffin_data.specs.declared.error.Error.{Error};
 ghost use Rattle.puffin_data.specs.declared.data.form.Form.{Form};
@@ -25,7 +25,7 @@ pub fn thread_info(
 ) -> Result<ThreadInfo>
     ensures ok { IfOk result (λ info.
         key_of info ≡ record { start = start_time_ns; name = name.now }) }
-    ensures memory { IfErr result (λ e. e ≡ Error.Memory) }
+    ensures memory { IsOkUnless result Error.Memory }
 {
     Ok(ThreadInfo {
         start_time_ns,
@@ -39,7 +39,7 @@ pub fn main_thread(alloc: Global, at: NanoSecond) -> Result<ThreadProfiler<Scrip
         thread_of thread ≡ new_thread (codes "main") Form.Short) }
     ensures clock { IfOk result (λ thread. clock_of thread ≡ at) }
     ensures allocator { IfOk result (λ thread. allocator_of thread ≡ alloc) }
-    ensures memory { IfErr result (λ e. e ≡ Error.Memory) }
+    ensures memory { IsOkUnless result Error.Memory }
 {
     let name = String::from_str(alloc, "main")?;
     Ok(ThreadProfiler::new(alloc, name, ScriptClock::new(at)))

@@ -128,6 +128,25 @@ fn a_file_that_is_cut_gives_its_whole_frames(rt: HostRuntime) {
 }
 
 #[test]
+fn a_fault_has_its_frame_and_its_place(rt: HostRuntime) {
+    let newer = bytes_of(rt.alloc(), &[&FILE[..ONE_FRAME], b"PFD9", &FILE[83..]]).expect(
+        &rt, "memory",
+    );
+    let mut reader = FrameReader::new(rt.alloc(), Counted::new(newer.as_slice())).expect(
+        &rt, "a file",
+    );
+    assert!(rt; reader.num_frames() == 0);
+    let first = reader.next().expect(&rt, "a frame");
+    assert!(rt; index_of(&first) == Some(0));
+    let fault = reader.next().err();
+    assert!(rt; fault == Some(FileError::Newer));
+    // One frame was read, so the fault is in the second, whose letters are the last bytes that were read.
+    assert!(rt; reader.num_frames() == 1);
+    let left = reader.into_source().into_inner();
+    assert!(rt; newer.len() - left.len() == ONE_FRAME + 4);
+}
+
+#[test]
 fn a_fault_comes_behind_the_frames_before_it(rt: HostRuntime) {
     let newer = bytes_of(rt.alloc(), &[&FILE[..ONE_FRAME], b"PFD9", &FILE[83..]]).expect(
         &rt, "memory",

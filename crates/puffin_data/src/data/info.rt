@@ -145,6 +145,8 @@ impl StreamInfo {
         ensures honest { OnOk result (
             (f g : Forest) → IsHonest self.old f → IsHonestRef other.now g →
             IsHonest self.new (append f g)) }
+
+        // When it is refused, and that a refusal changes nothing but the room.
         ensures unlike { (result ≡ Err Error.UnlikeForms)
             ↔ AreUnlike (facts_of self.old) (facts_of_ref other.now) }
         ensures too_large { (result ≡ Err Error.TooLarge)
@@ -153,6 +155,7 @@ impl StreamInfo {
         ensures err { OnErr result (facts_of self.new ≡ facts_of self.old) }
         ensures cause { IfErr result (λ e.
             (e ≡ Error.UnlikeForms) ⊎ (e ≡ Error.TooLarge) ⊎ (e ≡ Error.Memory)) }
+
         // Bytes that fit the room are appended without an allocation.
         ensures succeeds { ¬ AreUnlike (facts_of self.old) (facts_of_ref other.now) →
             self.old.num_scopes + other.now.num_scopes < 2 ^ 64 →

@@ -235,6 +235,8 @@ impl FrameData {
             IfSome (holding_of self.old).packed (λ p.
             (streams : Streams) → HoldsStreams p streams → ⊥) }
         ensures meta { IfOk result (λ frame. (arc_value frame).meta ≡ frame_meta self.old) }
+
+        // Only how the frame is held changes.
         ensures ok { OnOk result (holding_of self.new ≡ as_unpacked (holding_of self.old)) }
         ensures streams { frame_streams self.new ≡ frame_streams self.old }
         ensures fields { packet_fields self.new ≡ packet_fields self.old }

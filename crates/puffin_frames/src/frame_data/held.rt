@@ -194,6 +194,8 @@ impl Held {
         ensures streams { holding_streams (held_as result.0) ≡ holding_streams (held_as self) }
         ensures err { OnErr result.1 (held_as result.0 ≡ held_as self) }
         ensures meta { HasMeta result.0 meta }
+
+        // The answer.
         ensures unpacked { DecidedInMemory (λ frame. streams_held (arc_value frame)) result.1
             (unpacked_from (held_as self)) }
         ensures unpacked_meta { IfOk result.1 (λ frame. (arc_value frame).meta ≡ meta) }

@@ -50,6 +50,8 @@ impl FrameMeta {
             meta.range_ns.0 ≡ int_min self.range_ns.0 info.now.range_ns.0) }
         ensures stop { IfSome result (λ meta.
             meta.range_ns.1 ≡ int_max self.range_ns.1 info.now.range_ns.1) }
+
+        // It is made exactly if both sums fit.
         ensures fit { IfSome result (λ meta.
             (meta.num_bytes < 2 ^ 64) × (meta.num_scopes < 2 ^ 64)) }
         ensures none { IfNone result (

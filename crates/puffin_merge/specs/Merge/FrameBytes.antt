@@ -1,8 +1,9 @@
 -- What merging reads of a frame: one thread's stream, and the start of the frame's range.
-use Rattle.std.specs.Prelude.{◌≡◌, ℕ, ◌+◌, ◌/◌, ◌<◌, ◌^◌, ℤ, pos, List, [], ◌∷◌, length, sum_by, Option, None, Some, unwrap_or}
+use Rattle.std.specs.Prelude.{◌≡◌, ℕ, ◌<◌, ◌^◌, ℤ, pos, List, [], ◌∷◌, length, sum_by, Option, None, Some, unwrap_or}
 use Rattle.puffin_data.specs.declared.data.form.Form.{Form}
 use Rattle.puffin_data.specs.declared.data.form.Form.TheVariants.{Short}
 use Rattle.puffin_data.specs.Forest.Spelling.{Spells}
+use Rattle.puffin_data.specs.Walk.{most_tries_in}
 use Rattle.puffin_merge.specs.Merge.Occurrences.{FrameScopes}
 
 -- a stream: its form and its bytes
@@ -49,7 +50,7 @@ HaveScopes (frame ∷ frames) (scopes ∷ more) = HasScopes frame scopes × Have
 abbrev pub most_tries_of : FrameBytes → ℕ
 most_tries_of frame = elim (frame.stream) as (λ _. ℕ) [
   | None ↦ 0
-  | Some stream ↦ length stream.bytes / 31 + 1
+  | Some stream ↦ most_tries_in stream.bytes
 ]
 
 abbrev pub most_tries : List FrameBytes → ℕ

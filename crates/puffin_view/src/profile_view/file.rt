@@ -52,6 +52,8 @@ impl FrameView {
             file_of (fields_in (view_of self.now)))) }
         // What is written can be read again.
         ensures packed { OnOk result (AllByRecursion IsPacked (fields_in (view_of self.now))) }
+
+        // What a refusal leaves, and its causes.
         ensures begun { IfErr result (λ e.
             WritesBeginning (D.contents drain.old) (D.contents drain.new) (
             file_of (fields_in (view_of self.now)))) }

@@ -111,17 +111,22 @@ pub(super) fn write_magic<D: Drain>(drain: &mut D) -> Result<(), FileError>
 ///     println!(rt; "{}", frame.frame_index())?;
 /// }
 /// ```
+///
+/// If a call fails, the fault is in the frame after those that [`FrameReader::num_frames`] counts, and before the byte at which
+/// the source stands, which [`FrameReader::into_source`] returns: what is left of a slice, or a file's position.
 #[derive(Drop)]
 pub struct FrameReader<S: Source> {
     alloc: Global,
     source: S,
     /// True after the end or a fault.
     is_done: bool,
+    /// How many frames were returned.
+    num_frames: u64,
     ghost countable: { IsFalse is_done → CanFail S.failures source },
 }
 
 impl<S: Source> FrameReader<S> {
-    ghost use Rattle.puffin_view.specs.View.FrameDevices.{source_of, is_done_of, ends_reading};
+    ghost use Rattle.puffin_view.specs.View.FrameDevices.{source_of, is_done_of, num_frames_of, ends_reading, frames_after};
 
     /// Makes a reader, and reads the four letters that a file begins with.
     ///
@@ -142,6 +147,7 @@ impl<S: Source> FrameReader<S> {
         ensures failures { IfOk result (λ reader.
             S.failures (source_of reader) ≡ S.failures source) }
         ensures not_done { IfOk result (λ reader. IsFalse (is_done_of reader)) }
+        ensures none { IfOk result (λ reader. num_frames_of reader ≡ 0) }
     {
         let mut source = source;
         read_magic(&mut source)?;
@@ -149,6 +155,7 @@ impl<S: Source> FrameReader<S> {
             alloc,
             source,
             is_done: false,
+            num_frames: 0,
         })
     }
 
@@ -178,6 +185,7 @@ impl<S: Source> FrameReader<S> {
         ensures goes_on { is_done_of self.new ≡ ends_reading result }
         ensures done { IsTrue (is_done_of self.old) →
             (result ≡ Ok None) × (self.new ≡ self.old) }
+        ensures counted { num_frames_of self.new ≡ frames_after result (num_frames_of self.old) }
 
         // The same for this call alone.
         ensures next { IsFalse (is_done_of self.old) → GivesNext
@@ -192,11 +200,23 @@ impl<S: Source> FrameReader<S> {
             return Ok(None);
         }
         let next = next_frame(self.alloc, &mut self.source);
-        self.is_done = !matches!(next, Ok(Some(_)));
+        if let Ok(Some(_)) = next {
+            self.num_frames = self.num_frames.saturating_add(1);
+        } else {
+            self.is_done = true;
+        }
         next
     }
 
-    /// Returns the source, positioned after what was read from it.
+    /// Returns how many frames [`FrameReader::next`] has returned. After a fault, this is the number of the frame that has it,
+    /// counted from 0.
+    pub fn num_frames(&self) -> u64
+        ensures { result ≡ num_frames_of self.now }
+    {
+        self.num_frames
+    }
+
+    /// Returns the source, positioned after what was read from it. After a fault, the fault is in the bytes before that.
     pub fn into_source(self) -> S
         ensures { result ≡ source_of self }
     {

@@ -30,6 +30,7 @@ impl Stream {
         text: &str,
     ) -> Result<(usize, NanoSecond)>
         requires { F.IsAlwaysCallable now_ns }
+        // What is appended and returned, and what a refusal leaves.
         ensures begun { IfOk result (λ at.
             self.new.bytes
             ≡ self.old.bytes
@@ -39,6 +40,8 @@ impl Stream {
         ensures clock { IfOk result (λ at. F.post now_ns at.1) }
         ensures err { OnErr result (self.new.bytes ≡ self.old.bytes) }
         ensures form { self.new.form ≡ self.old.form }
+
+        // When it is refused, and how much room it uses.
         ensures memory { IsOkUnless result Error.Memory }
         ensures succeeds { head_size self.old.form (cut_text self.old.form text.now)
             ≤ self.old.room → IsOk result }
@@ -59,6 +62,7 @@ impl Stream {
         text: &str,
     ) -> Result<(usize, NanoSecond)>
         requires { F.IsAlwaysCallable now_ns.old }
+        // What is appended and returned, and what a refusal leaves.
         ensures begun { IfOk result (λ at.
             self.new.bytes
             ≡ self.old.bytes
@@ -69,6 +73,8 @@ impl Stream {
         ensures err { OnErr result (self.new.bytes ≡ self.old.bytes) }
         ensures form { self.new.form ≡ self.old.form }
         ensures unasked { OnErr result (now_ns.new ≡ now_ns.old) }
+
+        // When it is refused, and how much room it uses.
         ensures memory { IsOkUnless result Error.Memory }
         ensures succeeds { head_size self.old.form (cut_text self.old.form text.now)
             ≤ self.old.room → IsOk result }
@@ -85,6 +91,7 @@ impl Stream {
     /// placeholder for the size of the scope's children.
     #[inline(always)]
     pub fn begin_scope_at(&mut self, start: NanoSecond, id: ScopeId, text: &str) -> Result<usize>
+        // What is appended and returned, and what a refusal leaves.
         ensures begun { OnOk result (
             self.new.bytes
             ≡ self.old.bytes
@@ -93,6 +100,8 @@ impl Stream {
         ensures offset { IfOk result (λ offset. offset + 8 ≡ length self.new.bytes) }
         ensures err { OnErr result (self.new.bytes ≡ self.old.bytes) }
         ensures form { self.new.form ≡ self.old.form }
+
+        // When it is refused, and how much room it uses.
         ensures memory { IsOkUnless result Error.Memory }
         ensures succeeds { head_size self.old.form (cut_text self.old.form text.now)
             ≤ self.old.room → IsOk result }
@@ -169,6 +178,8 @@ impl Stream {
         ensures ended { OnOk result (self.new.bytes ≡ ended_bytes self.old.bytes offset stop_ns) }
         ensures err { OnErr result (self.new.bytes ≡ self.old.bytes) }
         ensures form { self.new.form ≡ self.old.form }
+
+        // When it is refused, and how much room it uses.
         ensures memory { IsOkUnless result Error.Memory }
         ensures succeeds { END_SIZE ≤ self.old.room → IsOk result }
         ensures room { self.old.room ≤ self.new.room + END_SIZE }
