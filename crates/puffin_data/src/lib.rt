@@ -1,8 +1,6 @@
 //! The bytes that a profiled thread writes: scopes as a stream, the strict walk over it, and the values of packets.
 //!
-//! A scope is written in two steps, when it begins and when it ends. A stream is a forest of scopes, and a forest has exactly
-//! one spelling; other bytes are refused with their first fault. Each promise is a clause in the contract of a call listed
-//! here, and the definitions that the clauses cite are in `specs/`.
+//! A scope is written in two steps, when it begins and when it ends. A stream is a forest of scopes.
 //!
 //! | to | call |
 //! |---|---|

@@ -1,6 +1,5 @@
-//! Sessions of commands, and the program's tasks as functions over any reader and writer. The contract of
-//! [`replay::Session::run`] is the main promise: nothing is lost, doubled or changed, and each frame spells what was due.
-//! [`replay::record_session_and_read`] promises the same of what is read back from a file.
+//! Sessions of commands, and the program's tasks as functions over any reader and writer. What [`replay::Session::run`] promises
+//! of frames, [`replay::record_session_and_read`] promises of what is read back from a file.
 //!
 //! | to | call |
 //! |---|---|
