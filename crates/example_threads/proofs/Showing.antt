@@ -1,6 +1,6 @@
 -- What the frames show of a thread whose reports are all that happened through its share.
-use Rattle.std.proofs.Common.{◌≡◌, ◌≢◌, ℕ, ◌+◌, ◌<◌, ◌≤◌, ◌^◌, ℤ, Bool, true, false, List, [], ◌∷◌, ◌++◌, Option, Some, None, length, get_or, map, if◌then◌else◌, string_bytes, refl, ap, sym, subst, ◌∙◌, arith}
-use mathlib.Core.Logic.{∥∥₁_elim, ∥∥₁_map, ∥∥₁_prop}
+use Rattle.std.proofs.Common.{◌≡◌, ◌≢◌, ℕ, ◌<◌, ◌≤◌, ◌^◌, ℤ, Bool, true, false, List, [], ◌∷◌, ◌++◌, Option, Some, None, length, get_or, map, if◌then◌else◌, string_bytes, refl, ap, sym, subst, ◌∙◌, arith}
+use mathlib.Core.Logic.{∥∥₁_map}
 use Rattle.std.specs.FinMap as fm
 use Rattle.std.specs.List.{All, Contains}
 use Rattle.std.specs.Arc.{arc_value}
@@ -12,8 +12,8 @@ use Rattle.std.specs.declared.sync.Arc.{Arc}
 use Rattle.std.specs.declared.alloc.Global.{Global}
 use Rattle.puffin_data.specs.declared.data.form.Form.{Form}
 use Rattle.puffin_data.specs.declared.data.form.Form.TheVariants.{Short, Long}
-use Rattle.puffin_data.specs.Forest.{Span, Forest, empty, node, append, IsForest}
-use Rattle.puffin_data.specs.Forest.Spelling.{spelling, begin_bytes, end_bytes}
+use Rattle.puffin_data.specs.Forest.{Span, Forest, empty, node, append}
+use Rattle.puffin_data.specs.Forest.Spelling.{spelling}
 use Rattle.puffin_data.specs.Honesty.{StreamFacts, AreHonestFacts}
 use Rattle.puffin_data.specs.Text.Lengths.{stored_limit}
 use Rattle.puffin_data.proofs.lemmas.Lengths.{layout_size}
@@ -26,13 +26,13 @@ use Rattle.puffin_frames.specs.Frame.Contents.{Streams}
 use Rattle.puffin_frames.specs.Frame.Holding.{Holding}
 use Rattle.puffin_history.specs.Happenings.{Happening, reported, History, pending_of, framed, frame_of, frames_in, report_under, reports_under}
 use Rattle.puffin_history.specs.Members.{Member, IsNewMember, account_of, unpacked_in, TakesFrame}
-use Rattle.puffin_history.specs.Recounted.{SpellInTurn, streams_under, SpellReports, ReportsAlone, TakesAlone, Recounts}
+use Rattle.puffin_history.specs.Recounted.{SpellInTurn, streams_under, ReportsAlone, TakesAlone, Recounts}
 use Rattle.puffin_history.specs.Leaving.{accounts_of}
 use Rattle.puffin_frames.specs.Frame.Sums.{total_scopes}
 use Rattle.history.specs.Entries.{events}
 use Rattle.example_threads.specs.declared.record.Job.{Job}
 use Rattle.example_threads.specs.declared.record.Recorded.{Recorded}
-use Rattle.example_threads.specs.Recorded.{key_of_job, texts_of, AreApart, HasDone, span_of, AreScopes, AreReports, HasReported, HasTaken, streams_in, Show}
+use Rattle.example_threads.specs.Recorded.{key_of_job, texts_of, AreApart, HasDone, span_of, AreScopes, AreReports, HasTaken, streams_in, Show}
 
 -- one report more
 pub more_reports : (text : List ℕ) (r : StreamFacts) (start stop : ℤ) → AreHonestFacts r (node (span_of text start stop) empty empty) → (texts : List (List ℕ)) (rs : List StreamFacts) → AreReports texts rs → AreReports (texts ++ text ∷ []) (rs ++ r ∷ [])

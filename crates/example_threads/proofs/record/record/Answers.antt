@@ -1,5 +1,5 @@
 use Rattle.std.proofs.Common.{rules, ◌≡◌, ◌++◌, ◌∷◌, [], List, vec_len, sym, subst}
-use Rattle.puffin_history.specs.Members.{Member, IsNewMember}
+use Rattle.puffin_history.specs.Members.{Member}
 use Rattle.puffin_history.specs.Leaving.{accounts_of}
 use Rattle.puffin_history.specs.Recounted.{Recounts}
 use Rattle.example_threads.specs.declared.record.Job.{Job}

@@ -1,6 +1,6 @@
-use Rattle.std.proofs.Common.{rules, ◌≡◌, ℕ, ◌+◌, ◌<◌, ◌≤◌, List, length, [], ◌∷◌, ◌++◌, take, map, get_or, string_bytes, refl, ap, sym, subst, ◌∙◌, arith}
+use Rattle.std.proofs.Common.{◌≡◌, ℕ, ◌+◌, ◌<◌, ◌≤◌, List, length, [], ◌∷◌, ◌++◌, take, map, get_or, string_bytes, ap, sym, subst, ◌∙◌}
 use Rattle.std.proofs.lemmas.List.{take_more, take_all, length-map, get_or-map}
-use Rattle.puffin_threads.specs.Thread.Calls.{Thread, after_begin}
+use Rattle.puffin_threads.specs.Thread.Calls.{after_begin}
 use Rattle.puffin_data.specs.Text.{cut_text}
 use Rattle.puffin_history.specs.Happenings.{reported}
 use Rattle.puffin_history.specs.Members.{Member, Told}
