@@ -1,10 +1,8 @@
 -- What contracts see of a profiler with its books.
-use Rattle.std.specs.Prelude.{ℕ, List}
 use Rattle.puffin_collector.specs.Collector.State.{Collected}
 use Rattle.puffin.specs.declared.global_profiler.booked.Booked.{Booked}
 use Rattle.puffin.specs.declared.global_profiler.profiler.GlobalProfiler.{GlobalProfiler}
-use Rattle.puffin.specs.declared.global_profiler.sinks.SinkEntry.{SinkEntry}
-use Rattle.puffin.specs.Profiler.{collected_of, sinks_of, next_sink_of}
+use Rattle.puffin.specs.Profiler.{collected_of}
 
 module _ {L M I : Type 0} {F : I → Type 0} where
   abbrev pub profiler_of : Booked L M I F → GlobalProfiler I F
@@ -13,10 +11,3 @@ module _ {L M I : Type 0} {F : I → Type 0} where
   -- what its profiler collects
   abbrev pub collected_in : Booked L M I F → Collected
   collected_in booked = collected_of (profiler_of booked)
-
-  -- its profiler's sinks, sorted by number, and the number of the next one
-  abbrev pub sinks_in : Booked L M I F → List (SinkEntry I F)
-  sinks_in booked = sinks_of (profiler_of booked)
-
-  abbrev pub next_sink_in : Booked L M I F → ℕ
-  next_sink_in booked = next_sink_of (profiler_of booked)

@@ -1,9 +1,8 @@
-ghost use Rattle.std.specs.Prelude.{◌≡◌, ◌+◌, ◌-◌, ◌^◌, ◌<◌, ◌⊎◌, ◌↔◌, [], ◌∷◌, None, Some, true, OnOk, OnErr, IfOk, IfErr, IsOkUnless};
+ghost use Rattle.std.specs.Prelude.{◌≡◌, ◌<◌, ◌⊎◌, ◌↔◌, [], ◌∷◌, None, Some, true, OnOk, OnErr, IfOk, IfErr, IsOkUnless, IsTrue};
 ghost use Rattle.std.specs.Arc.{arc_value};
 ghost use Rattle.std.specs.List.{list_any};
 ghost use Rattle.std.specs.FinMap as map;
 ghost use Rattle.puffin_threads.specs.Details.{details_of, details_seen, shared_details, lacks_id, with_id};
-ghost use Rattle.puffin_frames.specs.Frame.Contents.{AreHonest};
 ghost use Rattle.puffin_frames.specs.Frame.Sums.{total_scopes};
 ghost use Rattle.puffin_collector.specs.Collector.State.{nothing_collected, after_adding, after_learning, after_wanting};
 ghost use Rattle.puffin_collector.specs.Collector.Registering.{known_id, Adds, AddsSome};
@@ -152,7 +151,7 @@ impl Collector {
         ensures ok { OnOk result (
             self.new ≡ after_learning self.old (shared_details details.now)) }
         ensures missing { (result ≡ Err Error.MissingId)
-            ↔ (list_any lacks_id (shared_details details.now) ≡ true) }
+            ↔ IsTrue (list_any lacks_id (shared_details details.now)) }
         ensures unchanged { (result ≡ Err Error.MissingId) → self.new ≡ self.old }
         ensures err { OnErr result (
             KnowsSome self.old (shared_details details.now) self.new) }

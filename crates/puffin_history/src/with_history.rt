@@ -1,27 +1,21 @@
 //! The value that the lock of a profiler with a history protects.
-ghost use Rattle.std.specs.Prelude.{◌≡◌, ◌+◌, ◌-◌, ◌^◌, ◌<◌, ◌≤◌, ◌⊎◌, ◌↔◌, ◌++◌, ◌∷◌, [], vec_len, Some, OnOk, OnErr, IfOk, IfErr, IfSome, IfNone, ⊤, IsTrue};
+ghost use Rattle.std.specs.Prelude.{◌≡◌, ◌+◌, ◌≤◌, [], vec_len, Some, OnOk, OnErr, IfOk, IfErr, ⊤};
 ghost use Rattle.std.specs.FinMap as map;
-ghost use Rattle.std.specs.List.{list_any};
 ghost use Rattle.std.specs.Arc.{arc_value};
 ghost use Rattle.history.specs.Entries.{events};
 ghost use Rattle.puffin_data.specs.Honesty.{IsHonestReport, facts_of_ref};
 ghost use Rattle.puffin_threads.specs.Thread.ThreadKey.{key_of};
-ghost use Rattle.puffin_threads.specs.Details.{details_seen, lacks_id};
-ghost use Rattle.puffin_frames.specs.Frame.Contents.{AreHonest, frame_details};
+ghost use Rattle.puffin_threads.specs.Details.{details_seen};
 ghost use Rattle.puffin_frames.specs.Frame.Sums.{total_scopes};
-ghost use Rattle.puffin_collector.specs.Collector.State.{AcceptsReport, RefusesReport, after_learning, after_wanting};
-ghost use Rattle.puffin_collector.specs.Collector.Registering.{Adds, AddsSome};
+ghost use Rattle.puffin_collector.specs.Collector.State.{after_wanting};
 ghost use Rattle.puffin_collector.specs.Collector.Collecting.{CollectsFrame, CountsScopes};
 ghost use Rattle.puffin.specs.Profiler.Calls.{TakesReport, RegistersScopes, LearnsFrame, AddsSink, RemovesSink};
 ghost use Rattle.puffin.specs.Profiler.{collected_of, SameSinks};
-ghost use Rattle.puffin.specs.Sinks.{PutsIn, TakesOut, HasNone};
-ghost use Rattle.puffin.specs.Sinks.Handing.{HandsOn, HandsOnAny};
 ghost use Rattle.puffin.specs.Shares.{with_reported, CountsFrame};
 ghost use Rattle.puffin_history.specs.Happenings.{reported, pending_of, Stands};
 ghost use Rattle.puffin_history.specs.Members.{Tells, TakesFrame};
 ghost use Rattle.puffin_history.specs.Leaving.{accounts_of, all_reported_by, all_handed_by};
 ghost use Rattle.puffin_history.specs.Recounted.{Recounts};
-ghost use Rattle.puffin.specs.SharedCauses.{IsDetailsCause};
 
 use crate::event::{Event, Frames, Report, Reports};
 use crate::leaving::leave_all;

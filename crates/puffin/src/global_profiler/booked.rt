@@ -1,22 +1,16 @@
 //! The value that a shared profiler's lock protects.
-ghost use Rattle.std.specs.Prelude.{◌≡◌, ◌+◌, ◌-◌, ◌^◌, ◌<◌, ◌≤◌, ◌⊎◌, ◌↔◌, [], vec_len, Some, OnOk, OnErr, IfOk, IfErr, IfSome, IfNone, ⊤, IsTrue};
+ghost use Rattle.std.specs.Prelude.{◌≡◌, ◌+◌, ◌≤◌, [], vec_len, Some, OnOk, OnErr, IfOk, IfErr, ⊤};
 ghost use Rattle.std.specs.FinMap as map;
-ghost use Rattle.std.specs.List.{list_any};
 ghost use Rattle.std.specs.Arc.{arc_value};
 ghost use Rattle.puffin_data.specs.Honesty.{IsHonestReport, facts_of_ref};
 ghost use Rattle.puffin_threads.specs.Thread.ThreadKey.{key_of};
-ghost use Rattle.puffin_threads.specs.Details.{details_seen, lacks_id};
-ghost use Rattle.puffin_frames.specs.Frame.Contents.{AreHonest, frame_details};
+ghost use Rattle.puffin_threads.specs.Details.{details_seen};
 ghost use Rattle.puffin_frames.specs.Frame.Sums.{total_scopes};
-ghost use Rattle.puffin_collector.specs.Collector.State.{AcceptsReport, RefusesReport, after_learning, after_wanting};
-ghost use Rattle.puffin_collector.specs.Collector.Registering.{Adds, AddsSome};
+ghost use Rattle.puffin_collector.specs.Collector.State.{after_wanting};
 ghost use Rattle.puffin_collector.specs.Collector.Collecting.{CountsScopes};
 ghost use Rattle.puffin.specs.Profiler.Calls.{TakesReport, RegistersScopes, HandsOutFrame, AddsFrame, AddsSink, RemovesSink};
 ghost use Rattle.puffin.specs.Profiler.{collected_of, SameSinks};
-ghost use Rattle.puffin.specs.Sinks.{PutsIn, TakesOut, HasNone};
-ghost use Rattle.puffin.specs.Sinks.Handing.{HandsOn, HandsOnAny};
 ghost use Rattle.puffin.specs.Shares.{with_reported, CountsFrame, all_reported, all_handed};
-ghost use Rattle.puffin.specs.SharedCauses.{IsDetailsCause};
 
 use crate::global_profiler::profiler::GlobalProfiler;
 use crate::global_profiler::share::{Parts, Share};
@@ -58,7 +52,7 @@ pub struct Settled {
 }
 
 impl<L: Ledger, M: Ledger> Booked<L, M> {
-    ghost use Rattle.puffin.specs.Booked.{profiler_of, collected_in, sinks_in, next_sink_in};
+    ghost use Rattle.puffin.specs.Booked.{profiler_of, collected_in};
 
     /// Combines a profiler with its books. Their totals must be the profiler's own.
     pub(crate) fn new(

@@ -1,20 +1,14 @@
 //! A profiler that threads report to.
-ghost use Rattle.std.specs.Prelude.{◌≡◌, ◌+◌, ◌-◌, ◌^◌, ◌<◌, ◌⊎◌, ◌↔◌, [], OnOk, OnErr, IfOk, IfErr, IfSome, IfNone, ⊤, IsTrue};
-ghost use Rattle.std.specs.FinMap as map;
+ghost use Rattle.std.specs.Prelude.{◌≡◌, ◌↔◌, [], OnOk, OnErr, IfErr, ⊤, IsTrue};
 ghost use Rattle.std.specs.List.{list_any};
 ghost use Rattle.std.specs.Arc.{arc_value};
 ghost use Rattle.puffin_data.specs.Honesty.{IsHonestReport, facts_of_ref};
 ghost use Rattle.puffin_threads.specs.Thread.ThreadKey.{key_of};
 ghost use Rattle.puffin_threads.specs.Details.{details_seen, shared_details, lacks_id};
-ghost use Rattle.puffin_frames.specs.Frame.Contents.{AreHonest, frame_details};
-ghost use Rattle.puffin_frames.specs.Frame.Sums.{total_scopes};
 ghost use Rattle.puffin_collector.specs.Collector.State.{AcceptsReport, RefusesReport, after_learning, after_wanting};
-ghost use Rattle.puffin_collector.specs.Collector.Registering.{Adds, AddsSome};
 ghost use Rattle.puffin_collector.specs.Collector.Collecting.{CollectsFrame, CountsScopes, KnowsSome};
 ghost use Rattle.puffin.specs.Profiler.Calls.{TakesReport, RegistersScopes, HandsOutFrame, AddsFrame, AddsSink, RemovesSink};
-ghost use Rattle.puffin.specs.Profiler.{collected_of, sinks_of, next_sink_of, SameSinks, IsNewProfiler};
-ghost use Rattle.puffin.specs.Sinks.{PutsIn, TakesOut, HasNone};
-ghost use Rattle.puffin.specs.Sinks.Handing.{HandsOn, HandsOnAny};
+ghost use Rattle.puffin.specs.Profiler.{collected_of, sinks_of, SameSinks, IsNewProfiler};
 ghost use Rattle.puffin.specs.SharedCauses.{IsDetailsCause};
 
 use crate::global_profiler::sink::{FrameSink, FrameSinkId, Sink};

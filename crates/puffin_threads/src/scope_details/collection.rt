@@ -1,4 +1,4 @@
-ghost use Rattle.std.specs.Prelude.{◌≡◌, ◌↔◌, ◌⊎◌, Some, None, true, IfOk, IfErr, OnOk, OnErr, option_map, option_copied, IsOkUnless};
+ghost use Rattle.std.specs.Prelude.{◌≡◌, ◌↔◌, ◌⊎◌, Some, None, IfOk, IfErr, OnOk, OnErr, option_map, option_copied, IsOkUnless, IsTrue};
 ghost use Rattle.std.specs.List.{list_any};
 ghost use Rattle.std.specs.Arc.{arc_value};
 ghost use Rattle.std.specs.FinMap as map;
@@ -129,7 +129,7 @@ impl ScopeCollection {
         ensures ok { OnOk result (
             self.new ≡ with_all_details self.old (shared_details details.now)) }
         ensures missing { (result ≡ Err Error.MissingId)
-            ↔ (list_any lacks_id (shared_details details.now) ≡ true) }
+            ↔ IsTrue (list_any lacks_id (shared_details details.now)) }
         ensures unchanged { (result ≡ Err Error.MissingId) → self.new ≡ self.old }
         ensures err { OnErr result (LearnsSome self.old (shared_details details.now) self.new) }
         ensures cause { IfErr result (λ e. (e ≡ Error.MissingId) ⊎ (e ≡ Error.Memory)) }

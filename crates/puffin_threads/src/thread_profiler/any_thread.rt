@@ -1,8 +1,8 @@
 //! Thread profilers with any clock.
 
-ghost use Rattle.std.specs.Prelude.{◌≡◌, ◌≢◌, ℤ, pos, ◌≤ℤ◌, Some, OnOk, OnErr, IfOk, IfErr, slice_get};
+ghost use Rattle.std.specs.Prelude.{◌≡◌, ℤ, pos, ◌≤ℤ◌, OnErr, IfOk};
 ghost use Rattle.puffin_data.specs.declared.error.Error.{Error};
-ghost use Rattle.puffin_threads.specs.Thread.Calls.{Thread, offsets_of};
+ghost use Rattle.puffin_threads.specs.Thread.Calls.{Thread};
 ghost use Rattle.puffin_threads.specs.Thread.Closing.{EndsInnermost, Closes, Reports};
 
 use crate::thread_profiler::clock::NsSource;
