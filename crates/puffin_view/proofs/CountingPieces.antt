@@ -7,8 +7,7 @@ use Rattle.puffin_frames.specs.declared.frame_data.frame.FrameData.{FrameData}
 use Rattle.puffin_view.specs.declared.profile_view.stats.FrameStats.{FrameStats}
 use Rattle.puffin_view.specs.View.ViewedFrames.{Frame, ram_of}
 use Rattle.puffin_view.specs.View.FrameOf.{shared_frame, lent_frames}
-use Rattle.puffin_view.specs.View.Stats.{cut, stats_of}
-use Rattle.puffin_view.specs.inner.FrameCounts.{with_frame}
+use Rattle.puffin_view.specs.View.Stats.{cut, stats_of, with_frame}
 
 cut-more : (a b : ℕ) → cut (cut a + b) ≡ cut (a + b)
 cut-more a b = omega arith

@@ -6,4 +6,3 @@ pub mod Ranks
 pub mod Store
 pub mod Kept
 pub mod Selections
-pub mod FrameCounts

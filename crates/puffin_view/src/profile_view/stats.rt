@@ -3,8 +3,7 @@ ghost use Rattle.std.specs.Prelude.{◌≡◌, ◌+◌, []};
 ghost use Rattle.std.specs.Iterator.{IsFinite};
 ghost use Rattle.std.specs.Iterator.Runs.{WholeRun};
 ghost use Rattle.puffin_view.specs.View.FrameOf.{frame_of, lent_frames};
-ghost use Rattle.puffin_view.specs.View.Stats.{stats_of, frames_counted, unpacked_counted, ram_counted};
-ghost use Rattle.puffin_view.specs.inner.FrameCounts.{with_frame};
+ghost use Rattle.puffin_view.specs.View.Stats.{stats_of, with_frame, frames_counted, unpacked_counted, ram_counted};
 
 use puffin_frames::frame_data::FrameData;
 use std::fmt::Debug;
