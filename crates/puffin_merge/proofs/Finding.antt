@@ -20,8 +20,12 @@ use Rattle.puffin_merge.specs.declared.merge.table.Spot.{Spot}
 use Rattle.puffin_merge.specs.declared.merge.table.TextNumber.{TextNumber}
 use Rattle.puffin_merge.specs.declared.merge.table.NodeNumber.{NodeNumber}
 use Rattle.puffin_merge.specs.Merge.Occurrences.{Label}
-use Rattle.puffin_merge.specs.inner.Tables.{label_in, asked_for, spot_cmp, spot_of, number_in, found_in, IsSameKey, HasKey, HasLabel, IsFound}
+use Rattle.puffin_merge.specs.inner.Found.{Lists, label_in, spot_cmp, spot_of, number_in, found_in, IsSameKey, HasKey, HasLabel, IsFound}
+use Rattle.puffin_merge.specs.inner.Tables.{asked_for}
 use Rattle.puffin_merge.proofs.Paths.{ties}
+
+abbrev pub lists_of : Table → Lists
+lists_of t = record { nodes = t.nodes; texts = t.texts; numbers = t.numbers }
 
 -- ---- spots
 
@@ -55,7 +59,7 @@ one_text : (a b : String Global) → is_at (string_cmp a) b ≡ true → string_
 one_text a b e = slice_cmp-IsAntisymmetric nat_cmp-IsAntisymmetric (string_bytes a) (string_bytes b) ((Equal-is (string_cmp a b)).0 e)
 
 -- a look-up by the bytes of a text
-abbrev pub number_by : Table → List ℕ → Option TextNumber
+abbrev pub number_by : Lists → List ℕ → Option TextNumber
 number_by t bytes = lookup (is_at (λ (k : String Global). slice_cmp nat_cmp bytes (string_bytes k))) t.texts.entries
 
 -- ---- keys
@@ -83,7 +87,7 @@ some_text : (x y : TextNumber) → ◌≡◌ {A = Option TextNumber} (Some x) (S
 some_text x y e = cc
 
 -- a text that isn't there, by its bytes
-pub no_text : (t : Table) (parent : ℕ) (label : Label) → IsFound t → number_by t label.text ≡ None → (k : ℕ) → k < vec_len t.nodes → HasLabel t.nodes.items k parent label → ⊥
+pub no_text : (t : Lists) (parent : ℕ) (label : Label) → IsFound t → number_by t label.text ≡ None → (k : ℕ) → k < vec_len t.nodes → HasLabel t.nodes.items k parent label → ⊥
 no_text t parent label f none k lt has =
     let size : vec_len t.nodes ≡ length t.nodes.items = t.nodes.ok.0 in
     let d = some_of t.nodes.items k (omega arith) in
@@ -92,7 +96,7 @@ no_text t parent label f none k lt has =
     none_some _ (sym (ap (number_in t q) same) ∙ f.all_found k d lt)
 
 -- a spot that isn't there
-pub no_spot : (t : Table) (asked : Asked) (text : TextNumber) → IsFound t → number_by t asked.text.now ≡ Some text → lookup (is_at (spot_cmp (record { parent = asked.parent; id = asked.id; text = text }))) t.numbers.entries ≡ None
+pub no_spot : (t : Lists) (asked : Asked) (text : TextNumber) → IsFound t → number_by t asked.text.now ≡ Some text → lookup (is_at (spot_cmp (record { parent = asked.parent; id = asked.id; text = text }))) t.numbers.entries ≡ None
     → (k : ℕ) → k < vec_len t.nodes → HasLabel t.nodes.items k asked.parent.number (asked_for asked) → ⊥
 no_spot t asked text f some none k lt has =
     let size : vec_len t.nodes ≡ length t.nodes.items = t.nodes.ok.0 in
@@ -104,7 +108,7 @@ no_spot t asked text f some none k lt has =
     none_some _ (sym none ∙ ap (λ (s : Spot). lookup (is_at (spot_cmp s)) t.numbers.entries) (sym spot) ∙ ap (number_in t q) (sym same) ∙ f.all_found k d lt)
 
 -- a spot that is there, where the text stands as `own`
-pub some_spot : (t : Table) (asked : Asked) (own : String Global) (text : TextNumber) (x : NodeNumber) → IsFound t → number_by t asked.text.now ≡ Some text → slice_cmp nat_cmp asked.text.now (string_bytes own) ≡ Equal
+pub some_spot : (t : Lists) (asked : Asked) (own : String Global) (text : TextNumber) (x : NodeNumber) → IsFound t → number_by t asked.text.now ≡ Some text → slice_cmp nat_cmp asked.text.now (string_bytes own) ≡ Equal
     → lookup (is_at (spot_cmp (record { parent = asked.parent; id = asked.id; text = text }))) t.numbers.entries ≡ Some x → (0 < x.number) × (x.number ≤ vec_len t.nodes) × HasLabel t.nodes.items (x.number - 1) asked.parent.number (asked_for asked)
 some_spot t asked own text x f some same e =
     let bytes : asked.text.now ≡ string_bytes own = slice_cmp-IsAntisymmetric nat_cmp-IsAntisymmetric asked.text.now (string_bytes own) same in
@@ -116,7 +120,7 @@ some_spot t asked own text x f some same e =
 
 -- ---- one text more
 
-pub text_more : (t u : Table) (own : String Global) (x : TextNumber) → IsFound t → u.nodes ≡ t.nodes → u.numbers ≡ t.numbers → x.number ≡ btree_map_len t.texts → btree_map_len u.texts ≡ btree_map_len t.texts + 1
+pub text_more : (t u : Lists) (own : String Global) (x : TextNumber) → IsFound t → u.nodes ≡ t.nodes → u.numbers ≡ t.numbers → x.number ≡ btree_map_len t.texts → btree_map_len u.texts ≡ btree_map_len t.texts + 1
     → lookup (is_at (string_cmp own)) t.texts.entries ≡ None
     → ((q : String Global) → lookup (is_at (string_cmp q)) u.texts.entries ≡ cond (is_at (string_cmp own) q) (Some x) (lookup (is_at (string_cmp q)) t.texts.entries)) → IsFound u
 text_more t u own x f nodes numbers is wide absent updates = record {
@@ -188,7 +192,7 @@ same_at [] i d e h = absurd (omega arith)
 same_at (n ∷ nodes) zero d e h = refl
 same_at (n ∷ nodes) (suc i) d e h = same_at nodes i d e (omega arith)
 
-pub found_more : (t u : Table) (key : Key) (text : TextNumber) (n : Node) (x : NodeNumber) → IsFound t → lookup (is_at (string_cmp key.text)) t.texts.entries ≡ Some text → u.texts ≡ t.texts → u.nodes.items ≡ t.nodes.items ++ (n ∷ []) → n.key ≡ key → x.number ≡ vec_len t.nodes + 1
+pub found_more : (t u : Lists) (key : Key) (text : TextNumber) (n : Node) (x : NodeNumber) → IsFound t → lookup (is_at (string_cmp key.text)) t.texts.entries ≡ Some text → u.texts ≡ t.texts → u.nodes.items ≡ t.nodes.items ++ (n ∷ []) → n.key ≡ key → x.number ≡ vec_len t.nodes + 1
     → ((q : Spot) → lookup (is_at (spot_cmp q)) u.numbers.entries ≡ cond (is_at (spot_cmp (spot_of key text)) q) (Some x) (lookup (is_at (spot_cmp q)) t.numbers.entries))
     → ((k : ℕ) → k < vec_len t.nodes → HasKey t.nodes.items k key → ⊥) → IsFound u
 found_more t u key text n x f has_text texts items is number updates fresh = record {
@@ -284,21 +288,21 @@ key_at-set (m ∷ nodes) (suc i) n d zero e h = refl
 key_at-set (m ∷ nodes) (suc i) n d (suc k) e h = key_at-set nodes i n d k e (omega arith)
 
 -- the same keys and the same maps
-pub found_kept : (t u : Table) → IsFound t → u.texts ≡ t.texts → u.numbers ≡ t.numbers → vec_len u.nodes ≡ vec_len t.nodes → ((k : ℕ) (d : Node) → (get_or u.nodes.items k d).key ≡ (get_or t.nodes.items k d).key) → IsFound u
+pub found_kept : (t u : Lists) → IsFound t → u.texts.entries ≡ t.texts.entries → u.numbers.entries ≡ t.numbers.entries → vec_len u.nodes ≡ vec_len t.nodes → ((k : ℕ) (d : Node) → (get_or u.nodes.items k d).key ≡ (get_or t.nodes.items k d).key) → IsFound u
 found_kept t u f texts numbers size keys = record {
   found = λ q y e.
       let old = f.found q y (sym (same q) ∙ e) in
       let high = old.1 in
       (old.0, omega arith, λ d. subst (λ (k : Key). IsSameKey k q) (sym (keys (y.number - 1) d)) (old.2 d));
   all_found = λ k d lt. same (get_or u.nodes.items k d).key ∙ ap (found_in t) (keys k d) ∙ f.all_found k d (omega (arith, lt, size));
-  counted = λ a y e. subst (λ m. y.number < btree_map_len m) (sym texts) (f.counted a y (subst (λ m. lookup (is_at (string_cmp a)) m.entries ≡ Some y) texts e));
-  own = λ a b y ea eb. f.own a b y (subst (λ m. lookup (is_at (string_cmp a)) m.entries ≡ Some y) texts ea) (subst (λ m. lookup (is_at (string_cmp b)) m.entries ≡ Some y) texts eb);
-  used = λ q y e. subst (λ m. q.text.number < btree_map_len m) (sym texts) (f.used q y (subst (λ m. lookup (is_at (spot_cmp q)) m.entries ≡ Some y) numbers e));
+  counted = λ a y e. subst (λ es. y.number < length es) (sym texts) (f.counted a y (subst (λ es. lookup (is_at (string_cmp a)) es ≡ Some y) texts e));
+  own = λ a b y ea eb. f.own a b y (subst (λ es. lookup (is_at (string_cmp a)) es ≡ Some y) texts ea) (subst (λ es. lookup (is_at (string_cmp b)) es ≡ Some y) texts eb);
+  used = λ q y e. subst (λ es. q.text.number < length es) (sym texts) (f.used q y (subst (λ es. lookup (is_at (spot_cmp q)) es ≡ Some y) numbers e));
 }
   where
     same_number : (q : Key) (r : Option TextNumber) → number_in u q r ≡ number_in t q r
     same_number q None = refl
-    same_number q (Some n) = ap (λ m. lookup (is_at (spot_cmp (spot_of q n))) m.entries) numbers
+    same_number q (Some n) = ap (λ es. lookup (is_at (spot_cmp (spot_of q n))) es) numbers
 
     same : (q : Key) → found_in u q ≡ found_in t q
-    same q = same_number q (lookup (is_at (string_cmp q.text)) u.texts.entries) ∙ ap (λ m. number_in t q (lookup (is_at (string_cmp q.text)) m.entries)) texts
+    same q = same_number q (lookup (is_at (string_cmp q.text)) u.texts.entries) ∙ ap (λ es. number_in t q (lookup (is_at (string_cmp q.text)) es)) texts

@@ -11,7 +11,8 @@ use Rattle.puffin_merge.specs.declared.merge.table.Node.{Node}
 use Rattle.puffin_merge.specs.declared.merge.table.Key.{Key}
 use Rattle.puffin_merge.specs.Merge.Occurrences.{Label, Path, label_cmp, is_path}
 use Rattle.puffin_merge.specs.Merge.{below}
-use Rattle.puffin_merge.specs.inner.Tables.{label_in, with_path, paths_of, keys_in, path_at}
+use Rattle.puffin_merge.specs.inner.Found.{label_in}
+use Rattle.puffin_merge.specs.inner.Tables.{with_path, paths_of, keys_in, path_at}
 
 -- ---- one path
 

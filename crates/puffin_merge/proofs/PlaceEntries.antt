@@ -20,7 +20,8 @@ use Rattle.puffin_merge.specs.Merge.Pieces.{Merged, merged_at}
 use Rattle.puffin_merge.specs.Merge.Starts.{Sibling, earliest_starts, earliest_start, end_from}
 use Rattle.puffin_merge.specs.Merge.{below, sibling_of, IsMerge}
 use Rattle.puffin_merge.proofs.Assembled.{Entry, children_of, forest_below, Each, Some_of, StandsBefore, InOrder, IsEntry, entry_of, entries_from}
-use Rattle.puffin_merge.specs.inner.Tables.{label_in, merged_in, path_at, IsTableOf}
+use Rattle.puffin_merge.specs.inner.Found.{label_in}
+use Rattle.puffin_merge.specs.inner.Tables.{merged_in, path_at, IsTableOf}
 use Rattle.puffin_merge.specs.inner.Places.{IsOrderedNodeOf, SomeOf, EachOf, AreApart, ordered_node_cmp, AreOrderedNodesOf, above_all, placement_after}
 use Rattle.std.proofs.lemmas.Cmp.{tied_itself}
 use Rattle.puffin_merge.proofs.Assembling.{table-merged}

@@ -12,9 +12,10 @@ use Rattle.puffin_merge.specs.Merge.Pieces.{Merged, pieces_at, merged_at}
 use Rattle.puffin_merge.specs.Merge.{below}
 use Rattle.puffin_merge.specs.Merge.Refusals.{SumsFit}
 use Rattle.puffin_merge.proofs.OnePiece.{with_piece, one_piece}
-use Rattle.puffin_merge.specs.inner.Tables.{label_in, merged_in, path_at, IsUnder, IsSameKey, HasKey, HasLabel, IsFound, made_node, grown_node, IsNodeOf, IsTableOf, occurrence_at, FitsOneMore, GrowsAt, AddsAt}
+use Rattle.puffin_merge.specs.inner.Found.{label_in, IsUnder, IsSameKey, HasKey, HasLabel}
+use Rattle.puffin_merge.specs.inner.Tables.{merged_in, path_at, made_node, grown_node, IsNodeOf, IsTableOf, occurrence_at, FitsOneMore, GrowsAt, AddsAt}
 use Rattle.puffin_merge.proofs.Paths.{same_path, other_path, path_at-kept, path_at-new, path_at-set, top_path}
-use Rattle.puffin_merge.proofs.Finding.{some_of, same_at, key_at-set, found_kept}
+use Rattle.puffin_merge.proofs.Finding.{some_of, same_at}
 use Rattle.puffin_merge.proofs.Growing.{merged_at-other, merged_at-more, merged_at-first}
 
 no_snoc : {A : Type 0} (xs : List A) (x : A) → [] ≡ xs ++ (x ∷ []) → ⊥
@@ -122,8 +123,8 @@ grown_each all t u i k o d n table h lt path is items fits =
 
 -- the same for the table
 pub grown : (all : List Occurrence) (t u : Table) (i : ℕ) (o : Occurrence) (d n : Node) → IsTableOf all t → i < vec_len t.nodes → o.path ≡ path_at t.nodes.items (i + 1)
-    → n ≡ grown_node (get_or t.nodes.items i d) o.own_start o.duration → u.nodes.items ≡ set t.nodes.items i n → u.texts ≡ t.texts → u.numbers ≡ t.numbers → (get_or t.nodes.items i d).sums.total + o.duration < 2 ^ 63 → IsTableOf (all ++ (o ∷ [])) u
-grown all t u i o d n table h path is items texts numbers fits =
+    → n ≡ grown_node (get_or t.nodes.items i d) o.own_start o.duration → u.nodes.items ≡ set t.nodes.items i n → (get_or t.nodes.items i d).sums.total + o.duration < 2 ^ 63 → IsTableOf (all ++ (o ∷ [])) u
+grown all t u i o d n table h path is items fits =
     let size : vec_len t.nodes ≡ length t.nodes.items = t.nodes.ok.0 in
     let nodes = t.nodes.items in
     let key : n.key ≡ (get_or nodes i d).key = ap (λ (m : Node). m.key) is in
@@ -137,7 +138,6 @@ grown all t u i o d n table h path is items texts numbers fits =
       whole = All-push (λ (x : Occurrence). (k : ℕ) × (k < vec_len u.nodes) × (path_at u.nodes.items (k + 1) ≡ x.path)) all o
           (λ j e lt. let old = table.whole j e lt in (old.0, subst (λ (m : ℕ). old.0 < m) (sym wide) old.1, paths (old.0 + 1) ∙ old.2))
           (i, omega (arith, h, wide), paths (i + 1) ∙ sym path);
-      found = found_kept t u table.found texts numbers wide (λ k e. ap (λ (xs : List Node). (get_or xs k e).key) items ∙ key_at-set nodes i n e k (key ∙ ap (λ (m : Node). m.key) (same_at nodes i d e (omega arith))) (omega arith));
     }
 
 -- ---- a new node
@@ -192,8 +192,8 @@ started_each all t key o k d table id parent small path fresh lt =
     ]
 
 pub started : (all : List Occurrence) (t u : Table) (key : Key) (o : Occurrence) → IsTableOf all t → 0 < key.id → key.parent.number ≤ vec_len t.nodes → o.duration < 2 ^ 63 → o.path ≡ below (path_at t.nodes.items key.parent.number) (label_in key)
-    → ((j : ℕ) → j < vec_len t.nodes → HasKey t.nodes.items j key → ⊥) → u.nodes.items ≡ t.nodes.items ++ (made_node key o.own_start o.duration ∷ []) → IsFound u → IsTableOf (all ++ (o ∷ [])) u
-started all t u key o table id parent small path new_key items found =
+    → ((j : ℕ) → j < vec_len t.nodes → HasKey t.nodes.items j key → ⊥) → u.nodes.items ≡ t.nodes.items ++ (made_node key o.own_start o.duration ∷ []) → IsTableOf (all ++ (o ∷ [])) u
+started all t u key o table id parent small path new_key items =
     let size : vec_len t.nodes ≡ length t.nodes.items = t.nodes.ok.0 in
     let nodes = t.nodes.items in
     let n = made_node key o.own_start o.duration in
@@ -220,7 +220,6 @@ started all t u key o table id parent small path new_key items found =
       whole = All-push (λ (x : Occurrence). (k : ℕ) × (k < vec_len u.nodes) × (path_at u.nodes.items (k + 1) ≡ x.path)) all o
           (λ j e lt. let old = table.whole j e lt in let inside = old.1 in (old.0, omega (arith, inside, wide), kept (old.0 + 1) (omega (arith, inside)) ∙ old.2))
           (vec_len t.nodes, omega (arith, wide), last);
-      found = found;
     }
   where
     not_new : (all : List Occurrence) (t : Table) (key : Key) (o : Occurrence) (p : ℕ) → IsTableOf all t → o.path ≡ below (path_at t.nodes.items key.parent.number) (label_in key) → ((j : ℕ) → j < vec_len t.nodes → path_at t.nodes.items (j + 1) ≡ o.path → ⊥) → p ≤ vec_len t.nodes → path_at t.nodes.items p ≡ o.path → ⊥
@@ -245,7 +244,7 @@ adds_grown t u parent label own_start duration x some low high has new =
       path = kept x ∙ ap (path_at nodes) one ∙ sym (path some.0 some.1);
       extends = record { longer = omega (arith, wide); kept = λ k h. kept k };
       fits = λ all table. fits_sums all nodes (x - 1) (get_or nodes (x - 1) d) (occurrence_at t parent label own_start duration) (table.each (x - 1) d (omega arith)) (path all table) (new.3 d);
-      table = λ all table. grown all t u (x - 1) (occurrence_at t parent label own_start duration) d _ table (omega arith) (path all table) refl (new.2 d) new.0 new.1 (new.3 d).1;
+      table = λ all table. grown all t u (x - 1) (occurrence_at t parent label own_start duration) d _ table (omega arith) (path all table) refl (new.2 d) (new.3 d).1;
     }
 
 pub grown_refused : (t : Table) (parent : ℕ) (label : Label) (own_start : ℤ) (duration x : ℕ) → 0 < x → x ≤ vec_len t.nodes → HasLabel t.nodes.items (x - 1) parent label → (FitsOneMore t.nodes.items (x - 1) duration → ⊥)
@@ -257,8 +256,8 @@ grown_refused t parent label own_start duration x low high has no_fit all table 
     no_fit (λ d. sums_fit all nodes (x - 1) (get_or nodes (x - 1) d) o (table.each (x - 1) d (omega arith)) (sym (path_of_key all nodes (x - 1) (get_or nodes (x - 1) d) parent label (table.each (x - 1) d (omega arith)) (has d))) fits)
 
 pub adds_started : (t u : Table) (key : Key) (own_start : ℤ) (duration x : ℕ) → 0 < key.id → key.parent.number ≤ vec_len t.nodes → duration < 2 ^ 63 → x ≡ vec_len t.nodes + 1
-    → ((j : ℕ) → j < vec_len t.nodes → HasKey t.nodes.items j key → ⊥) → u.nodes.items ≡ t.nodes.items ++ (made_node key own_start duration ∷ []) → IsFound u → AddsAt t key.parent.number (label_in key) own_start duration x u
-adds_started t u key own_start duration x id parent small is new_key items found =
+    → ((j : ℕ) → j < vec_len t.nodes → HasKey t.nodes.items j key → ⊥) → u.nodes.items ≡ t.nodes.items ++ (made_node key own_start duration ∷ []) → AddsAt t key.parent.number (label_in key) own_start duration x u
+adds_started t u key own_start duration x id parent small is new_key items =
     let size : vec_len t.nodes ≡ length t.nodes.items = t.nodes.ok.0 in
     let nodes = t.nodes.items in
     let n = made_node key own_start duration in
@@ -274,5 +273,5 @@ adds_started t u key own_start duration x id parent small is new_key items found
             number = subst (λ (m : Merged). m.number < 2 ^ 64) (sym first) (omega arith);
             total = subst (λ (m : Merged). m.total < 2 ^ 63) (sym first) small;
           };
-      table = λ all table. started all t u key o table id parent small refl new_key items found;
+      table = λ all table. started all t u key o table id parent small refl new_key items;
     }

@@ -1,4 +1,5 @@
 -- How merging works, for its proof.
+pub mod Found
 pub mod Tables
 pub mod Merging
 pub mod Places

@@ -85,8 +85,7 @@ module _ {A : Type 0} where
     at (Some a) h = refl
 
   pub none_summed : (es : List (ℕ × Arc FrameData A)) (sums : RunningStats) → es ≡ [] → sums ≡ record { unpacked_frames = 0; bytes_of_ram_used = 0 } → IsSummed es sums
-  unfolding IsStrictlySortedBy
-  none_summed [] sums e s = record { ordered = tt; unpacked_frames = ap (λ t. t.unpacked_frames) s; bytes = ap (λ t. t.bytes_of_ram_used) s }
+  none_summed [] sums e s = record { unpacked_frames = ap (λ t. t.unpacked_frames) s; bytes = ap (λ t. t.bytes_of_ram_used) s }
   none_summed (x ∷ es) sums e s = cc
 
   -- the frames, in the order of their indices
@@ -176,8 +175,8 @@ module _ {A : Type 0} where
     same (Some a) = refl
 
   -- what the sums say is what the frames say
-  pub stats_summed : (es : List (ℕ × Arc FrameData A)) (n : ℕ) (sums : RunningStats) → n ≡ length es → n < 2 ^ 64 → IsSummed es sums → record { frames = n; unpacked_frames = cut sums.unpacked_frames; bytes_of_ram_used = cut sums.bytes_of_ram_used } ≡ stats_of (fin.values (held_of es))
-  stats_summed es n sums many few h =
+  pub stats_summed : (es : List (ℕ × Arc FrameData A)) (n : ℕ) (sums : RunningStats) → n ≡ length es → n < 2 ^ 64 → IsStrictlySortedBy nat_cmp (keys_of es) → IsSummed es sums → record { frames = n; unpacked_frames = cut sums.unpacked_frames; bytes_of_ram_used = cut sums.bytes_of_ram_used } ≡ stats_of (fin.values (held_of es))
+  stats_summed es n sums many few ordered h =
       let fs : List Frame = map shared_frame (values_of es) in
       let made : List Frame → FrameStats = stats_of in
       let low : length es < 2 ^ 64 = subst (λ m. m < 2 ^ 64) many few in
@@ -188,16 +187,10 @@ module _ {A : Type 0} where
       let unpacked = h.unpacked_frames ∙ fits (sum_by unpacked_number (values_of es)) (omega arith) ∙ sym (sum_by-map shared_frame (λ (f : Frame). number_if f.is_unpacked) (values_of es)) in
       let bytes = h.bytes ∙ fits (sum_by ram_taken (values_of es)) (omega arith) ∙ sym (sum_by-map shared_frame ram_of (values_of es)) in
       let same : record { frames = n; unpacked_frames = cut sums.unpacked_frames; bytes_of_ram_used = cut sums.bytes_of_ram_used } ≡ made fs = λ i. record { frames = count i; unpacked_frames = cut (unpacked i); bytes_of_ram_used = cut (bytes i) } in
-      same ∙ ap made (sym (values-held_of es h.ordered))
+      same ∙ ap made (sym (values-held_of es ordered))
 
--- a clone has the same keys and the same frames
+-- a clone has the same frames
 module _ {A : Type 0} where
-  pub keys_cloned : (es fs : List (ℕ × Arc FrameData A)) → AllZip (λ p q. (q.0 ≡ p.0) × (arc_value q.1 ≡ arc_value p.1)) es fs → keys_of fs ≡ keys_of es
-  keys_cloned [] [] h = refl
-  keys_cloned [] (f ∷ fs) h = absurd h
-  keys_cloned (e ∷ es) [] h = absurd h
-  keys_cloned (e ∷ es) (f ∷ fs) h = λ i. h.0.0 i ∷ keys_cloned es fs h.1 i
-
   pub seen_cloned : (es fs : List (ℕ × Arc FrameData A)) → AllZip (λ p q. (q.0 ≡ p.0) × (arc_value q.1 ≡ arc_value p.1)) es fs → frames_seen fs ≡ frames_seen es
   seen_cloned [] [] h = refl
   seen_cloned [] (f ∷ fs) h = absurd h
@@ -212,7 +205,6 @@ module _ {A : Type 0} where
 
   pub summed_cloned : (es fs : List (ℕ × Arc FrameData A)) (sums : RunningStats) → AllZip (λ p q. (q.0 ≡ p.0) × (arc_value q.1 ≡ arc_value p.1)) es fs → IsSummed es sums → IsSummed fs sums
   summed_cloned es fs sums h s = record {
-    ordered = subst (λ ks. IsStrictlySortedBy nat_cmp ks) (sym (keys_cloned es fs h)) s.ordered;
     unpacked_frames = s.unpacked_frames ∙ ap wrapped_sum (sum_cloned (λ f. number_if f.is_unpacked) es fs h);
     bytes = s.bytes ∙ ap wrapped_sum (sum_cloned ram_of es fs h);
   }

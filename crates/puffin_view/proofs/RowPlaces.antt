@@ -1,6 +1,6 @@
 -- Places in a row of frames, and what is done there.
-use Rattle.std.proofs.Common.{◌≡◌, ℕ, zero, suc, ◌<◌, ◌≤◌, Bool, true, false, cond, List, [], ◌∷◌, ◌++◌, length, take, drop, get_or, Option, Some, None, Ok, Err, refl, sym, ap, subst, ◌∙◌, arith, append_assoc}
-use Rattle.std.specs.Prelude.{nat_lt, IsSome, IfSome, OnSome}
+use Rattle.std.proofs.Common.{◌≡◌, ℕ, zero, suc, ◌<◌, ◌≤◌, Bool, true, false, cond, List, [], ◌∷◌, ◌++◌, length, take, drop, get_or, Option, Some, None, Ok, Err, Result, refl, sym, ap, subst, ◌∙◌, arith, append_assoc}
+use Rattle.std.specs.Prelude.{nat_lt, IsSome, IfSome, OnSome, OnOk, OnErr}
 use Rattle.std.proofs.Common.{Bor}
 use Rattle.std.specs.Option.{option_copied}
 use Rattle.std.specs.List.{HoldsAt, remove, AllZip}
@@ -16,8 +16,8 @@ use Rattle.std.proofs.lemmas.Map.Keys.{Less-from_sorted}
 use Rattle.puffin_frames.specs.declared.frame_data.frame.FrameData.{FrameData}
 use Rattle.puffin_view.specs.View.ViewedFrames.{index_of}
 use Rattle.puffin_view.specs.View.FrameOf.{frame_of, shared_frame}
-use Rattle.puffin_view.specs.inner.Rows.{keyed}
-use Rattle.puffin_view.proofs.Rows.{at, below_sorted, insert-last, lookup-between, insert-between, remove-between}
+use Rattle.puffin_view.specs.inner.Held.{keyed}
+use Rattle.puffin_view.proofs.Rows.{at, AreBelow, sorted-last, sorted-inserted, below_sorted, insert-first, insert-last, lookup-between, insert-between, remove-between}
 
 up : (a b k : ℕ) → nat_cmp a b ≡ Less → ordering_index (nat_cmp a k) ≤ ordering_index (nat_cmp b k)
 up a b k e = grind arith
@@ -64,7 +64,7 @@ module _ {A : Type 0} where
     split : es ++ keyed xs ≡ before ++ (k, get_or xs i x) ∷ behind
     split = ap (λ l. es ++ keyed l) (parts xs i x h) ∙ ap (λ l. es ++ l) (keyed-split (take i xs) (drop (suc i) xs) (get_or xs i x) k is) ∙ sym (append_assoc es (keyed (take i xs)) ((k, get_or xs i x) ∷ behind))
 
-    below : Rattle.puffin_view.proofs.Rows.AreBelow k before
+    below : AreBelow k before
     below = below_sorted k (get_or xs i x) before behind (subst (λ l. IsStrictlySortedBy nat_cmp (keys_of l)) split sorted)
 
     pub found_at : lookup (at k) (es ++ keyed xs) ≡ Some (get_or xs i x)
@@ -141,6 +141,30 @@ module _ {A : Type 0} where
   zipped (e ∷ es) (f ∷ fs) xs ys h r = (h.0, zipped es fs xs ys h.1 r)
   zipped [] (f ∷ fs) xs ys h r = absurd h
   zipped (e ∷ es) [] xs ys h r = absurd h
+
+  keys_cloned : (es fs : List (ℕ × Arc FrameData A)) → AllZip (λ p q. (q.0 ≡ p.0) × (arc_value q.1 ≡ arc_value p.1)) es fs → keys_of fs ≡ keys_of es
+  keys_cloned [] [] h = refl
+  keys_cloned [] (f ∷ fs) h = absurd h
+  keys_cloned (e ∷ es) [] h = absurd h
+  keys_cloned (e ∷ es) (f ∷ fs) h = λ i. h.0.0 i ∷ keys_cloned es fs h.1 i
+
+  -- rows that stay in order: with one more frame, with another frame at an index, without one, and copied
+
+  pub sorted-pushed : (es : List (ℕ × Arc FrameData A)) (xs ys : List (Arc FrameData A)) (a : Arc FrameData A) → ys ≡ xs ++ a ∷ [] → AreBelow (key a) (es ++ keyed xs) → IsStrictlySortedBy nat_cmp (keys_of (es ++ keyed xs))
+      → IsStrictlySortedBy nat_cmp (keys_of (es ++ keyed ys))
+  sorted-pushed es xs ys a more low sorted =
+      let rows : (es ++ keyed xs) ++ (key a, a) ∷ [] ≡ es ++ keyed ys = append_assoc es (keyed xs) ((key a, a) ∷ []) ∙ ap (λ l. es ++ l) (sym (keyed-append xs (a ∷ []))) ∙ ap (λ l. es ++ keyed l) (sym more) in
+      subst (λ l. IsStrictlySortedBy nat_cmp (keys_of l)) rows (sorted-last (key a) a (es ++ keyed xs) low sorted)
+
+  -- the frame stands in the map, which may have no memory for it
+  pub sorted-replaced : {X Y : Type 0} (es fs : List (ℕ × Arc FrameData A)) (xs : List (Arc FrameData A)) (k : ℕ) (a : Arc FrameData A) (r : Result X Y) → OnOk r (fs ≡ insert_entry nat_cmp es k a) → OnErr r (fs ≡ es) → IsSome (lookup (at k) es)
+      → IsStrictlySortedBy nat_cmp (keys_of (es ++ keyed xs)) → IsStrictlySortedBy nat_cmp (keys_of (fs ++ keyed xs))
+  sorted-replaced es fs xs k a (Ok o) put kept there sorted =
+      sorted-inserted k a (es ++ keyed xs) (fs ++ keyed xs) (ap (λ l. l ++ keyed xs) put ∙ sym (insert-first k a es (keyed xs) there)) sorted
+  sorted-replaced es fs xs k a (Err e) put kept there sorted = subst (λ l. IsStrictlySortedBy nat_cmp (keys_of (l ++ keyed xs))) (sym kept) sorted
+
+  pub sorted-cloned : (es fs : List (ℕ × Arc FrameData A)) → AllZip (λ p q. (q.0 ≡ p.0) × (arc_value q.1 ≡ arc_value p.1)) es fs → IsStrictlySortedBy nat_cmp (keys_of es) → IsStrictlySortedBy nat_cmp (keys_of fs)
+  sorted-cloned es fs h sorted = subst (λ ks. IsStrictlySortedBy nat_cmp ks) (sym (keys_cloned es fs h)) sorted
 
   -- the first of a row, put to those in front of it
   pub aside : (es fs : List (ℕ × Arc FrameData A)) (xs ys : List (Arc FrameData A)) (a : Arc FrameData A) (k : ℕ) → k ≡ key a → xs ≡ a ∷ ys → fs ≡ insert_entry nat_cmp es k a → IsStrictlySortedBy nat_cmp (keys_of (es ++ keyed xs)) → fs ++ keyed ys ≡ es ++ keyed xs

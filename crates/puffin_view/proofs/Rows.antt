@@ -1,5 +1,5 @@
 -- Frames in rows: entries by rising keys, and behind them others whose keys are above.
-use Rattle.std.proofs.Common.{◌≡◌, ℕ, ◌≤◌, Bool, true, false, cond, List, [], ◌∷◌, ◌++◌, Option, Some, None, refl, sym, ap, ◌∙◌, arith}
+use Rattle.std.proofs.Common.{◌≡◌, ℕ, ◌<◌, ◌≤◌, Bool, true, false, cond, List, [], ◌∷◌, ◌++◌, Option, Some, None, refl, sym, ap, subst, ◌∙◌, arith}
 use Rattle.std.specs.Prelude.{IsSome, nat_lt}
 use Rattle.std.specs.List.{AllByRecursion}
 use Rattle.std.specs.List.Sorted.{IsStrictlySortedBy}
@@ -15,7 +15,7 @@ at k = is_at (nat_cmp k)
 itself : (k : ℕ) → nat_cmp k k ≡ Equal
 itself k = grind arith
 
-above : (y k : ℕ) → nat_cmp y k ≡ Less → nat_cmp k y ≡ Greater
+above : (y k : ℕ) → y < k → nat_cmp k y ≡ Greater
 above y k e = grind arith
 
 less_on : (a b c : ℕ) → nat_cmp a b ≡ Less → nat_cmp b c ≡ Less → nat_cmp a c ≡ Less
@@ -33,7 +33,10 @@ back k j e = grind arith
 pub no_some : {X : Type 0} (o : Option X) → o ≡ None → IsSome o → ⊥
 no_some o e h = cc
 
-is_less : (a b : ℕ) → nat_lt a b ≡ true → nat_cmp a b ≡ Less
+lower : (a b : ℕ) → nat_cmp a b ≡ Less → a < b
+lower a b e = grind arith
+
+is_less : (a b : ℕ) → nat_lt a b ≡ true → a < b
 is_less a b e = grind arith
 
 no_less : (a b : ℕ) → nat_lt a b ≡ false → b ≤ a
@@ -42,7 +45,7 @@ no_less a b e = grind arith
 module _ {X : Type 0} where
   -- all keys are below k
   abbrev pub AreBelow : ℕ → List (ℕ × X) → Type 0
-  AreBelow k es = AllByRecursion (λ y. nat_cmp y k ≡ Less) (keys_of es)
+  AreBelow k es = AllByRecursion (λ y. y < k) (keys_of es)
 
   -- ---- past keys that are below
 
@@ -109,7 +112,7 @@ module _ {X : Type 0} where
   pub below_sorted : (k : ℕ) (x : X) (es ms : List (ℕ × X)) → IsStrictlySortedBy nat_cmp (keys_of (es ++ (k, x) ∷ ms)) → AreBelow k es
   unfolding IsStrictlySortedBy
   below_sorted k x [] ms s = tt
-  below_sorted k x (e ∷ es) ms s = (one es s.0, below_sorted k x es ms s.1) where
+  below_sorted k x (e ∷ es) ms s = (lower e.0 k (one es s.0), below_sorted k x es ms s.1) where
     one : (fs : List (ℕ × X)) → AllByRecursion (λ y. nat_cmp e.0 y ≡ Less) (keys_of (fs ++ (k, x) ∷ ms)) → nat_cmp e.0 k ≡ Less
     one [] h = h.0
     one (f ∷ fs) h = one fs h.1
@@ -131,7 +134,7 @@ module _ {X : Type 0} where
   all_further k j [] e h = tt
   all_further k j (f ∷ fs) e h = (less_on k j f.0 e h.0, all_further k j fs e h.1)
 
-  pub sorted-insert : (k : ℕ) (a : X) (es : List (ℕ × X)) → IsStrictlySortedBy nat_cmp (keys_of es) → IsStrictlySortedBy nat_cmp (keys_of (insert_entry nat_cmp es k a))
+  sorted-insert : (k : ℕ) (a : X) (es : List (ℕ × X)) → IsStrictlySortedBy nat_cmp (keys_of es) → IsStrictlySortedBy nat_cmp (keys_of (insert_entry nat_cmp es k a))
   unfolding IsStrictlySortedBy
   sorted-insert k a [] s = (tt, tt)
   sorted-insert k a (e ∷ es) s = by (nat_cmp k e.0) refl (sorted-insert k a es s.1) where
@@ -140,6 +143,12 @@ module _ {X : Type 0} where
     by Equal p later = s
     by Greater p later = (all_inserted (λ y. nat_cmp e.0 y ≡ Less) k a es (back k e.0 p) s.0, later)
 
+  pub sorted-inserted : (k : ℕ) (a : X) (es fs : List (ℕ × X)) → fs ≡ insert_entry nat_cmp es k a → IsStrictlySortedBy nat_cmp (keys_of es) → IsStrictlySortedBy nat_cmp (keys_of fs)
+  sorted-inserted k a es fs e s = subst (λ l. IsStrictlySortedBy nat_cmp (keys_of l)) (sym e) (sorted-insert k a es s)
+
+  pub sorted-last : (k : ℕ) (a : X) (es : List (ℕ × X)) → AreBelow k es → IsStrictlySortedBy nat_cmp (keys_of es) → IsStrictlySortedBy nat_cmp (keys_of (es ++ (k, a) ∷ []))
+  sorted-last k a es low s = subst (λ l. IsStrictlySortedBy nat_cmp (keys_of l)) (insert-last k a es low) (sorted-insert k a es s)
+
   all_removed : (P : ℕ → Type 0) (t : ℕ → Bool) (es : List (ℕ × X)) → AllByRecursion P (keys_of es) → AllByRecursion P (keys_of (remove_entry t es))
   all_removed P t [] h = tt
   all_removed P t (e ∷ es) h = by (t e.0) (all_removed P t es h.1) where
@@ -147,13 +156,16 @@ module _ {X : Type 0} where
     by true later = h.1
     by false later = (h.0, later)
 
-  pub sorted-remove : (t : ℕ → Bool) (es : List (ℕ × X)) → IsStrictlySortedBy nat_cmp (keys_of es) → IsStrictlySortedBy nat_cmp (keys_of (remove_entry t es))
+  sorted-remove : (t : ℕ → Bool) (es : List (ℕ × X)) → IsStrictlySortedBy nat_cmp (keys_of es) → IsStrictlySortedBy nat_cmp (keys_of (remove_entry t es))
   unfolding IsStrictlySortedBy
   sorted-remove t [] s = tt
   sorted-remove t (e ∷ es) s = by (t e.0) (sorted-remove t es s.1) where
     by : (b : Bool) → IsStrictlySortedBy nat_cmp (keys_of (remove_entry t es)) → IsStrictlySortedBy nat_cmp (keys_of (cond b es (e ∷ remove_entry t es)))
     by true later = s.1
     by false later = (all_removed (λ y. nat_cmp e.0 y ≡ Less) t es s.0, later)
+
+  pub sorted-removed : (t : ℕ → Bool) (es fs : List (ℕ × X)) → fs ≡ remove_entry t es → IsStrictlySortedBy nat_cmp (keys_of es) → IsStrictlySortedBy nat_cmp (keys_of fs)
+  sorted-removed t es fs e s = subst (λ l. IsStrictlySortedBy nat_cmp (keys_of l)) (sym e) (sorted-remove t es s)
 
   -- keys that a look-up from k on doesn't find are below k
   pub below_none : (k : ℕ) (es : List (ℕ × X)) → ((q : ℕ) → k ≤ q → lookup (at q) es ≡ None) → AreBelow k es
@@ -163,7 +175,7 @@ module _ {X : Type 0} where
     others true o n = cc
     others false o n = n
 
-    by : (b : Bool) → nat_lt e.0 k ≡ b → nat_cmp e.0 k ≡ Less
+    by : (b : Bool) → nat_lt e.0 k ≡ b → e.0 < k
     by true p = is_less e.0 k p
     by false p = let found : Some e.1 ≡ None = ap (λ o. cond (is_eq o) (Some e.1) (lookup (at e.0) es)) (sym (itself e.0)) ∙ h e.0 (no_less e.0 k p) in cc
 

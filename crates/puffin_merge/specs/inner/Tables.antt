@@ -1,27 +1,16 @@
--- The table of nodes, each found by its parent's number and its label.
-use Rattle.std.specs.Prelude.{◌≡◌, ℕ, ◌+◌, ◌-◌, ◌<◌, ◌≤◌, ◌^◌, ℤ, max, List, [], ◌∷◌, ◌++◌, map, fold, slice_index_or, slice_set, All, vec_len, string_bytes, string_cmp, Option, None, Some}
-use Rattle.std.specs.declared.cmp.Ordering.{Ordering}
-use Rattle.std.specs.declared.string.String.{String}
-use Rattle.std.specs.declared.alloc.Global.{Global}
-use Rattle.std.specs.Ordering.{nat_cmp, on, then_cmp}
-use Rattle.std.specs.Map.{lookup}
-use Rattle.std.specs.BTreeMap.{is_at, btree_map_len}
+-- The table of nodes, and how it grows.
+use Rattle.std.specs.Prelude.{◌≡◌, ℕ, ◌+◌, ◌<◌, ◌≤◌, ◌^◌, ℤ, max, List, [], ◌∷◌, ◌++◌, map, fold, slice_index_or, slice_set, All, vec_len}
 use Rattle.std.specs.Int.{int_min}
 use Rattle.puffin_merge.specs.declared.merge.table.Table.{Table}
 use Rattle.puffin_merge.specs.declared.merge.table.Node.{Node}
 use Rattle.puffin_merge.specs.declared.merge.table.Key.{Key}
 use Rattle.puffin_merge.specs.declared.merge.table.Asked.{Asked}
-use Rattle.puffin_merge.specs.declared.merge.table.Spot.{Spot}
-use Rattle.puffin_merge.specs.declared.merge.table.TextNumber.{TextNumber}
 use Rattle.puffin_merge.specs.declared.merge.table.PieceTotals.{PieceTotals}
-use Rattle.puffin_merge.specs.declared.merge.table.NodeNumber.{NodeNumber}
+use Rattle.puffin_merge.specs.inner.Found.{label_in}
 use Rattle.puffin_merge.specs.Merge.Occurrences.{Label, Path, Occurrence}
 use Rattle.puffin_merge.specs.Merge.Pieces.{Merged, merged_at}
 use Rattle.puffin_merge.specs.Merge.{below}
 use Rattle.puffin_merge.specs.Merge.Refusals.{SumsFit}
-
-abbrev pub label_in : Key → Label
-label_in key = record { id = key.id; text = string_bytes key.text }
 
 abbrev pub asked_for : Asked → Label
 asked_for key = record { id = key.id; text = key.text.now }
@@ -47,52 +36,6 @@ keys_in nodes = map (λ n. n.key) nodes
 
 abbrev pub path_at : List Node → ℕ → Path
 path_at nodes number = slice_index_or (paths_of (keys_in nodes)) number []
-
--- a key with this label below this parent
-pub record IsUnder (a : Key) (number : ℕ) (text : Label) : Type 0 where
-  pub parent : a.parent.number ≡ number
-  pub label : label_in a ≡ text
-
--- keys with the same parent and label
-abbrev pub IsSameKey : Key → Key → Type 0
-IsSameKey a b = IsUnder a b.parent.number (label_in b)
-
-abbrev pub HasLabel : List Node → ℕ → ℕ → Label → Type 0
-HasLabel nodes k parent label = (d : Node) → IsUnder (slice_index_or nodes k d).key parent label
-
-abbrev pub HasKey : List Node → ℕ → Key → Type 0
-HasKey nodes k key = (d : Node) → IsSameKey (slice_index_or nodes k d).key key
-
-abbrev pub spot_cmp : Spot → Spot → Ordering
-spot_cmp =
-    then_cmp (on (λ k. k.parent.number) nat_cmp) (
-    then_cmp (on (λ k. k.id) nat_cmp) (on (λ k. k.text.number) nat_cmp))
-
--- a key whose text has this number, if it has one
-abbrev pub spot_of : Key → TextNumber → Spot
-spot_of key text = record { parent = key.parent; id = key.id; text = text }
-
-abbrev pub number_in : Table → Key → Option TextNumber → Option NodeNumber
-number_in t key None = None
-number_in t key (Some text) = lookup (is_at (spot_cmp (spot_of key text))) t.numbers.entries
-
--- the number under which a key is found, by its text's number
-abbrev pub found_in : Table → Key → Option NodeNumber
-found_in t key = number_in t key (lookup (is_at (string_cmp key.text)) t.texts.entries)
-
--- exactly the nodes are found, and each text has its own number
-pub record IsFound (t : Table) : Type 0 where
-  pub found : (q : Key) (x : NodeNumber) → found_in t q ≡ Some x →
-      (0 < x.number) × (x.number ≤ vec_len t.nodes) × HasKey t.nodes.items (x.number - 1) q
-  pub all_found : (k : ℕ) (d : Node) → k < vec_len t.nodes →
-      found_in t (slice_index_or t.nodes.items k d).key ≡ Some (record { number = k + 1 })
-  pub counted : (a : String Global) (x : TextNumber) →
-      lookup (is_at (string_cmp a)) t.texts.entries ≡ Some x → x.number < btree_map_len t.texts
-  pub own : (a b : String Global) (x : TextNumber) →
-      lookup (is_at (string_cmp a)) t.texts.entries ≡ Some x →
-      lookup (is_at (string_cmp b)) t.texts.entries ≡ Some x → string_bytes a ≡ string_bytes b
-  pub used : (q : Spot) (y : NodeNumber) →
-      lookup (is_at (spot_cmp q)) t.numbers.entries ≡ Some y → q.text.number < btree_map_len t.texts
 
 abbrev pub made_node : Key → ℤ → ℕ → Node
 made_node key own_start duration = record {
@@ -146,7 +89,6 @@ pub record IsTableOf (all : List Occurrence) (t : Table) : Type 0 where
       path_at t.nodes.items p ≡ path_at t.nodes.items q → p ≡ q
   pub whole : All (λ o. (k : ℕ) × (k < vec_len t.nodes) × (path_at t.nodes.items (k + 1) ≡ o.path))
       all
-  pub found : IsFound t
 
 -- an occurrence with this label below a node
 abbrev pub occurrence_at : Table → ℕ → Label → ℤ → ℕ → Occurrence

@@ -1,12 +1,9 @@
 //! The nodes of a merge, in one list.
 
-ghost use Rattle.std.specs.Prelude.{◌≡◌, ◌<◌, ◌≤◌, ◌+◌, ◌-◌, ◌^◌, ◌⊎◌, ◌++◌, ◌∷◌, [], List, ℕ, vec_len, max, string_cmp, IfOk, IfErr, IfSome, IfNone, OnOk, IsOkUnless};
+ghost use Rattle.std.specs.Prelude.{◌≡◌, ◌<◌, ◌≤◌, ◌+◌, ◌^◌, ◌⊎◌, max, IfSome, IfNone};
 ghost use Rattle.std.specs.Int.{int_min};
-ghost use Rattle.std.specs.Map.{lookup};
-ghost use Rattle.std.specs.BTreeMap.{is_at};
-ghost use Rattle.puffin_merge.specs.Merge.Occurrences.{Occurrence};
-ghost use Rattle.puffin_merge.specs.Merge.Refusals.{SumsFit};
-ghost use Rattle.puffin_merge.specs.inner.Tables.{IsTableOf, HasKey, HasLabel, IsFound, asked_for, made_node, occurrence_at, FitsOneMore, GrowsAt, AddsAt};
+ghost use Rattle.std.proofs.Props.{props};
+ghost use Rattle.puffin_merge.specs.inner.Found.{FindsNodes};
 
 use puffin_data::{Error, NanoSecond, Result};
 use std::alloc::Global;
@@ -119,9 +116,18 @@ pub(crate) struct Table {
     guesses: Vec<usize>,
     /// The place of the node that was looked up last.
     last: usize,
+    ghost found: { FindsNodes nodes texts numbers } by { Prim.hlevel props },
 }
 
 impl Table {
+    ghost use Rattle.std.specs.Prelude.{◌-◌, ◌++◌, ◌∷◌, [], List, ℕ, vec_len, string_cmp, IfOk, IfErr, OnOk, IsOkUnless};
+    ghost use Rattle.std.specs.Map.{lookup};
+    ghost use Rattle.std.specs.BTreeMap.{is_at};
+    ghost use Rattle.puffin_merge.specs.Merge.Occurrences.{Occurrence};
+    ghost use Rattle.puffin_merge.specs.Merge.Refusals.{SumsFit};
+    ghost use Rattle.puffin_merge.specs.inner.Found.{HasKey, HasLabel};
+    ghost use Rattle.puffin_merge.specs.inner.Tables.{IsTableOf, asked_for, made_node, occurrence_at, FitsOneMore, GrowsAt, AddsAt};
+
     /// Makes an empty table.
     pub(crate) fn new(alloc: Global) -> Table
         ensures { IsTableOf [] result }
@@ -169,7 +175,6 @@ impl Table {
 
     /// Looks a node up by the number of its text.
     fn look_up(&self, key: &Asked) -> Option<NodeNumber>
-        requires { IsFound self.now }
         ensures some { IfSome result (λ x.
             (0 < x.number)
             × (x.number ≤ vec_len self.now.nodes)
@@ -194,7 +199,6 @@ impl Table {
 
     /// Finds a node: by the guess if it is right, otherwise by its text.
     fn find(&self, key: &Asked) -> Option<NodeNumber>
-        requires { IsFound self.now }
         ensures some { IfSome result (λ x.
             (0 < x.number)
             × (x.number ≤ vec_len self.now.nodes)
@@ -212,12 +216,10 @@ impl Table {
 
     /// Returns the number of a text. Adds the text if it is new.
     fn number_of(&mut self, text: &String) -> Result<TextNumber>
-        requires { IsFound self.old }
         ensures ok { IfOk result (λ x.
             lookup (is_at (string_cmp text.now)) self.new.texts.entries ≡ Some x) }
         ensures nodes { OnOk result (self.new.nodes ≡ self.old.nodes) }
         ensures numbers { OnOk result (self.new.numbers ≡ self.old.numbers) }
-        ensures found { OnOk result (IsFound self.new) }
         ensures err { IsOkUnless result Error.Memory }
     {
         if let Some(number) = self.texts.get(text) {
@@ -253,14 +255,12 @@ impl Table {
 
     /// Adds a node of one piece.
     fn start(&mut self, key: Key, own_start: NanoSecond, duration: u64) -> Result<NodeNumber>
-        requires found { IsFound self.old }
-        requires new_key { (k : ℕ) → k < vec_len self.old.nodes →
+        requires { (k : ℕ) → k < vec_len self.old.nodes →
             HasKey self.old.nodes.items k key → ⊥ }
         ensures number { IfOk result (λ x. x.number ≡ vec_len self.old.nodes + 1) }
         ensures nodes { OnOk result (
             self.new.nodes.items
             ≡ self.old.nodes.items ++ (made_node key own_start duration ∷ [])) }
-        ensures found { OnOk result (IsFound self.new) }
         ensures err { IsOkUnless result Error.Memory }
     {
         self.guesses.push(0)?;
@@ -272,12 +272,13 @@ impl Table {
             id: key.id,
             text,
         };
-        self.nodes.push(Node {
-            key,
-            sums: PieceTotals::one(own_start, duration),
-        })?;
+        self.nodes.reserve(1)?;
         let number = NodeNumber { number: place + 1 };
         let _none = self.numbers.insert(spot, number)?;
+        self.nodes.push_reserved(Node {
+            key,
+            sums: PieceTotals::one(own_start, duration),
+        });
         Ok(number)
     }
 

@@ -1,5 +1,5 @@
 -- Frames that are held, each under its index, with running sums.
-use Rattle.std.specs.Prelude.{ℕ, Bool, cond, List, Option, map, unwrap_or, ◌≡◌, ◌%◌, ◌^◌}
+use Rattle.std.specs.Prelude.{ℕ, Bool, cond, List, Option, map, unwrap_or, ◌++◌, ◌≡◌, ◌%◌, ◌^◌}
 use Rattle.std.specs.Option.{option_map}
 use Rattle.std.specs.List.{sum_by}
 use Rattle.std.specs.List.Sorted.{IsStrictlySortedBy}
@@ -10,7 +10,7 @@ use Rattle.std.specs.Coded.{Coded, coded_ℕ}
 use Rattle.std.specs.declared.sync.Arc.{Arc}
 use Rattle.puffin_frames.specs.declared.frame_data.frame.FrameData.{FrameData}
 use Rattle.puffin_view.specs.declared.profile_view.running_stats.RunningStats.{RunningStats}
-use Rattle.puffin_view.specs.View.ViewedFrames.{Frame, ram_of}
+use Rattle.puffin_view.specs.View.ViewedFrames.{Frame, index_of, ram_of}
 use Rattle.puffin_view.specs.View.FrameOf.{shared_frame}
 use Rattle.puffin_view.specs.inner.Codes.{frame_code}
 
@@ -26,6 +26,14 @@ frames_seen es = map (λ e. (e.0, shared_frame e.1)) es
 
 abbrev pub held_of : {A : Type 0} → List (ℕ × Arc FrameData A) → HeldFrames
 held_of es = map.from_entries (frames_seen es)
+
+-- frames in a row, each with its index
+abbrev pub keyed : {A : Type 0} → List (Arc FrameData A) → List (ℕ × Arc FrameData A)
+keyed row = map (λ a. (index_of (shared_frame a), a)) row
+
+-- the entries of a map and the frames of a row behind them are in ascending order of index
+abbrev pub AreInOrder : {A : Type 0} → List (ℕ × Arc FrameData A) → List (Arc FrameData A) → Type 0
+AreInOrder es row = IsStrictlySortedBy nat_cmp (keys_of (es ++ keyed row))
 
 -- 1 if it is true, else 0
 abbrev pub number_if : Bool → ℕ
@@ -49,6 +57,5 @@ wrapped_sum n = n % 2 ^ 128
 
 -- the sums are those of the frames
 pub record IsSummed {A : Type 0} (es : List (ℕ × Arc FrameData A)) (sums : RunningStats) : Type 0 where
-  pub ordered : IsStrictlySortedBy nat_cmp (keys_of es)
   pub unpacked_frames : sums.unpacked_frames ≡ wrapped_sum (sum_by unpacked_number (values_of es))
   pub bytes : sums.bytes_of_ram_used ≡ wrapped_sum (sum_by ram_taken (values_of es))

@@ -1,15 +1,10 @@
 -- Frames sorted by index: those of a map, followed by those of a deque.
-use Rattle.std.specs.Prelude.{ℕ, List, ◌++◌, map}
+use Rattle.std.specs.Prelude.{ℕ, List, ◌++◌}
 use Rattle.std.specs.declared.alloc.Global.{Global}
 use Rattle.std.specs.declared.sync.Arc.{Arc}
 use Rattle.puffin_frames.specs.declared.frame_data.frame.FrameData.{FrameData}
 use Rattle.puffin_view.specs.declared.profile_view.frame_rows.FrameRows.{FrameRows}
-use Rattle.puffin_view.specs.View.ViewedFrames.{index_of}
-use Rattle.puffin_view.specs.View.FrameOf.{shared_frame}
-
--- frames in a row, each with its index
-abbrev pub keyed : {A : Type 0} → List (Arc FrameData A) → List (ℕ × Arc FrameData A)
-keyed row = map (λ a. (index_of (shared_frame a), a)) row
+use Rattle.puffin_view.specs.inner.Held.{keyed}
 
 -- all frames, each with its index, in ascending order of index
 abbrev pub rows_of : FrameRows → List (ℕ × Arc FrameData Global)

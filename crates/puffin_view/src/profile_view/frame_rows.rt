@@ -1,18 +1,15 @@
 //! Frames sorted by index: the newest in a row, older ones in a map.
-ghost use Rattle.std.specs.Prelude.{◌≡◌, ◌<◌, ◌∷◌, ◌++◌, [], None, length, IfNone, IfOk, IfSome, IsSome, OnErr, OnOk, nat_eq, false, IsOkUnless};
-ghost use Rattle.std.specs.BTreeMap.{insert_entry, is_at};
-ghost use Rattle.std.specs.Iterator.{YieldsFirstBy, item_count};
-ghost use Rattle.std.specs.List.{AllZip, HoldsAt};
+ghost use Rattle.std.specs.Prelude.{◌≡◌, ◌<◌, None, length, IfNone, IfSome, nat_eq, false};
+ghost use Rattle.std.specs.BTreeMap.{is_at};
+ghost use Rattle.std.specs.List.{HoldsAt};
 ghost use Rattle.std.specs.List.Sorted.{IsStrictlySortedBy};
-ghost use Rattle.std.specs.Map.{keys_of, values_of, lookup, remove_entry};
-ghost use Rattle.std.specs.Option.{option_copied, option_map_or};
+ghost use Rattle.std.specs.Map.{keys_of, lookup};
+ghost use Rattle.std.specs.Option.{option_map_or};
 ghost use Rattle.std.specs.Ordering.{nat_cmp};
-ghost use Rattle.std.specs.Arc.{arc_value};
-ghost use Rattle.puffin_data.specs.declared.error.Error.{Error};
 ghost use Rattle.puffin_view.specs.View.ViewedFrames.{index_of};
 ghost use Rattle.puffin_view.specs.View.FrameOf.{shared_frame};
-ghost use Rattle.puffin_view.specs.View.Listings.{frames_left};
-ghost use Rattle.puffin_view.specs.inner.Rows.{keyed, rows_of};
+ghost use Rattle.puffin_view.specs.inner.Held.{keyed, AreInOrder};
+ghost use Rattle.std.proofs.Props.{props};
 
 use puffin_data::{Error, Result};
 use puffin_frames::frame_data::{FrameData, FrameIndex};
@@ -26,9 +23,20 @@ use std::sync::Arc;
 pub(crate) struct FrameRows {
     older: BTreeMap<FrameIndex, Arc<FrameData>>,
     newest: VecDeque<Arc<FrameData>>,
+    ghost in_order: { AreInOrder older.entries newest.items } by { Prim.hlevel props },
 }
 
 impl FrameRows {
+    ghost use Rattle.std.specs.Prelude.{◌∷◌, ◌++◌, [], IfOk, IsSome, OnErr, OnOk, IsOkUnless};
+    ghost use Rattle.std.specs.BTreeMap.{insert_entry};
+    ghost use Rattle.std.specs.List.{AllByRecursion, AllZip};
+    ghost use Rattle.std.specs.Map.{values_of, remove_entry};
+    ghost use Rattle.std.specs.Option.{option_copied};
+    ghost use Rattle.std.specs.Arc.{arc_value};
+    ghost use Rattle.puffin_data.specs.declared.error.Error.{Error};
+    ghost use Rattle.puffin_view.specs.View.Listings.{frames_left};
+    ghost use Rattle.puffin_view.specs.inner.Rows.{rows_of};
+
     /// Makes an empty `FrameRows`. Allocates nothing.
     pub fn new(alloc: Global) -> FrameRows
         ensures { rows_of result ≡ [] }
@@ -48,7 +56,6 @@ impl FrameRows {
 
     /// Returns the frame with this index.
     pub fn get(&self, index: FrameIndex) -> Option<&Arc<FrameData>>
-        requires { IsStrictlySortedBy nat_cmp (keys_of (rows_of self.now)) }
         ensures { option_copied result ≡ lookup (is_at (nat_cmp index)) (rows_of self.now) }
     {
         match place_in(&self.newest, index) {
@@ -57,8 +64,10 @@ impl FrameRows {
         }
     }
 
-    /// Adds a frame after all others. Fails only with `Memory`; nothing changes then.
+    /// Adds a frame, whose index must be above all others. Fails only with `Memory`; nothing changes then.
     pub fn push(&mut self, frame: Arc<FrameData>) -> Result<()>
+        requires { AllByRecursion (λ k. k < index_of (shared_frame frame)) (
+            keys_of (rows_of self.old)) }
         ensures ok { OnOk result (
             rows_of self.new
             ≡ rows_of self.old ++ (index_of (shared_frame frame), frame) ∷ []) }
@@ -72,8 +81,7 @@ impl FrameRows {
 
     /// Replaces the frame that has the same index as `frame`, and returns the old one. There has to be such a frame.
     pub fn replace(&mut self, frame: Arc<FrameData>) -> Option<Arc<FrameData>>
-        requires sorted { IsStrictlySortedBy nat_cmp (keys_of (rows_of self.old)) }
-        requires there { IsSome (
+        requires { IsSome (
             lookup (is_at (nat_cmp (index_of (shared_frame frame)))) (rows_of self.old)) }
         ensures old { result
             ≡ lookup (is_at (nat_cmp (index_of (shared_frame frame)))) (rows_of self.old) }
@@ -92,7 +100,6 @@ impl FrameRows {
 
     /// Removes the frame with this index, if there is one, and returns it.
     pub fn remove(&mut self, index: FrameIndex) -> Option<Arc<FrameData>>
-        requires { IsStrictlySortedBy nat_cmp (keys_of (rows_of self.old)) }
         ensures value { result ≡ lookup (is_at (nat_cmp index)) (rows_of self.old) }
         ensures entries { rows_of self.new
             ≡ remove_entry (is_at (nat_cmp index)) (rows_of self.old) }
@@ -105,7 +112,6 @@ impl FrameRows {
 
     /// Moves the oldest frame of the row into the map. If there is no memory for that, it stays in the row.
     pub fn set_aside(&mut self)
-        requires { IsStrictlySortedBy nat_cmp (keys_of (rows_of self.old)) }
         ensures { rows_of self.new ≡ rows_of self.old }
     {
         let Some(frame) = self.newest.pop_front() else {
@@ -185,6 +191,9 @@ pub(crate) struct FrameRowsIter<'a> {
 }
 
 impl<'a> Iterator for FrameRowsIter<'a> {
+    ghost use Rattle.std.specs.Iterator.{YieldsFirstBy, item_count};
+    ghost use Rattle.puffin_view.specs.View.Listings.{frames_left};
+
     type Item = &'a Arc<FrameData>;
 
     ghost next_gives = { YieldsFirstBy (λ x. x.now) frames_left };

@@ -8,7 +8,8 @@ use Rattle.puffin_merge.specs.declared.merge.table.Key.{Key}
 use Rattle.puffin_merge.specs.declared.merge.table.Asked.{Asked}
 use Rattle.puffin_merge.specs.declared.merge.table.NodeNumber.{NodeNumber}
 use Rattle.puffin_merge.specs.Merge.Occurrences.{Label}
-use Rattle.puffin_merge.specs.inner.Tables.{label_in, asked_for, HasLabel, IsFound, made_node, AddsAt}
+use Rattle.puffin_merge.specs.inner.Found.{label_in, HasLabel}
+use Rattle.puffin_merge.specs.inner.Tables.{asked_for, made_node, AddsAt}
 use Rattle.puffin_merge.proofs.Tabling.{adds_grown, grown_refused, adds_started}
 use Rattle.puffin_merge.proofs.merge.table.Table.add.Goals as goal
 
@@ -24,11 +25,11 @@ returns-in_ok-grow-in-Some-clause-ok c =
 
 -- a new node, where it could be made
 made : (t u : Table) (key : Key) (label : Label) (own_start : ℤ) (duration : ℕ) (r : Result NodeNumber Error) → label_in key ≡ label → 0 < key.id → key.parent.number ≤ vec_len t.nodes → duration < 2 ^ 63 → ((j : ℕ) → j < vec_len t.nodes → HasLabel t.nodes.items j key.parent.number label → ⊥)
-    → IfOk r (λ x. x.number ≡ vec_len t.nodes + 1) → OnOk r (u.nodes.items ≡ t.nodes.items ++ (made_node key own_start duration ∷ [])) → OnOk r (IsFound u) → IfOk r (λ x. AddsAt t key.parent.number label own_start duration x.number u)
-made t u key label own_start duration (Ok x) e id parent small fresh number items found =
+    → IfOk r (λ x. x.number ≡ vec_len t.nodes + 1) → OnOk r (u.nodes.items ≡ t.nodes.items ++ (made_node key own_start duration ∷ [])) → IfOk r (λ x. AddsAt t key.parent.number label own_start duration x.number u)
+made t u key label own_start duration (Ok x) e id parent small fresh number items =
     subst (λ (l : Label). AddsAt t key.parent.number l own_start duration x.number u) e
-    (adds_started t u key own_start duration x.number id parent small number (subst (λ (l : Label). (j : ℕ) → j < vec_len t.nodes → HasLabel t.nodes.items j key.parent.number l → ⊥) (sym e) fresh) items found)
-made t u key label own_start duration (Err f) e id parent small fresh number items found = tt
+    (adds_started t u key own_start duration x.number id parent small number (subst (λ (l : Label). (j : ℕ) → j < vec_len t.nodes → HasLabel t.nodes.items j key.parent.number l → ⊥) (sym e) fresh) items)
+made t u key label own_start duration (Err f) e id parent small fresh number items = tt
 
 with_text : (asked : Asked) (bytes : _) → bytes ≡ asked.text.now → ◌≡◌ {A = Label} (record { id = asked.id; text = bytes }) (asked_for asked)
 with_text asked bytes e = λ i. record { id = asked.id; text = e i }
@@ -37,4 +38,4 @@ pub returns-in_ok-text-in-None-clause-ok : goal.returns-in_ok-text-in-None-claus
 returns-in_ok-text-in-None-clause-ok c =
     made c.args.self.now c.start.new.self (record { parent = c.args.key.parent; id = c.args.key.id; text = c.in_ok-text-in-None.text }) (asked_for c.args.key) c.args.own_start c.args.duration c.start.result
     (with_text c.args.key _ c.in_ok-text-in-None.ensures.ok) c.requires.id c.requires.parent c.requires.small c.in-None.ensures.none c.start.ensures.number
-    (rw (to_z-of_z w64 c.args.own_start c.ranges.own_start) at c.start.ensures.nodes) c.start.ensures.found
+    (rw (to_z-of_z w64 c.args.own_start c.ranges.own_start) at c.start.ensures.nodes)

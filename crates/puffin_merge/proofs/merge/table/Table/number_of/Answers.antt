@@ -1,21 +1,32 @@
 -- The text is there, or gets the next number.
-use Rattle.std.proofs.Common.{◌≡◌, ℕ, ◌+◌, Option, None, refl, sym, ap, ◌∙◌, cond}
-use Rattle.std.specs.Prelude.{string_bytes, is_some}
+use Rattle.std.proofs.Common.{◌≡◌, ℕ, ◌+◌, Option, None, Some, Result, Ok, Err, refl, sym, ap, ◌∙◌, cond, get_or, vec_len}
+use Rattle.std.specs.Prelude.{string_bytes, string_cmp, is_some, IfOk, OnOk, OnErr}
 use Rattle.std.specs.declared.string.String.{String}
 use Rattle.std.specs.declared.alloc.Global.{Global}
-use Rattle.puffin_merge.specs.declared.merge.table.Table.{Table}
+use Rattle.std.specs.Map.{lookup}
+use Rattle.std.specs.BTreeMap.{is_at, btree_map_len, Updates}
 use Rattle.puffin_merge.specs.declared.merge.table.TextNumber.{TextNumber}
-use Rattle.puffin_merge.proofs.Finding.{number_by, text_more}
+use Rattle.puffin_merge.specs.inner.Found.{Lists, IsFound}
+use Rattle.puffin_merge.proofs.Finding.{lists_of, number_by, text_more, found_kept}
 use Rattle.puffin_merge.proofs.merge.table.Table.number_of.Goals as goal
 
-absent_own : (t : Table) (own text : String Global) → string_bytes own ≡ string_bytes text → ◌≡◌ {A = Option TextNumber} None (number_by t (string_bytes text)) → number_by t (string_bytes own) ≡ None
+absent_own : (t : Lists) (own text : String Global) → string_bytes own ≡ string_bytes text → ◌≡◌ {A = Option TextNumber} None (number_by t (string_bytes text)) → number_by t (string_bytes own) ≡ None
 absent_own t own text e none = ap (number_by t) e ∙ sym none
 
 one_longer : (n m : ℕ) (old : Option TextNumber) → old ≡ None → m ≡ n + (cond (is_some old) 0 1) → m ≡ n + 1
 one_longer n m old e h = h ∙ ap (λ (o : Option TextNumber). n + (cond (is_some o) 0 1)) e
 
-pub returns-clause-found : goal.returns-clause-found
-returns-clause-found c =
-    let none = absent_own c.args.self.now c.in_ok-own.own c.args.text.now c.in_ok-own.ensures.cases c.in_default.ensures.value in
-    text_more c.args.self.now (record { nodes = c.args.self.now.nodes; texts = c.insert.new.self; numbers = c.args.self.now.numbers; guesses = c.args.self.now.guesses; last = c.args.self.now.last }) c.in_ok-own.own (record { number = c.len.result }) c.requires refl refl
-    c.len.ensures.len (one_longer _ _ c.in_ok-_none._none (c.in_ok-_none.ensures.old ∙ none) c.in_ok-_none.ensures.len) none c.in_ok-_none.ensures.updates.0
+-- whether or not there is memory for the text
+more_or_kept : {E : Type 0} (t u : Lists) (own : String Global) (x : TextNumber) (r : Result (Option TextNumber) E) → IsFound t → u.nodes ≡ t.nodes → u.numbers ≡ t.numbers → x.number ≡ btree_map_len t.texts → lookup (is_at (string_cmp own)) t.texts.entries ≡ None
+    → IfOk r (λ old. old ≡ lookup (is_at (string_cmp own)) t.texts.entries) → IfOk r (λ old. btree_map_len u.texts ≡ btree_map_len t.texts + cond (is_some old) 0 1) → OnOk r (Updates string_cmp t.texts u.texts own (Some x)) → OnErr r (u.texts.entries ≡ t.texts.entries) → IsFound u
+more_or_kept t u own x (Ok before) f nodes numbers is none was wide updates kept = text_more t u own x f nodes numbers is (one_longer _ _ before (was ∙ none) wide) none updates.0
+more_or_kept t u own x (Err e) f nodes numbers is none was wide updates kept = found_kept t u f kept (ap (λ m. m.entries) numbers) (ap (λ v. vec_len v) nodes) (λ k d. ap (λ v. (get_or v.items k d).key) nodes)
+
+pub invariant_of-self : goal.invariant_of-self
+invariant_of-self c =
+    let s = c.args.self.now in
+    let none = absent_own (lists_of s) c.in_ok-own.own c.args.text.now c.in_ok-own.ensures.cases c.in_default.ensures.value in
+    record {
+      found = more_or_kept (lists_of s) (record { nodes = s.nodes; texts = c.insert.new.self; numbers = s.numbers }) c.in_ok-own.own (record { number = c.len.result }) c.insert.result s.found refl refl c.len.ensures.len none
+          c.insert.ensures.old c.insert.ensures.len c.insert.ensures.updates c.insert.ensures.err;
+    }

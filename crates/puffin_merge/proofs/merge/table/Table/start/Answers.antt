@@ -1,15 +1,25 @@
-use Rattle.std.proofs.Common.{refl, ◌+◌, ◌∙◌, arith, subst, sym, ap, get_or, ℕ, ◌<◌, vec_len}
-use Rattle.puffin_merge.specs.inner.Tables.{HasKey}
-use Rattle.puffin_merge.proofs.Finding.{found_more, found_kept}
+use Rattle.std.proofs.Common.{refl, [], ◌∷◌, ◌++◌, ◌+◌, ◌∙◌, arith, subst, sym, ap, get_or, ℕ, ◌<◌, vec_len}
+use Rattle.puffin_merge.specs.inner.Found.{HasKey}
+use Rattle.puffin_merge.proofs.Finding.{lists_of, found_more, found_kept}
 use Rattle.puffin_merge.proofs.merge.table.Table.start.Goals as goal
 
-pub returns-clause-found : goal.returns-clause-found
-returns-clause-found c =
-    let nodes = c.in_ok-text.ensures.nodes in
-    found_more c.number_of.new.self (record { nodes = c.push-2.new.self; texts = c.number_of.new.self.texts; numbers = c.insert.new.self; guesses = c.number_of.new.self.guesses; last = c.number_of.new.self.last }) c.args.key c.in_ok-text.text (record { key = c.args.key; sums = c.one.result }) (record { number = c.len-place.result + 1 })
-    c.in_ok-text.ensures.found c.in_ok-text.ensures.ok refl c.in_ok-push-2.ensures.items refl (omega (arith, c.len-place.ensures, ap (λ v. vec_len v) nodes, ap (λ v. vec_len v) c.follow.ensures.nodes)) c.in_ok-_none.ensures.updates.0
-    (subst (λ v. (k : ℕ) → k < vec_len v → HasKey v.items k c.args.key → ⊥) (sym (nodes ∙ c.follow.ensures.nodes)) c.requires.new_key)
+-- no memory for the node, or for its number
+pub invariant_of-self-in-Break-branch-3 : goal.invariant_of-self-in-Break-branch-3
+invariant_of-self-in-Break-branch-3 c =
+    let t = c.number_of.new.self in
+    record { found = found_kept (lists_of t) (record { nodes = c.reserve.new.self; texts = t.texts; numbers = t.numbers }) t.found refl refl c.reserve.ensures.len (λ k d. ap (λ xs. (get_or xs k d).key) c.reserve.ensures.items) }
 
-pub number_of-requires : goal.number_of-requires
-number_of-requires c =
-    found_kept c.args.self.now c.follow.new.self c.requires.found c.follow.ensures.texts c.follow.ensures.numbers (ap (λ v. vec_len v) c.follow.ensures.nodes) (λ k d. ap (λ v. (get_or v.items k d).key) c.follow.ensures.nodes)
+pub invariant_of-self-in-Break-branch-4 : goal.invariant_of-self-in-Break-branch-4
+invariant_of-self-in-Break-branch-4 c =
+    let t = c.number_of.new.self in
+    record { found = found_kept (lists_of t) (record { nodes = c.reserve.new.self; texts = t.texts; numbers = c.insert.new.self }) t.found refl c.in_err-_none.ensures.err c.reserve.ensures.len (λ k d. ap (λ xs. (get_or xs k d).key) c.reserve.ensures.items) }
+
+pub invariant_of-self-2 : goal.invariant_of-self-2
+invariant_of-self-2 c =
+    let t = c.number_of.new.self in
+    let nodes = c.in_ok-text.ensures.nodes ∙ c.follow.ensures.nodes in
+    record {
+      found = found_more (lists_of t) (record { nodes = c.push_reserved.new.self; texts = t.texts; numbers = c.insert.new.self }) c.args.key c.in_ok-text.text (record { key = c.args.key; sums = c.one.result }) (record { number = c.len-place.result + 1 })
+          t.found c.in_ok-text.ensures.ok refl (c.push_reserved.ensures.items ∙ ap (λ xs. xs ++ (record { key = c.args.key; sums = c.one.result } ∷ [])) c.reserve.ensures.items) refl
+          (omega (arith, c.len-place.ensures, ap (λ v. vec_len v) nodes)) c.in_ok-_none.ensures.updates.0 (subst (λ v. (k : ℕ) → k < vec_len v → HasKey v.items k c.args.key → ⊥) (sym nodes) c.requires);
+    }

@@ -1,19 +1,17 @@
 use Rattle.std.proofs.Common.{◌≡◌, sym, ap, subst, ◌∙◌, ◌+◌}
 use Rattle.std.specs.Prelude.{IsSome}
 use Rattle.std.specs.FinMap as fin
-use Rattle.std.specs.List.Sorted.{IsStrictlySortedBy}
-use Rattle.std.specs.Map.{keys_of, lookup}
-use Rattle.std.specs.Ordering.{nat_cmp}
+use Rattle.std.specs.Map.{lookup}
 use Rattle.puffin_view.specs.View.ViewedFrames.{index_of, ram_of}
 use Rattle.puffin_view.specs.View.FrameOf.{frame_of, shared_frame}
 use Rattle.puffin_view.specs.inner.Held.{unpacked_number, ram_taken, number_if, wrapped_sum}
 use Rattle.puffin_view.specs.inner.Rows.{rows_of}
-use Rattle.puffin_view.proofs.Rows.{at, sorted-insert, lookup-insert}
+use Rattle.puffin_view.proofs.Rows.{at, lookup-insert}
 use Rattle.puffin_view.proofs.HoldingViews.{sum_inserted, held_of-inserted, ram_says, seen_there}
 use Rattle.puffin_view.proofs.profile_view.held_frames.HeldFrames.replace.Goals as goal
 
-pub replace-before-requires-clause-there : goal.replace-before-requires-clause-there
-replace-before-requires-clause-there c =
+pub replace-before-requires : goal.replace-before-requires
+replace-before-requires c =
     let k = index_of (shared_frame c.args.frame) in
     seen_there (rows_of c.self.inside.frames) k (subst (λ m. IsSome (fin.get m k)) (sym c.self.view_is) c.requires)
 
@@ -25,12 +23,11 @@ invariant_of-self c =
     let k = index_of (shared_frame c.args.frame) in
     let es = rows_of c.self.inside.frames in
     record {
-      ordered = subst (λ l. IsStrictlySortedBy nat_cmp (keys_of l)) (sym c.replace-before.ensures.entries) (sorted-insert k c.args.frame es c.self.invariant.ordered);
       unpacked_frames = sum_inserted unpacked_number es (rows_of c.replace-before.new.self) k c.args.frame c.replace-before.result
-          c.self.inside.sums.unpacked_frames c.lower.new.self.unpacked_frames c.raise.new.self.unpacked_frames c.replace-before.ensures.entries c.replace-before.ensures.old c.self.invariant.ordered c.self.invariant.unpacked_frames
+          c.self.inside.sums.unpacked_frames c.lower.new.self.unpacked_frames c.raise.new.self.unpacked_frames c.replace-before.ensures.entries c.replace-before.ensures.old c.self.inside.frames.in_order c.self.invariant.unpacked_frames
           c.lower.ensures.unpacked_frames (ap (λ s. s.unpacked_frames) c.raise.ensures ∙ ap (λ b. wrapped_sum (c.lower.new.self.unpacked_frames + number_if b)) (unpacked_is c));
       bytes = sum_inserted ram_taken es (rows_of c.replace-before.new.self) k c.args.frame c.replace-before.result
-          c.self.inside.sums.bytes_of_ram_used c.lower.new.self.bytes_of_ram_used c.raise.new.self.bytes_of_ram_used c.replace-before.ensures.entries c.replace-before.ensures.old c.self.invariant.ordered c.self.invariant.bytes
+          c.self.inside.sums.bytes_of_ram_used c.lower.new.self.bytes_of_ram_used c.raise.new.self.bytes_of_ram_used c.replace-before.ensures.entries c.replace-before.ensures.old c.self.inside.frames.in_order c.self.invariant.bytes
           c.lower.ensures.bytes
           (ap (λ s. s.bytes_of_ram_used) c.raise.ensures ∙ ap (λ n. wrapped_sum (c.lower.new.self.bytes_of_ram_used + n)) (c.bytes_of_ram_used-bytes.ensures ∙ ram_says c.deref-2.result.now ∙ ap (λ f. ram_of (frame_of f)) c.deref-2.ensures));
     }
