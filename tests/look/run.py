@@ -3,8 +3,8 @@
     python3 -m tests.look.run PROGRAM [SCRIPT]
 
 A case is a folder in cases/ as those of tests/cli, which lists its files. SCRIPT is the script that builds and runs the
-program; it is run through a symbolic link from another folder. traces.py has checks of traces by other readers. The last
-line is 'N passed, M failed'.
+program; it is run through a symbolic link from another folder. traces.py has checks of traces by other readers, folded.py of
+folded stacks. The last line is 'N passed, M failed'.
 """
 
 import pathlib
@@ -13,7 +13,7 @@ import sys
 
 from .. import common
 from ..cli import run
-from . import traces
+from . import folded, traces
 
 CASES = pathlib.Path(__file__).resolve().parent / "cases"
 
@@ -23,7 +23,7 @@ def main():
     cases = sorted(it for it in CASES.iterdir() if it.is_dir())
     runs = [(case.name, run.faults, program, case) for case in cases]
     runs += [("through_a_link", run.faults_through_a_link, it, CASES / "frames_one_frame") for it in script]
-    runs += [(name, compare, program, None) for name, compare in traces.CHECKS.items()]
+    runs += [(name, compare, program, None) for name, compare in (traces.CHECKS | folded.CHECKS).items()]
     count = common.Count()
     for name, compare, what, case in runs:
         try:

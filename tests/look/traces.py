@@ -151,12 +151,17 @@ def prefix(data):
         return data[: error.start].decode()
 
 
+def random_names():
+    """Names of all kinds of letters, with quotes, backslashes and semicolons among them."""
+    chance = random.Random(62)
+    ranges = [(0, 32), (32, 128), (34, 35), (59, 60), (92, 93), (128, 0xD800), (0xE000, 0x110000)]
+    letters = lambda: "".join(chr(chance.randrange(*chance.choice(ranges))) for _ in range(chance.randrange(12)))
+    return [letters() for _ in range(NAMES)]
+
+
 def faults_in_names(program, _case):
     """What differs between random names and texts and what json reads in their trace."""
-    chance = random.Random(62)
-    ranges = [(0, 32), (32, 128), (34, 35), (92, 93), (128, 0xD800), (0xE000, 0x110000)]
-    letters = lambda: "".join(chr(chance.randrange(*chance.choice(ranges))) for _ in range(chance.randrange(12)))
-    names = [letters() for _ in range(NAMES)]
+    names, chance = random_names(), random.Random(63)
     texts = [bytes(chance.randrange(256) for _ in range(chance.randrange(20))) for _ in range(NAMES)]
     events = [it for it in trace_of(program, file_of(names, texts)) if it["ph"] == "X"]
     found = [(it["name"], it["args"]["text"]) for it in events]

@@ -13,3 +13,7 @@ mod TreesPrinted
 mod Numbers
 mod SlowestKept
 mod SlowestPrinted
+mod StackRows
+mod Stacked
+mod StackLines
+mod StacksTaken

@@ -5,7 +5,7 @@ use Rattle.std.specs.Str.{bytes_eq, all_ascii_digits}
 use Rattle.std.specs.Str.Parse.{digits_value}
 use denote.Ref.{Bor}
 use Rattle.puffin_look.specs.declared.task.View.{View}
-use Rattle.puffin_look.specs.declared.task.View.TheVariants.{Threads, Frames, Slowest, Frame, Trace}
+use Rattle.puffin_look.specs.declared.task.View.TheVariants.{Threads, Frames, Slowest, Frame, Trace, Folded}
 
 -- a decimal number without a sign
 abbrev pub digits_in : List ℕ → Option ℕ
@@ -27,13 +27,15 @@ pub data Wish : Type 0 where
   slowest_frames : (limit : ℕ) → Wish
   a_frame : (index : ℕ) → (thread : Option (List ℕ)) → Wish
   a_trace : Wish
+  folded_stacks : (thread : Option (List ℕ)) → Wish
 
 -- a word that is followed by the path alone
 abbrev pub list_in : List ℕ → Option Wish
 list_in word =
     if bytes_eq word (codes "threads") then Some all_threads else
     if bytes_eq word (codes "frames") then Some all_frames else
-    if bytes_eq word (codes "trace") then Some a_trace else None
+    if bytes_eq word (codes "trace") then Some a_trace else
+    if bytes_eq word (codes "folded") then Some (folded_stacks None) else None
 
 -- a word that is followed by the path, an index, and perhaps a thread
 abbrev pub frame_in : List ℕ → List ℕ → Option (List ℕ) → Option Wish
@@ -41,11 +43,12 @@ frame_in word index thread =
     if bytes_eq word (codes "frame") then option_map (λ n. a_frame n thread) (number_in index)
     else None
 
--- a word that is followed by the path and a number
-abbrev pub numbered_in : List ℕ → List ℕ → Option Wish
-numbered_in word number =
-    if bytes_eq word (codes "frames") then option_map (λ n. slowest_frames n) (number_in number)
-    else frame_in word number None
+-- a word that is followed by the path and one more word
+abbrev pub detailed_in : List ℕ → List ℕ → Option Wish
+detailed_in word more =
+    if bytes_eq word (codes "frames") then option_map (λ n. slowest_frames n) (number_in more) else
+    if bytes_eq word (codes "folded") then Some (folded_stacks (Some more)) else
+    frame_in word more None
 
 -- what to show, and the path of the file
 abbrev pub Request : Type 0
@@ -53,8 +56,8 @@ Request = Wish × List ℕ
 
 abbrev pub request_in : List (List ℕ) → Option Request
 request_in (word ∷ (path ∷ [])) = option_map (λ wish. (wish, path)) (list_in word)
-request_in (word ∷ (path ∷ (index ∷ []))) =
-    option_map (λ wish. (wish, path)) (numbered_in word index)
+request_in (word ∷ (path ∷ (more ∷ []))) =
+    option_map (λ wish. (wish, path)) (detailed_in word more)
 request_in (word ∷ (path ∷ (index ∷ (thread ∷ [])))) =
     option_map (λ wish. (wish, path)) (frame_in word index (Some thread))
 request_in _ = None
@@ -66,6 +69,7 @@ wish_of Frames = all_frames
 wish_of (Slowest limit) = slowest_frames limit
 wish_of (Frame index thread) = a_frame index (option_map (λ t. t.now) thread)
 wish_of Trace = a_trace
+wish_of (Folded thread) = folded_stacks (option_map (λ t. t.now) thread)
 
 abbrev pub request_of : View × Bor (List ℕ) → Request
 request_of t = (wish_of t.0, t.1.now)

@@ -7,5 +7,6 @@ pub mod Names
 pub mod Trace
 pub mod FrameTree
 pub mod Slowest
+pub mod Folded
 pub mod Arguments
 pub mod inner

@@ -65,7 +65,7 @@ pub record AreUnread (entries : List Entry) (fault : Error) : Type 0 where
 abbrev pub RefusesUnread : Pick → List OpenFrame → OpenFrame → Error → Type 0
 RefusesUnread pick frames frame fault = AreUnread (pick frame) fault
 
--- The text of items, one after the other. Each is printed in a state that those before it leave.
-abbrev pub outputs : {S X : Type 0} → (S → X → List ℕ) → (S → X → S) → S → List X → List ℕ
+-- What items give, one after the other. Each is seen in a state that those before it leave.
+abbrev pub outputs : {S X Y : Type 0} → (S → X → List Y) → (S → X → S) → S → List X → List Y
 outputs out next s [] = []
 outputs out next s (x ∷ xs) = out s x ++ outputs out next (next s x) xs

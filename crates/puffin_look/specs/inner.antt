@@ -6,3 +6,5 @@ pub mod Events
 pub mod Tracings
 pub mod TreeLines
 pub mod FrameTrees
+pub mod Stacks
+pub mod Foldings

@@ -1,11 +1,11 @@
 //! Prints a frame of a file as a tree of scopes.
 
-ghost use Rattle.std.specs.Prelude.{◌≡◌, false, option_map, ◌++◌, ◌+◌, ◌-◌, ◌^◌, ◌<◌, ◌⊎◌, ◌-ℤ◌, FitsSigned, IsOkUnless, OnOk, IfOk, IfErr};
+ghost use Rattle.std.specs.Prelude.{◌≡◌, false, option_map, ◌++◌, ◌+◌, ◌⊎◌, ◌-ℤ◌, FitsSigned, IsOkUnless, OnOk, IfOk, IfErr};
 ghost use Rattle.std.specs.Int.{w64};
 ghost use Rattle.std.specs.List.{list_any};
 ghost use Rattle.std.specs.FinMap as map;
 ghost use Rattle.puffin_data.specs.declared.error.Error.{Error};
-ghost use Rattle.puffin_data.specs.Device.{TookNothing};
+ghost use Rattle.puffin_data.specs.Device.{CanFail, TookNothing};
 ghost use Rattle.puffin_data.specs.Honesty.{facts_of};
 ghost use Rattle.puffin_threads.specs.Details.{lacks_id, shared_details};
 ghost use Rattle.puffin_threads.specs.Thread.ThreadKey.{key_of};
@@ -29,7 +29,11 @@ use std::alloc::{AllocError, Global};
 use std::sync::Arc;
 
 /// Returns whether a thread is printed: any thread if none is named, and else the one with this text.
-fn is_wanted(alloc: Global, wanted: Option<&str>, thread: &ThreadInfo) -> Result<bool, AllocError>
+pub(crate) fn is_wanted(
+    alloc: Global,
+    wanted: Option<&str>,
+    thread: &ThreadInfo,
+) -> Result<bool, AllocError>
     ensures { IfOk result (λ is.
         is ≡ is_wanted (option_map (λ t. t.now) wanted.entry) (key_of thread.now)) }
 {
@@ -137,8 +141,8 @@ pub fn print_frame<S: Source, D: Drain>(
     index: FrameIndex,
     thread: Option<&str>,
 ) -> Result<bool, FileError>
-    requires source { S.failures source.old < 2 ^ 64 - 1 }
-    requires drain { D.failures drain.old < 2 ^ 64 - 1 }
+    requires source { CanFail S.failures source.old }
+    requires drain { CanFail D.failures drain.old }
     ensures ok { IfOk result (λ found.
         IsPrinted (IsFrameText index (option_map (λ t. t.now) thread.entry) found)
         (S.remaining source.old) (S.remaining source.new) (D.contents drain.old)

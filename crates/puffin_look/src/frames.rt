@@ -1,8 +1,8 @@
 //! Lists the frames of a file.
 
-ghost use Rattle.std.specs.Prelude.{◌≡◌, ◌++◌, ◌+◌, ◌-◌, ◌^◌, ◌<◌, ◌⊎◌, OnOk, IfOk, IfErr};
+ghost use Rattle.std.specs.Prelude.{◌≡◌, ◌++◌, ◌+◌, ◌⊎◌, OnOk, IfErr};
 ghost use Rattle.std.specs.FinMap as map;
-ghost use Rattle.puffin_data.specs.Device.{TookNothing};
+ghost use Rattle.puffin_data.specs.Device.{CanFail, TookNothing};
 ghost use Rattle.puffin_frames.specs.Frame.Contents.{streams_held};
 ghost use Rattle.puffin_look.specs.Printed.{IsPrinted, IsStopped, RefusesNone};
 ghost use Rattle.puffin_look.specs.FrameLines.{counts_text, range_text, duration_text, meta_text, AreFrameLines};
@@ -113,8 +113,8 @@ pub fn print_frames<S: Source, D: Drain>(
     source: &mut S,
     drain: &mut D,
 ) -> Result<(), FileError>
-    requires source { S.failures source.old < 2 ^ 64 - 1 }
-    requires drain { D.failures drain.old < 2 ^ 64 - 1 }
+    requires source { CanFail S.failures source.old }
+    requires drain { CanFail D.failures drain.old }
     ensures ok { OnOk result (
         IsPrinted AreFrameLines (S.remaining source.old) (S.remaining source.new)
         (D.contents drain.old) (D.contents drain.new)) }

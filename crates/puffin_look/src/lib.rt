@@ -6,22 +6,26 @@
 //! | list its frames, or the slowest of them | [`print_frames`], [`print_slowest`] |
 //! | print a frame as a tree | [`print_frame`] |
 //! | write a trace for other tools | [`print_trace`] |
+//! | write the folded stacks for them | [`print_folded`] |
 #![tactic(auto)]
 
 mod columns;
 mod events;
+mod folded;
 mod frame_tree;
 mod frames;
 mod listing;
 mod names;
 mod quoting;
 mod slowest;
+mod stacks;
 mod task;
 mod text;
 mod threads;
 mod trace;
 mod tree;
 
+pub use folded::print_folded;
 pub use frame_tree::print_frame;
 pub use frames::print_frames;
 pub use slowest::print_slowest;

@@ -1,10 +1,10 @@
 //! Reads a file one frame at a time, and prints each frame.
 
-ghost use Rattle.std.specs.Prelude.{◌≡◌, ◌⊎◌, ◌<◌, ◌-◌, ◌+◌, ◌^◌, ◌++◌, ◌∷◌, [], List, ℕ, false, ◌≢◌, Ok, Err, IfOk, IfErr, OnOk};
+ghost use Rattle.std.specs.Prelude.{◌≡◌, ◌⊎◌, ◌+◌, ◌++◌, ◌∷◌, [], List, ℕ, false, ◌≢◌, Ok, Err, IfOk, IfErr, OnOk};
 ghost use Rattle.std.specs.List.{list_any};
 ghost use Rattle.std.specs.Arc.{arc_value};
 ghost use Rattle.puffin_data.specs.declared.error.Error.{Error};
-ghost use Rattle.puffin_data.specs.Device.{TookNothing};
+ghost use Rattle.puffin_data.specs.Device.{CanFail, TookNothing};
 ghost use Rattle.puffin_threads.specs.Details.{lacks_id, shared_details};
 ghost use Rattle.puffin_view.specs.View.Known.{lacks_ids};
 ghost use Rattle.puffin_frames.specs.Frame.Contents.{packet_fields, frame_details};
@@ -112,8 +112,8 @@ pub(crate) fn list_frames<S: Source, D: Drain, L: Listing>(
     drain: &mut D,
     listing: &mut L,
 ) -> Result<(), FileError>
-    requires source { S.failures source.old < 2 ^ 64 - 1 }
-    requires drain { D.failures drain.old < 2 ^ 64 - 1 }
+    requires source { CanFail S.failures source.old }
+    requires drain { CanFail D.failures drain.old }
     ensures ok { OnOk result (
         ListsAll L.text L.takes listing.old listing.new (S.remaining source.old)
         (S.remaining source.new) (D.contents drain.old) (D.contents drain.new)) }

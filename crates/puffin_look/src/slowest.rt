@@ -1,8 +1,8 @@
 //! Lists the slowest frames of a file.
 
-ghost use Rattle.std.specs.Prelude.{◌≡◌, ◌++◌, ◌+◌, ◌-◌, ◌^◌, ◌<◌, ◌⊎◌, ◌≤◌, length, insert, take, position, [], OnOk, IfOk, IfErr};
+ghost use Rattle.std.specs.Prelude.{◌≡◌, ◌++◌, ◌+◌, ◌<◌, ◌⊎◌, ◌≤◌, length, insert, take, position, [], OnOk, IfOk, IfErr};
 ghost use Rattle.std.specs.List.{flat_map};
-ghost use Rattle.puffin_data.specs.Device.{TookNothing};
+ghost use Rattle.puffin_data.specs.Device.{CanFail, TookNothing};
 ghost use Rattle.puffin_look.specs.OpenFrame.{open_of};
 ghost use Rattle.puffin_look.specs.Printed.{IsPrinted, IsStopped, IsCutOff, RefusesNone};
 ghost use Rattle.puffin_look.specs.Slowest.{row_of, row_line, is_faster, with_row, AreSlowestLines, IsNoText};
@@ -135,8 +135,8 @@ pub fn print_slowest<S: Source, D: Drain>(
     drain: &mut D,
     limit: usize,
 ) -> Result<(), FileError>
-    requires source { S.failures source.old < 2 ^ 64 - 1 }
-    requires drain { D.failures drain.old < 2 ^ 64 - 1 }
+    requires source { CanFail S.failures source.old }
+    requires drain { CanFail D.failures drain.old }
     ensures ok { OnOk result (
         IsPrinted (AreSlowestLines limit) (S.remaining source.old) (S.remaining source.new)
         (D.contents drain.old) (D.contents drain.new)) }

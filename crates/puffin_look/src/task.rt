@@ -2,7 +2,7 @@
 
 ghost use Rattle.std.specs.Prelude.{◌≡◌, ◌^◌, option_map, map};
 ghost use Rattle.std.specs.String.{string_bytes};
-ghost use Rattle.puffin_look.specs.Arguments.{number_in, list_in, frame_in, numbered_in, request_in, wish_of, request_of};
+ghost use Rattle.puffin_look.specs.Arguments.{number_in, list_in, frame_in, detailed_in, request_in, wish_of, request_of};
 
 use puffin_data::FrameIndex;
 
@@ -19,6 +19,8 @@ pub enum View<'w> {
     Frame(FrameIndex, Option<&'w str>),
     /// A trace.
     Trace,
+    /// The folded stacks of all threads, or of the one with this text.
+    Folded(Option<&'w str>),
 }
 
 /// Parses a decimal number without a sign, below `2^64`.
@@ -39,18 +41,20 @@ fn list_of<'w>(word: &str) -> Option<View<'w>>
         "threads" => Some(View::Threads),
         "frames" => Some(View::Frames),
         "trace" => Some(View::Trace),
+        "folded" => Some(View::Folded(None)),
         _ => None,
     }
 }
 
-/// Parses a word that is followed by the path and a number.
-fn numbered_of<'w>(word: &str, index: &str) -> Option<View<'w>>
-    ensures { option_map wish_of result ≡ numbered_in word.now index.now }
+/// Parses a word that is followed by the path and one more word.
+fn detailed_of<'w>(word: &str, more: &'w str) -> Option<View<'w>>
+    ensures { option_map wish_of result ≡ detailed_in word.now more.now }
 {
-    if word == "frames" {
-        return Some(View::Slowest(number(index)? as usize));
+    match word {
+        "frames" => Some(View::Slowest(number(more)? as usize)),
+        "folded" => Some(View::Folded(Some(more))),
+        word => frame_of(word, more, None),
     }
-    frame_of(word, index, None)
 }
 
 /// Parses a word that is followed by the path, an index and perhaps a thread.
@@ -70,7 +74,7 @@ pub fn read_words(words: &[String]) -> Option<(View<'_>, &str)>
 {
     match words {
         [word, path] => Some((list_of(word.as_str())?, path.as_str())),
-        [word, path, index] => Some((numbered_of(word.as_str(), index.as_str())?, path.as_str())),
+        [word, path, more] => Some((detailed_of(word.as_str(), more.as_str())?, path.as_str())),
         [word, path, index, thread] => Some((
             frame_of(word.as_str(), index.as_str(), Some(thread.as_str()))?,
             path.as_str(),

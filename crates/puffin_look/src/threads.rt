@@ -1,10 +1,10 @@
 //! Lists the threads of a file.
 
-ghost use Rattle.std.specs.Prelude.{◌≡◌, ◌++◌, ◌+◌, ◌-◌, ◌^◌, ◌<◌, ◌⊎◌, codes, unwrap_or, OnOk, IfOk, IfErr};
+ghost use Rattle.std.specs.Prelude.{◌≡◌, ◌++◌, ◌+◌, ◌⊎◌, codes, unwrap_or, OnOk, IfOk, IfErr, IsOkUnless};
 ghost use Rattle.std.specs.List.{flat_map};
 ghost use Rattle.std.specs.FinMap as map;
 ghost use Rattle.puffin_data.specs.Honesty.{facts_of};
-ghost use Rattle.puffin_data.specs.Device.{TookNothing};
+ghost use Rattle.puffin_data.specs.Device.{CanFail, TookNothing};
 ghost use Rattle.puffin_threads.specs.Thread.ThreadKey.{by_key, key_of};
 ghost use Rattle.puffin_look.specs.Printed.{IsPrinted, IsStopped, RefusesNone};
 ghost use Rattle.puffin_look.specs.inner.Taken.{fails_outside};
@@ -85,7 +85,7 @@ impl Threads {
         ensures ok { OnOk result (
             by_key self.new.totals.entries
             ≡ with_stream (by_key self.old.totals.entries) (key_of thread.now, facts_of info.now)) }
-        ensures memory { IfErr result (λ e. e ≡ Error.Memory) }
+        ensures memory { IsOkUnless result Error.Memory }
     {
         let totals = self.totals_under(thread).with(info);
         self.totals.insert(thread.clone()?, totals)?;
@@ -207,8 +207,8 @@ pub fn print_threads<S: Source, D: Drain>(
     source: &mut S,
     drain: &mut D,
 ) -> Result<(), FileError>
-    requires source { S.failures source.old < 2 ^ 64 - 1 }
-    requires drain { D.failures drain.old < 2 ^ 64 - 1 }
+    requires source { CanFail S.failures source.old }
+    requires drain { CanFail D.failures drain.old }
     ensures ok { OnOk result (
         IsPrinted AreThreadLines (S.remaining source.old) (S.remaining source.new)
         (D.contents drain.old) (D.contents drain.new)) }

@@ -1,12 +1,12 @@
 //! Writes a file as a trace that other tools draw.
 
-ghost use Rattle.std.specs.Prelude.{◌≡◌, false, None, codes, IsOkUnless, ◌++◌, ◌+◌, ◌-◌, ◌^◌, ◌<◌, ◌⊎◌, OnOk, IfOk, IfErr};
+ghost use Rattle.std.specs.Prelude.{◌≡◌, false, None, codes, IsOkUnless, ◌++◌, ◌+◌, ◌⊎◌, OnOk, IfOk, IfErr};
 ghost use Rattle.std.specs.FinMap as map;
 ghost use Rattle.puffin_data.specs.declared.error.Error.{Error};
 ghost use Rattle.std.specs.List.{list_any};
 ghost use Rattle.puffin_data.specs.Honesty.{facts_of};
 ghost use Rattle.puffin_data.specs.Walk.{IsFault};
-ghost use Rattle.puffin_data.specs.Device.{TookNothing};
+ghost use Rattle.puffin_data.specs.Device.{CanFail, TookNothing};
 ghost use Rattle.puffin_threads.specs.Details.{lacks_id, shared_details};
 ghost use Rattle.puffin_threads.specs.Thread.ThreadKey.{by_key, key_of};
 ghost use Rattle.puffin_look.specs.Printed.{IsPrinted, IsStopped, IsCutOff};
@@ -208,8 +208,8 @@ pub fn print_trace<S: Source, D: Drain>(
     source: &mut S,
     drain: &mut D,
 ) -> Result<(), FileError>
-    requires source { S.failures source.old < 2 ^ 64 - 1 }
-    requires drain { D.failures drain.old < 2 ^ 64 - 1 }
+    requires source { CanFail S.failures source.old }
+    requires drain { CanFail D.failures drain.old }
     ensures ok { OnOk result (
         IsPrinted IsTrace (S.remaining source.old) (S.remaining source.new)
         (D.contents drain.old) (D.contents drain.new)) }

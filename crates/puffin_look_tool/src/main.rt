@@ -1,10 +1,12 @@
-//! `puffin-look`: shows what is in a file of frames: its threads, its frames, a frame as a tree, all of it as a trace.
+//! `puffin-look`: shows what is in a file of frames: its threads, its frames, a frame as a tree, all of it as a trace or as
+//! folded stacks.
 #![tactic(auto)]
 
 use puffin_data::FileError;
 use puffin_data::data::{Buffered, Counted};
 use puffin_look::{
-    View, print_frame, print_frames, print_slowest, print_threads, print_trace, read_words,
+    View, print_folded, print_frame, print_frames, print_slowest, print_threads, print_trace,
+    read_words,
 };
 use std::fs::File;
 use std::io::BufReader;
@@ -77,6 +79,8 @@ fn show(rt: &HostRuntime, view: View<'_>, path: &str) -> Result<(), LookFault> {
             print_frame(rt.alloc(), &mut file, &mut out, index, thread)
         }
         View::Trace => print_trace(rt.alloc(), &mut file, &mut out).map(|()| true),
+        View::Folded(None) => print_folded(rt.alloc(), &mut file, &mut out, None).map(|_| true),
+        View::Folded(thread) => print_folded(rt.alloc(), &mut file, &mut out, thread),
     };
     match printed {
         Ok(true) => Ok(()),
@@ -100,7 +104,7 @@ fn main(rt: HostRuntime) -> ExitCode {
         Ok(()) => ExitCode::from(0),
         Err(LookFault::Words) => {
             let _ = eprintln!(rt;
-                "usage: puffin-look threads FILE | frames FILE [N] | frame FILE INDEX [THREAD] | trace FILE"
+                "usage: puffin-look threads FILE | frames FILE [N] | frame FILE INDEX [THREAD] | trace FILE | folded FILE [THREAD]"
             );
             ExitCode::from(2)
         }

@@ -2,7 +2,8 @@ use crate::equal::equal;
 use puffin_data::FileError;
 use puffin_data::data::Counted;
 use puffin_look::{
-    View, print_frame, print_frames, print_slowest, print_threads, print_trace, read_words,
+    View, print_folded, print_frame, print_frames, print_slowest, print_threads, print_trace,
+    read_words,
 };
 use std::alloc::AllocGlobal;
 use std::process::Abort;
@@ -76,6 +77,13 @@ fn trace_of(rt: &impl AllocGlobal, file: &[u8]) -> Printed {
     (answer, out.into_inner())
 }
 
+/// Writes the folded stacks of a file.
+fn folded_of(rt: &impl AllocGlobal, file: &[u8], thread: Option<&str>) -> (Found, Vec<u8>) {
+    let mut out = Counted::new(Vec::new(rt.alloc()));
+    let answer = print_folded(rt.alloc(), &mut Counted::new(file), &mut out, thread);
+    (answer, out.into_inner())
+}
+
 /// Checks what was printed.
 fn prints(rt: &impl Abort, printed: &Printed, answer: Result<(), FileError>, lines: &[u8]) {
     equal(rt, printed.0, answer);
@@ -127,6 +135,17 @@ fn a_trace_has_each_frame_thread_and_scope(rt: HostRuntime) {
     let truncated = Err(FileError::Truncated);
     let cut = trace_of(&rt, &FILE[..ONE_FRAME + 20]);
     prints(&rt, &cut, truncated, &TRACE[..SECOND_FRAME]);
+}
+
+#[test]
+fn a_path_has_its_own_time_in_all_frames(rt: HostRuntime) {
+    let printed = folded_of(&rt, &FILE, Some("100:main"));
+    equal(&rt, printed.0, Ok(true));
+    equal(&rt, printed.1.as_slice(), b"#1 201\n");
+    equal(&rt, folded_of(&rt, &FILE, Some("-:main")).0, Ok(false));
+    let cut = folded_of(&rt, &FILE[..ONE_FRAME + 20], None);
+    equal(&rt, cut.0, Err(FileError::Truncated));
+    equal(&rt, cut.1.len(), 0);
 }
 
 #[test]

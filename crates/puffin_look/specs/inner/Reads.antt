@@ -11,10 +11,10 @@ AreRead-append pick [] gs (x ∷ xs) ys a b = absurd a
 AreRead-append pick (f ∷ fs) gs [] ys a b = absurd a
 AreRead-append pick (f ∷ fs) gs (x ∷ xs) ys a b = (a.0, AreRead-append pick fs gs xs ys a.1 b)
 
-pub outputs-append : {S X : Type 0} (out : S → X → List ℕ) (next : S → X → S) (s : S) (xs ys : List X) →
+pub outputs-append : {S X Y : Type 0} (out : S → X → List Y) (next : S → X → S) (s : S) (xs ys : List X) →
     outputs out next s (xs ++ ys) ≡ outputs out next s xs ++ outputs out next (fold next s xs) ys
 outputs-append out next s [] ys = refl
-outputs-append out next s (x ∷ xs) ys =
-    ap (λ (t : List ℕ). out s x ++ t) (outputs-append out next (next s x) xs ys)
+outputs-append {Y = Y} out next s (x ∷ xs) ys =
+    ap (λ (t : List Y). out s x ++ t) (outputs-append out next (next s x) xs ys)
     ∙ sym (append_assoc (out s x) (outputs out next (next s x) xs)
     (outputs out next (fold next (next s x) xs) ys))

@@ -1,0 +1,93 @@
+-- What the folded stacks take from frames, one after the other.
+use Rattle.std.specs.Prelude.{◌≡◌, ◌⊎◌, ℕ, Bool, true, false, List, [], ◌++◌, filter, fold, Option, option_map}
+use Rattle.std.proofs.Common.{refl, sym, ap, subst, ◌∙◌}
+use Rattle.std.proofs.lemmas.List.Sums.{fold-append}
+use denote.Ref.{Bor}
+use Rattle.puffin_data.specs.declared.error.Error.{Error}
+use Rattle.puffin_data.specs.Forest.{Forest}
+use Rattle.puffin_data.specs.Forest.Spelling.{Spells}
+use Rattle.puffin_data.specs.Honesty.{StreamFacts}
+use Rattle.puffin_data.specs.Walk.{IsFault}
+use Rattle.puffin_threads.specs.Details.Collection.{Collection}
+use Rattle.puffin_threads.specs.Thread.ThreadKey.{ThreadKey}
+use Rattle.puffin_look.specs.OpenFrame.{OpenFrame}
+use Rattle.puffin_look.specs.Trees.{TreeFrame, AreRead, AreUnread}
+use Rattle.puffin_look.specs.FrameTree.{is_wanted, wanted_streams, known_with, has_trees, found_in}
+use Rattle.puffin_look.specs.Folded.{forest_parts, frame_parts, parts}
+use Rattle.puffin_look.specs.inner.Reads.{AreRead-append, outputs-append}
+use Rattle.puffin_look.specs.inner.Stacks.{Row, rows_of, with_part, HasMoreParts}
+use Rattle.puffin_look.specs.declared.folded.Folding.{Folding}
+
+-- the text of the thread that is wanted
+abbrev pub wanted_of : Folding → Option (List ℕ)
+wanted_of v = option_map (λ t. t.now) v.thread
+
+-- ---- a thread
+
+pub record AddsStack (v u : Folding) (r : StreamFacts) : Type 0 where
+  pub forest : Forest
+  pub spells : Spells r.form r.bytes forest
+  pub parts : HasMoreParts v.stacks u.stacks (forest_parts v.stacks.known forest)
+  pub found : u.is_found ≡ true
+  pub thread : u.thread ≡ v.thread
+
+-- a thread's scopes were added, unless the thread isn't wanted
+abbrev pub StepsStack : Folding → Folding → ThreadKey → StreamFacts → Type 0
+StepsStack v u key r =
+    ((is_wanted (wanted_of v) key ≡ true) × AddsStack v u r)
+    ⊎ ((is_wanted (wanted_of v) key ≡ false) × (u ≡ v))
+
+abbrev pub IsStackFault : Folding → ThreadKey → StreamFacts → Error → Type 0
+IsStackFault v key r fault = (is_wanted (wanted_of v) key ≡ true) × IsFault r.form r.bytes fault
+
+-- ---- frames
+
+-- these frames were read, their scopes were added, and nothing was printed
+pub record TakesStacks (v : Folding) (frames : List OpenFrame) (text : List ℕ) (u : Folding) : Type 0 where
+  pub none : text ≡ []
+  pub trees : List TreeFrame
+  pub read : AreRead (wanted_streams (wanted_of v)) frames trees
+  pub rows : rows_of u.stacks
+      ≡ fold with_part (rows_of v.stacks) (parts v.stacks.known trees)
+  pub known : u.stacks.known ≡ fold known_with v.stacks.known trees
+  pub found : u.is_found ≡ found_in v.is_found trees
+  pub thread : u.thread ≡ v.thread
+
+abbrev pub RefusesFrame : Folding → OpenFrame → Error → Type 0
+RefusesFrame v frame cause = AreUnread (wanted_streams (wanted_of v) frame) cause
+
+-- ---- laws
+
+pub stacks_none : (v : Folding) → TakesStacks v [] [] v
+stacks_none v = record {
+  none = refl;
+  trees = [];
+  read = tt;
+  rows = refl;
+  known = refl;
+  found = refl;
+  thread = refl;
+}
+
+pub stacks_more : (u v w : Folding) (xs ys : List OpenFrame) (s t : List ℕ) → TakesStacks u xs s v →
+    TakesStacks v ys t w → TakesStacks u (xs ++ ys) (s ++ t) w
+stacks_more u v w xs ys s t a b =
+    let thread = ap (option_map (λ (t : Bor (List ℕ)). t.now)) a.thread in
+    let known = u.stacks.known in
+    record {
+      none = ap (λ (r : List ℕ). r ++ t) a.none ∙ b.none;
+      trees = a.trees ++ b.trees;
+      read = AreRead-append (wanted_streams (wanted_of u)) xs ys a.trees b.trees a.read (
+          subst (λ (p : Option (List ℕ)). AreRead (wanted_streams p) ys b.trees) thread b.read);
+      rows = b.rows
+          ∙ (λ i. fold with_part (a.rows i) (parts (a.known i) b.trees))
+          ∙ sym (fold-append with_part (rows_of u.stacks) (parts known a.trees)
+          (parts (fold known_with known a.trees) b.trees))
+          ∙ ap (fold with_part (rows_of u.stacks)) (
+          sym (outputs-append frame_parts known_with known a.trees b.trees));
+      known = b.known ∙ ap (λ (k : Collection). fold known_with k b.trees) a.known
+          ∙ sym (fold-append known_with known a.trees b.trees);
+      found = b.found ∙ ap (λ (f : Bool). found_in f b.trees) a.found
+          ∙ sym (fold-append (λ f t. has_trees f t.trees) u.is_found a.trees b.trees);
+      thread = b.thread ∙ a.thread;
+    }
