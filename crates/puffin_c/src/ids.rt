@@ -1,6 +1,6 @@
 //! Ids that threads and profilers share.
 
-ghost use Rattle.std.specs.Prelude.{◌≡◌, ◌⊎◌, None, Some, Result, is_some, true, IfErr, OnOk, OnErr};
+ghost use Rattle.std.specs.Prelude.{◌≡◌, ◌⊎◌, None, Some, Result, is_some, true, IfErr, OnOk, OnErr, IsOkUnless};
 ghost use Rattle.puffin_data.specs.declared.error.Error.TheVariants as error;
 ghost use Rattle.puffin_c.specs.declared.fault.Fault.{Fault};
 ghost use Rattle.puffin_c.specs.declared.fault.Fault.TheVariants as fault;
@@ -40,7 +40,7 @@ impl PuffinIds {
 
 /// Makes a set of ids. Fails only with `Memory`.
 fn made(alloc: Global) -> Result<Box<SharedIds>, Fault>
-    ensures { IfErr result (λ f. f ≡ fault.Refused error.Memory) }
+    ensures { IsOkUnless result (fault.Refused error.Memory) }
 {
     let Ok(ids) = Arc::new(alloc, ScopeIds::new()) else {
         return Err(Fault::Refused(Error::Memory));

@@ -1,6 +1,6 @@
 //! A collector of the scopes of all threads, with a view of the frames.
 
-ghost use Rattle.std.specs.Prelude.{◌≡◌, ◌⊎◌, Some, length, false, OnOk, OnErr, IfOk, IfErr, IfSome};
+ghost use Rattle.std.specs.Prelude.{◌≡◌, ◌⊎◌, Some, length, false, OnOk, OnErr, IfOk, IfErr, IfSome, IsOkUnless};
 ghost use Rattle.std.specs.Arc.{arc_value};
 ghost use Rattle.std.specs.List.{Any, list_any};
 ghost use Rattle.std.specs.Option.{option_map};
@@ -98,7 +98,7 @@ impl Profiler {
             list_any lacks_id (frame_details (arc_value frame)) ≡ false)) }
         ensures err { OnErr result (
             (frame : FrameData) × (waiting_frame self.now ≡ Some frame)) }
-        ensures memory { IfErr result (λ e. e ≡ error.Memory) }
+        ensures memory { IsOkUnless result error.Memory }
     {
         match &self.waiting {
             Some(waiting) => Ok(Some(waiting.frame.clone()?)),

@@ -1,6 +1,6 @@
 //! A thread's profiler that takes its times from the caller.
 
-ghost use Rattle.std.specs.Prelude.{◌≡◌, ◌≢◌, ◌<◌, Some, OnOk, OnErr, IfOk, IfErr, string_bytes, slice_get};
+ghost use Rattle.std.specs.Prelude.{◌≡◌, ◌≢◌, ◌<◌, Some, OnOk, OnErr, IfOk, IfErr, IsOkUnless, string_bytes, slice_get};
 ghost use Rattle.puffin_data.specs.declared.error.Error.TheVariants.{Memory, MismatchedEnd, ScopesOpen};
 ghost use Rattle.puffin_data.specs.Text.{cut_text};
 ghost use Rattle.puffin_data.specs.Forest.Words.{open_after};
@@ -54,7 +54,7 @@ impl Recorder {
             self.new ≡ after_begin self.old id (cut_text self.old.form text.now) (clock_time at)) }
         ensures offset { IfOk result (λ offset. offset ≡ begun_place self.old text.now) }
         ensures err { OnErr result (self.new ≡ self.old) }
-        ensures memory { IfErr result (λ e. e ≡ Memory) }
+        ensures memory { IsOkUnless result Memory }
     {
         self.profiler.clock().set(at);
         self.profiler.begin_scope(id, text)

@@ -1,6 +1,7 @@
 //! Counts the scopes of a stream.
 
-ghost use Rattle.std.specs.Prelude.{◌≡◌, ◌+◌, ◌/◌, ◌≤◌, length, Result};
+ghost use Rattle.std.specs.Prelude.{◌≡◌, ◌≤◌, Result};
+ghost use Rattle.puffin_data.specs.Walk.{most_tries_in};
 ghost use Rattle.puffin_c.specs.declared.fault.Fault.{Fault};
 ghost use Rattle.puffin_c.specs.Faults.{answer_code};
 ghost use Rattle.puffin_c.specs.Counting.{IsCounted, form_given};
@@ -20,7 +21,7 @@ pub(crate) fn form_of(long_texts: bool) -> Form
 /// Walks over the bytes, and sets the counts.
 fn counted(alloc: Global, bytes: &[u8], form: Form, count: &mut PuffinCount) -> Result<(), Fault>
     ensures counted { IsCounted form bytes.now count.old count.new result }
-    ensures few { count.new.tries ≤ length bytes.now / 31 + 1 }
+    ensures few { count.new.tries ≤ most_tries_in bytes.now }
 {
     let walk = walk_forest(alloc, form, bytes, &mut count.tries)?;
     count.scopes = walk.num_scopes as u64;
@@ -43,7 +44,7 @@ pub extern "C" fn puffin_count(
     ensures counted { (answer : Result (Unit {0}) Fault)
         × (result ≡ answer_code answer)
         × IsCounted (form_given long_texts) bytes.now count.old count.new answer }
-    ensures few { count.new.tries ≤ length bytes.now / 31 + 1 }
+    ensures few { count.new.tries ≤ most_tries_in bytes.now }
 {
     let answer = counted(alloc, bytes, form_of(long_texts), count);
     answer_code(answer)

@@ -181,6 +181,7 @@ fn told(
     Ok(())
 }
 
+/// Reads the frame at an offset, describes it, and lists its streams. At the file's end it tells that there is none.
 fn listed(
     alloc: Global,
     file: &[u8],

@@ -1,6 +1,6 @@
 //! Texts that programs pass as bytes.
 
-ghost use Rattle.std.specs.Prelude.{◌≡◌, [], ◌∷◌, OnOk, IfOk, IfErr, string_bytes};
+ghost use Rattle.std.specs.Prelude.{◌≡◌, [], ◌∷◌, OnOk, IfOk, IfErr, IsOkUnless, string_bytes};
 ghost use Rattle.std.specs.Str.{IsUtf8};
 ghost use Rattle.puffin_data.specs.declared.error.Error.TheVariants as error;
 ghost use Rattle.puffin_c.specs.declared.fault.Fault.TheVariants as fault;
@@ -41,7 +41,7 @@ fn other_text(bytes: &[u8]) -> Result<&str, Fault>
 /// Copies a text. Fails only with `Memory`.
 pub(crate) fn copied(alloc: Global, text: &str) -> Result<String, Fault>
     ensures ok { IfOk result (λ copy. string_bytes copy ≡ text.now) }
-    ensures err { IfErr result (λ f. f ≡ fault.Refused error.Memory) }
+    ensures err { IsOkUnless result (fault.Refused error.Memory) }
 {
     match String::from_str(alloc, text) {
         Ok(copy) => Ok(copy),

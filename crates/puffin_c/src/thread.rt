@@ -30,6 +30,7 @@ fn opened(
     ensures opens { Opens (thread_in thread.old) (is_some (ids_in ids.old)) name.now form
         (thread_in thread.new) result }
     ensures on { OnOk result (scopes_on thread.new ≡ true) }
+    ensures same_switch { OnErr result (scopes_on thread.new ≡ scopes_on thread.old) }
     ensures same_ids { ids_in ids.new ≡ ids_in ids.old }
 {
     if thread.is_open {
@@ -67,7 +68,8 @@ pub extern "C" fn puffin_thread_open(
         × (result ≡ answer_code answer)
         × Opens (thread_in thread.old) (is_some (ids_in ids.old)) name.now (form_given long_texts)
         (thread_in thread.new) answer
-        × OnOk answer (scopes_on thread.new ≡ true) }
+        × OnOk answer (scopes_on thread.new ≡ true)
+        × OnErr answer (scopes_on thread.new ≡ scopes_on thread.old) }
     ensures same_ids { ids_in ids.new ≡ ids_in ids.old }
 {
     let answer = opened(alloc, thread, ids, name, form_of(long_texts));
