@@ -1,7 +1,7 @@
 -- Each scope that ends is counted once.
-use Rattle.std.proofs.Common.{◌≡◌, ◌≢◌, ◌<◌, ℕ, ◌+◌, ℤ, List, [], ◌∷◌, ◌++◌, Some, Result, Ok, Err, Bool, true, false, refl, sym, ap, ◌∙◌, arith, inl, inr}
+use Rattle.std.proofs.Common.{◌≡◌, ◌≢◌, ℕ, ◌+◌, ℤ, List, [], ◌∷◌, Some, Result, Ok, Err, Bool, true, false, sym, ap, ◌∙◌, arith, inl, inr}
 use Rattle.puffin_data.specs.declared.error.Error.{Error}
-use Rattle.puffin_data.specs.Forest.Tour.{Event, Open, Close}
+use Rattle.puffin_data.specs.Forest.Tour.{Open, Close}
 use Rattle.puffin_data.specs.Honesty.{StreamFacts}
 use Rattle.puffin_data.specs.Text.{cut_text}
 use Rattle.puffin_threads.specs.declared.thread_profiler.reporter.Closed.{Closed}

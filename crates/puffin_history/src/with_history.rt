@@ -11,8 +11,8 @@ ghost use Rattle.puffin_frames.specs.Frame.Contents.{AreHonest, frame_details};
 ghost use Rattle.puffin_frames.specs.Frame.Sums.{total_scopes};
 ghost use Rattle.puffin_collector.specs.Collector.State.{AcceptsReport, RefusesReport, after_learning, after_wanting};
 ghost use Rattle.puffin_collector.specs.Collector.Registering.{Adds, AddsSome};
-ghost use Rattle.puffin_collector.specs.Collector.Collecting.{CountsScopes};
-ghost use Rattle.puffin.specs.Profiler.Calls.{TakesReport, RegistersScopes, HandsOutFrame, AddsFrame, AddsSink, RemovesSink};
+ghost use Rattle.puffin_collector.specs.Collector.Collecting.{CollectsFrame, CountsScopes};
+ghost use Rattle.puffin.specs.Profiler.Calls.{TakesReport, RegistersScopes, LearnsFrame, AddsSink, RemovesSink};
 ghost use Rattle.puffin.specs.Profiler.{collected_of, SameSinks};
 ghost use Rattle.puffin.specs.Sinks.{PutsIn, TakesOut, HasNone};
 ghost use Rattle.puffin.specs.Sinks.Handing.{HandsOn, HandsOnAny};
@@ -28,7 +28,7 @@ use crate::leaving::leave_all;
 use crate::parts::Parts;
 use crate::share::HistoryShare;
 use history::{History, Log};
-use puffin::global_profiler::{FrameSink, FrameSinkId, GlobalProfiler, Settled, Sink};
+use puffin::global_profiler::{FrameSinkId, GlobalProfiler, Settled, Sink};
 use puffin_collector::{Emitted, Totals};
 use puffin_data::data::{ScopeId, StreamInfoRef};
 use puffin_data::{Error, Result};
@@ -184,13 +184,15 @@ impl<L: Ledger + History, M: Ledger> WithHistory<L, M> {
     /// the history's next entry.
     pub fn new_frame<R: Wait>(&mut self, rt: &R, share: &mut HistoryShare<L, M>) -> Result<Emitted>
         requires boxed_sinks { ⊤ }
-        ensures handed_out { HandsOutFrame (λ b. (FrameSink-box b).accepts)
-            (profiler_of self.old) result (profiler_of self.new) }
+        ensures collected { CollectsFrame (λ emitted. emitted.frame) (collected_in self.old) result
+            (collected_in self.new) }
         ensures counted { IfOk result (λ emitted.
             CountsFrame share.old.counts emitted.frame share.new.counts) }
         ensures taken { IfOk result (λ emitted. TakesFrame share.old emitted.frame share.new) }
+        ensures kept { OnErr result (sinks_in self.new ≡ sinks_in self.old) }
         ensures unchanged { OnErr result (
             (share.new ≡ share.old) × (entries_of self.new ≡ entries_of self.old)) }
+        ensures next { next_sink_in self.new ≡ next_sink_in self.old }
     {
         let Emitted { frame, refused } = self.profiler.new_frame(rt)?;
         let Some(frame) = frame else {
@@ -213,8 +215,8 @@ impl<L: Ledger + History, M: Ledger> WithHistory<L, M> {
     /// entry of the history.
     pub fn add_frame<R: Wait>(&mut self, rt: &R, frame: Arc<FrameData>) -> Result<usize>
         requires boxed_sinks { ⊤ }
-        ensures added { AddsFrame (λ b. (FrameSink-box b).accepts)
-            (profiler_of self.old) (arc_value frame) result (profiler_of self.new) }
+        ensures learns { LearnsFrame (profiler_of self.old) (arc_value frame) result
+            (profiler_of self.new) }
         ensures log { entries_of self.new ≡ entries_of self.old }
     {
         self.profiler.add_frame(rt, frame)

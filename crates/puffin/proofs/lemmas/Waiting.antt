@@ -1,5 +1,5 @@
 -- How many scopes have ended among the events that wait for a report.
-use Rattle.std.proofs.Common.{◌≡◌, ℕ, ◌+◌, List, [], ◌∷◌, ◌++◌, refl, arith}
+use Rattle.std.proofs.Common.{◌≡◌, ◌+◌, List, [], ◌∷◌, ◌++◌, refl, arith}
 use Rattle.puffin_data.specs.Forest.{Forest, empty, node}
 use Rattle.puffin_data.specs.Forest.Measures.{scope_count}
 use Rattle.puffin_data.specs.Forest.Tour.{Event, Open, Close, tour}

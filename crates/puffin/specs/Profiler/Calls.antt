@@ -46,16 +46,11 @@ module _ {I : Type 0} {F : I → Type 0} where
     pub kept : OnErr result (sinks_of new ≡ sinks_of old)
     pub next : next_sink_of new ≡ next_sink_of old
 
-  -- a frame that was made elsewhere, whose details become known and which each sink is handed
-  pub record AddsFrame
-      (accepts : (b : DynBox I Global F) → F b.vtable → FrameData → Result (Unit {0}) Error →
-      F b.vtable → Type 0)
-      (old : GlobalProfiler I F) (frame : FrameData) (result : Result ℕ Error) (new : GlobalProfiler I F) :
-      Type 0 where
+  -- a frame that was made elsewhere, whose details become known
+  pub record LearnsFrame (old : GlobalProfiler I F) (frame : FrameData) (result : Result ℕ Error)
+      (new : GlobalProfiler I F) : Type 0 where
     pub learnt : OnOk result (
         collected_of new ≡ after_learning (collected_of old) (frame_details frame))
-    pub handed : IfOk result (λ refused.
-        HandsOn accepts frame (sinks_of old) refused (sinks_of new))
     pub missing : (result ≡ Err MissingId) ↔ IsTrue (list_any lacks_id (frame_details frame))
     pub unchanged : (result ≡ Err MissingId) → collected_of new ≡ collected_of old
     pub cause : IfErr result IsDetailsCause
@@ -63,6 +58,16 @@ module _ {I : Type 0} {F : I → Type 0} where
         KnowsSome (collected_of old) (frame_details frame) (collected_of new))
     pub kept : OnErr result (sinks_of new ≡ sinks_of old)
     pub next : next_sink_of new ≡ next_sink_of old
+
+  -- the same, and each sink is handed the frame
+  pub record AddsFrame
+      (accepts : (b : DynBox I Global F) → F b.vtable → FrameData → Result (Unit {0}) Error →
+      F b.vtable → Type 0)
+      (old : GlobalProfiler I F) (frame : FrameData) (result : Result ℕ Error) (new : GlobalProfiler I F) :
+      Type 0 where
+    pub learns : LearnsFrame old frame result new
+    pub handed : IfOk result (λ refused.
+        HandsOn accepts frame (sinks_of old) refused (sinks_of new))
 
   -- a new sink, which comes after the others, under the next number
   pub record AddsSink (old : GlobalProfiler I F) (sink : Sink I F) (result : Result ℕ (Error × Sink I F))

@@ -268,7 +268,10 @@ impl<L: Ledger, M: Ledger> Opened<L, M> {
         let Ok((profiler, mut shares)) = opened else {
             return Err(no_memory());
         };
-        let (Some(taking), Some(reporting)) = (shares.pop(), shares.pop()) else {
+        let Some(taking) = shares.pop() else {
+            return Err(no_memory());
+        };
+        let Some(reporting) = shares.pop() else {
             return Err(no_memory());
         };
         let (Ok(frames), Ok(reports)) = (profiler.clone(), profiler.clone()) else {

@@ -16,7 +16,7 @@ invariant_of-self-2 g c =
     let old = c.args.self.now in let f = c.in-Some.frame in
     let a : Collected = collected_of old.profiler in let b : Collected = collected_of c.new_frame.new.self in
     let is : c.in_ok-frame.field-0.frame ≡ Some f = search rules in
-    let collects : Collects a (Some f) b = subst (λ o. Collects a o b) is c.in_ok-frame.ensures.ok in
+    let collects : Collects a (Some f) b = subst (λ o. Collects a o b) is c.in_ok-frame.ensures.collected.ok in
     record {
       reported_is = old.reported_is ∙ ap (λ (x : Collected). x.reported) (sym collects.2);
       handed_is = search rules;
@@ -30,6 +30,6 @@ returns-clause-taken g c =
     let old = c.args.self.now in let f = c.in-Some.frame in
     let a : Collected = collected_of old.profiler in let b : Collected = collected_of c.new_frame.new.self in
     let is : c.in_ok-frame.field-0.frame ≡ Some f = search rules in
-    let collects : Collects a (Some f) b = subst (λ o. Collects a o b) is c.in_ok-frame.ensures.ok in
+    let collects : Collects a (Some f) b = subst (λ o. Collects a o b) is c.in_ok-frame.ensures.collected.ok in
     let due = pending_there a.streams (events old.log.entries) old.stands in
     (old.log.entries, frame_due f a b (events old.log.entries) collects due, told_frame _ _ (unpacked_in (arc_value f)) _ _ (search rules) (unpacked_is f a b collects ∙ due))

@@ -17,7 +17,18 @@ left : {T E P : Type 0} (r : Result T E) (e : E) → r ≡ Err e → OnErr r P �
 left (Ok x) e is h = absurd (cc)
 left (Err d) e is h = h
 
-pub returns-in_err-learn-clause-known : goal.returns-in_err-learn-clause-known
-returns-in_err-learn-clause-known g c =
+pub returns-in_err-learn : goal.returns-in_err-learn
+returns-in_err-learn g c =
     let told : shared_details c.deref-2.result.now ≡ frame_details (arc_value c.args.frame) = search rules in
-    always c.from_residual.result (subst (λ ds. KnowsSome (collected_of c.args.self.now) ds c.learn.new.self) told (left c.learn.result _ c.in_err-learn.was c.learn.ensures.err))
+    record {
+      learns = record {
+        learnt = search rules;
+        missing = search rules;
+        unchanged = search rules;
+        cause = search rules;
+        known = always c.from_residual.result (subst (λ ds. KnowsSome (collected_of c.args.self.now) ds c.learn.new.self) told (left c.learn.result _ c.in_err-learn.was c.learn.ensures.err));
+        kept = search rules;
+        next = search rules;
+      };
+      handed = search rules;
+    }

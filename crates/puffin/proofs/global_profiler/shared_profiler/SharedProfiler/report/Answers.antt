@@ -2,7 +2,7 @@ use Rattle.puffin.proofs.SharedRefusals.{report_accepted, report_refused}
 use Rattle.puffin.proofs.global_profiler.shared_profiler.SharedProfiler.report.Goals as goal
 
 pub returns-clause-ids : goal.returns-clause-ids
-returns-clause-ids g c = report_accepted c.report.result _ _ _ _ _ c.report.ensures.ok
+returns-clause-ids g c = report_accepted c.report.result _ _ _ _ _ c.report.ensures.reported.ok
 
 pub returns-clause-cause : goal.returns-clause-cause
-returns-clause-cause g c = report_refused c.report.result _ _ _ _ _ c.report.ensures.err
+returns-clause-cause g c = report_refused c.report.result _ _ _ _ _ c.report.ensures.reported.err
