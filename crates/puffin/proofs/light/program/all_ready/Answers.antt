@@ -16,6 +16,8 @@ loop-name-preserved g c = record {
 }
 
 pub returns-clause-clocks : goal.returns-clause-clocks
-returns-clause-clocks g c =
-    (clock_start c.in_ok-clock.clock, clock_begun c.in_ok-clock.clock,
-    All-cons (λ thread. StartsAt (clock_start c.in_ok-clock.clock) (clock_begun c.in_ok-clock.clock) thread.clock) c.in_ok-leader.leader c.loop-name.threads.items c.in_ok-leader.ensures c.loop-name.invariant.clocks)
+returns-clause-clocks g c = (
+  clock_start c.in_ok-clock.clock,
+  clock_begun c.in_ok-clock.clock,
+  All-cons (λ thread. StartsAt (clock_start c.in_ok-clock.clock) (clock_begun c.in_ok-clock.clock) thread.clock) c.in_ok-leader.leader c.loop-name.threads.items c.in_ok-leader.ensures c.loop-name.invariant.clocks,
+)
