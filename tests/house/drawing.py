@@ -38,6 +38,8 @@ WORDS = {
     "example_rounds": "four threads",
     "example_threads": "four threads, proved",
     "example_recorder": "frames as they come",
+    "example_bodies": "a profiled library",
+    "example_crates": "two crates",
     "example": "a whole program",
     "check_bench": "timings",
     "check_runs": "several runs",

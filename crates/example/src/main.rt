@@ -1,5 +1,6 @@
 //! Four threads draw a picture, and record their work in scopes. A frame is taken after each round and written to a file at
-//! once, so the recording survives if the program is stopped in the middle. The first argument names the file.
+//! once, so the recording survives if the program is stopped in the middle. The leader records how long each frame takes to
+//! write, which is in the next frame. The first argument names the file.
 #![tactic(auto)]
 
 mod picture;
@@ -7,8 +8,9 @@ mod picture;
 use anyhow::{Context, Result};
 use picture::Picture;
 use puffin::data::Counted;
-use puffin::light::{Frames, Program, Records, Scopes, profiled};
+use puffin::light::{Frames, Place, Program, Records, Scopes, profiled};
 use puffin::profile_view::{FrameView, FrameWriter};
+use puffin::{place, profile};
 use std::env;
 use std::fs::File;
 use std::sync::atomic::Ordering;
@@ -16,10 +18,11 @@ use std::sync::{Barrier, Mutex, Wait};
 
 const ROUNDS: usize = 12;
 
-/// The picture, the barrier where its threads meet twice in each round, and the writer of its frames.
+/// The picture, the place of the leader's scopes, the barrier where all meet twice in each round, and the writer of the frames.
 #[derive(Drop)]
 struct Studio {
     picture: Picture,
+    write: Place,
     meeting: Barrier,
     writer: Mutex<FrameWriter<Counted<File>>>,
 }
@@ -34,13 +37,14 @@ impl Program for Studio {
     }
 
     /// Writes each frame as it comes. A frame that can't be written is missing from the file, but is still in the view.
-    fn lead<R: Wait, F: Frames>(&self, rt: &R, frames: &mut F) {
+    fn lead<R: Wait, T: Records, F: Frames>(&self, rt: &R, thread: &mut T, frames: &mut F) {
         for _ in 0..ROUNDS {
             self.meeting.wait(rt);
             self.meeting.wait(rt);
             if let Ok(emitted) = frames.new_frame()
                 && let Some(frame) = emitted.frame
             {
+                profile!(_write, thread, self.write);
                 let _written = self.writer.lock(rt).write(&frame);
             }
         }
@@ -71,6 +75,7 @@ fn main(rt: HostRuntime) -> Result<()> {
     let mut scopes = Scopes::new(rt.alloc())?;
     let studio = Studio {
         picture: Picture::new(&mut scopes)?,
+        write: place!(scopes, "write")?,
         meeting: Barrier::new(names.len() + 1),
         writer: Mutex::new(FrameWriter::new(Counted::new(File::create(&rt, out.as_str())?))?),
     };

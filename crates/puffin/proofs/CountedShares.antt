@@ -4,10 +4,10 @@ use Rattle.std.proofs.lemmas.List.Sums.{sum_by-append}
 use Rattle.puffin.specs.declared.light.program.ThreadCounts.{ThreadCounts}
 use Rattle.puffin.specs.Shares.{ShareCounts, all_reported, all_handed}
 
--- one share more, whose thread counted as much
-pub counted_more : (shares : List ShareCounts) (counts : List ThreadCounts) (s : ShareCounts) (t : ThreadCounts) → (all_reported shares < 2 ^ 64 → sum_by (λ (c : ThreadCounts). c.reported) counts ≡ all_reported shares) → (s.reported < 2 ^ 64 → t.reported ≡ s.reported)
-    → all_reported (shares ++ s ∷ []) < 2 ^ 64 → sum_by (λ (c : ThreadCounts). c.reported) (counts ++ t ∷ []) ≡ all_reported (shares ++ s ∷ [])
-counted_more shares counts s t so_far one below =
+-- one share more, whose thread counted as much, beside what the leader counted
+pub counted_more : (leader : ℕ) (shares : List ShareCounts) (counts : List ThreadCounts) (s : ShareCounts) (t : ThreadCounts) → (all_reported shares < 2 ^ 64 → leader + sum_by (λ (c : ThreadCounts). c.reported) counts ≡ all_reported shares) → (s.reported < 2 ^ 64 → t.reported ≡ s.reported)
+    → all_reported (shares ++ s ∷ []) < 2 ^ 64 → leader + sum_by (λ (c : ThreadCounts). c.reported) (counts ++ t ∷ []) ≡ all_reported (shares ++ s ∷ [])
+counted_more leader shares counts s t so_far one below =
     let whole : all_reported (shares ++ s ∷ []) ≡ all_reported shares + s.reported = sum_by-append (λ (c : ShareCounts). c.reported) shares (s ∷ []) ∙ omega arith in
     let each : sum_by (λ (c : ThreadCounts). c.reported) (counts ++ t ∷ []) ≡ sum_by (λ (c : ThreadCounts). c.reported) counts + t.reported = sum_by-append (λ (c : ThreadCounts). c.reported) counts (t ∷ []) ∙ omega arith in
     let before : all_reported shares < 2 ^ 64 = omega (arith, whole, below) in

@@ -20,6 +20,7 @@ pub mod files;
 mod gate;
 pub mod guard;
 pub mod laws;
+mod leader;
 mod macros;
 pub mod place;
 pub mod program;

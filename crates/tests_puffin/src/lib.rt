@@ -10,6 +10,8 @@ mod equal;
 #[cfg(test)]
 mod global_profiler;
 #[cfg(test)]
+mod leader;
+#[cfg(test)]
 mod light;
 #[cfg(test)]
 mod places;

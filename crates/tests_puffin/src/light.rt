@@ -196,7 +196,7 @@ impl Program for Uneven {
         }
     }
 
-    fn lead<R: Wait, F: Frames>(&self, _rt: &R, frames: &mut F) {
+    fn lead<R: Wait, T: Records, F: Frames>(&self, _rt: &R, _thread: &mut T, frames: &mut F) {
         let _emitted = frames.new_frame();
     }
 }

@@ -77,7 +77,11 @@ impl<W: Program> Program for Gate<'_, W> {
         }
     }
 
-    fn lead<R: Wait, F: Frames>(&self, rt: &R, frames: &mut F) {
-        self.program.lead(rt, frames);
+    fn lead<R: Wait, T: Records, F: Frames>(&self, rt: &R, thread: &mut T, frames: &mut F) {
+        self.program.lead(rt, thread, frames);
+    }
+
+    fn leader(&self) -> &'static str {
+        self.program.leader()
     }
 }

@@ -1,13 +1,14 @@
 //! Programs whose threads are profiled.
-ghost use Rattle.std.specs.Prelude.{◌≡◌, ◌+◌, ◌<◌, ◌≤◌, IfOk, IfErr, vec_len, length, sum_by};
+ghost use Rattle.std.specs.Prelude.{◌≡◌, ◌+◌, ◌<◌, ◌≤◌, IfOk, IfErr, vec_len, length, sum_by, ◌∷◌};
 ghost use Rattle.puffin.specs.Shares.{SpellsItsScopes};
 ghost use Rattle.puffin.specs.SharedCauses.{IsFrameCause};
-ghost use Rattle.puffin.specs.Clocks.{HaveOneStart};
+ghost use Rattle.puffin.specs.Clocks.{StartsAt, HaveOneStart};
+ghost use Rattle.puffin_threads.specs.Thread.Clock.{clock_start, clock_begun};
 
 use crate::global_profiler::{Emitted, GlobalFrameView, Settled};
 use crate::light::gate::Gate;
 use crate::light::guard::Records;
-use crate::light::ready::Ready;
+use crate::light::ready::{Crew, Ready};
 use crate::light::scopes::Scopes;
 use crate::light::started::run;
 use crate::thread_profiler::SystemClock;
@@ -43,8 +44,11 @@ pub trait Frames {
 ///         self.done.wait(rt);
 ///     }
 ///
-///     fn lead<R: Wait, F: Frames>(&self, rt: &R, frames: &mut F) {
-///         self.done.wait(rt);
+///     fn lead<R: Wait, T: Records, F: Frames>(&self, rt: &R, thread: &mut T, frames: &mut F) {
+///         {
+///             profile!(_waits, thread, self.waits);
+///             self.done.wait(rt);
+///         }
 ///         let _emitted = frames.new_frame();
 ///     }
 /// }
@@ -56,8 +60,15 @@ pub trait Program {
     /// Does the work of one thread. Threads are numbered from 0, in the order of the names passed to [`profiled`].
     fn work<R: Wait, T: Records>(&self, rt: &R, number: usize, thread: &mut T);
 
-    /// Takes frames while the threads work. It runs on the thread that called [`profiled`].
-    fn lead<R: Wait, F: Frames>(&self, rt: &R, frames: &mut F);
+    /// Takes frames while the threads work, and begins scopes of its own on `thread`. It runs on the thread that called
+    /// [`profiled`]. As on any thread, its scopes are reported when the outermost of them ends, so a frame that is taken within
+    /// a scope of the leader has none of its open scopes.
+    fn lead<R: Wait, T: Records, F: Frames>(&self, rt: &R, thread: &mut T, frames: &mut F);
+
+    /// Returns the name under which the leader's scopes are recorded: `leader`, unless you write this method.
+    fn leader(&self) -> &'static str {
+        "leader"
+    }
 }
 
 /// What became of the scopes of one thread. The scopes that closed are those that were reported and those that weren't.
@@ -79,42 +90,61 @@ pub struct Outcome {
     pub view: GlobalFrameView,
     /// What became of each thread's scopes, in the order in which the threads' names were passed.
     pub threads: Vec<ThreadCounts>,
-    /// How many scopes all threads reported, how many of these were handed out in frames, and how many are pending.
+    /// What became of the leader's own scopes.
+    pub leader: ThreadCounts,
+    /// How many scopes the leader and all threads reported, how many of these were handed out in frames, and how many are
+    /// pending.
     pub settled: Settled,
     /// The number of frames that were handed out. Each of them has at least one scope.
     pub frames: u64,
     /// The number of these frames that the view didn't take, for example because memory ran out.
     pub missed: u64,
-    ghost counted: { sum_by (λ t. t.reported) threads.items ≡ settled.reported },
+    ghost counted: { leader.reported + sum_by (λ t. t.reported) threads.items
+        ≡ settled.reported },
     ghost some: { missed ≤ frames },
     ghost some_each: { frames ≤ settled.handed },
     ghost none_handed: { frames ≡ 0 → settled.handed ≡ 0 },
 }
 
-/// Prepares a thread for each name. All have the same clock, the system's.
+/// Prepares a thread under this name, with a clock that has the start of this one.
 fn ready<R: AllocGlobal + Clock + Copy>(
     rt: R,
+    name: &str,
+    clock: &SystemClock<R>,
+    scopes: &Scopes,
+) -> io::Result<Ready<SystemClock<R>>>
+    ensures { IfOk result (λ thread.
+        StartsAt (clock_start clock.now) (clock_begun clock.now) thread.clock) }
+{
+    let name = String::from_str(rt.alloc(), name)?;
+    let Ok(scopes) = scopes.for_thread() else {
+        return Err(io::Error::from(io::ErrorKind::OutOfMemory));
+    };
+    Ok(Ready::new(rt.alloc(), name, clock.another(), scopes))
+}
+
+/// Prepares a thread for each name, and one for the leader. All have the same clock, the system's.
+fn all_ready<R: AllocGlobal + Clock + Copy>(
+    rt: R,
+    leader: &str,
     names: &[&str],
     scopes: &Scopes,
-) -> io::Result<Vec<Ready<SystemClock<R>>>>
-    ensures threads { IfOk result (λ threads. vec_len threads ≡ length names.now) }
-    ensures clocks { IfOk result (λ threads.
-        HaveOneStart (λ thread. thread.clock) threads.items) }
+) -> io::Result<Crew<Ready<SystemClock<R>>>>
+    ensures threads { IfOk result (λ crew. vec_len crew.threads ≡ length names.now) }
+    ensures clocks { IfOk result (λ crew.
+        HaveOneStart (λ thread. thread.clock) (crew.leader ∷ crew.threads.items)) }
 {
     let clock = SystemClock::new(rt)?;
     let mut threads = Vec::new(rt.alloc());
     for name in names {
-        let name = String::from_str(rt.alloc(), name)?;
-        let Ok(scopes) = scopes.for_thread() else {
-            return Err(io::Error::from(io::ErrorKind::OutOfMemory));
-        };
-        threads.push(Ready::new(rt.alloc(), name, clock.another(), scopes))?;
+        threads.push(ready(rt, name, &clock, scopes)?)?;
     }
-    Ok(threads)
+    let leader = ready(rt, leader, &clock, scopes)?;
+    Ok(Crew { leader, threads })
 }
 
 /// Runs a program: starts a thread for each of these names, runs the program's leader on the calling thread, joins all threads
-/// and adds up what they reported. No thread begins its work before all of them have been started.
+/// and adds up what the leader and they reported. No thread begins its work before all of them have been started.
 ///
 /// Fails if a clock can't be read, a thread can't be started, or memory runs out. Threads that were already started then end
 /// without having begun their work.
@@ -130,13 +160,13 @@ pub fn profiled<R: AllocGlobal + Threads + Wait + Clock + Copy + Send + Sync, W:
 ) -> io::Result<Outcome>
     ensures threads { IfOk result (λ outcome. vec_len outcome.threads ≡ length names.now) }
 {
-    let threads = ready(rt, names, scopes)?;
-    let parts = names.len() + 1;
+    let crew = all_ready(rt, program.leader(), names, scopes)?;
+    let parts = names.len() + 2;
     let gate = Gate::new(program);
     let outcome = run::<Brand, Brand, R, Ready<SystemClock<R>>, Gate<W>>(
         rt,
         scopes,
-        threads,
+        crew,
         &gate,
         parts,
         Blank::new(parts as u64),

@@ -7,10 +7,11 @@ use crate::global_profiler::{
 };
 use crate::light::counted::{CountedShare, Counting};
 use crate::light::gate::Gated;
+use crate::light::leader::{Led, Seat, lead};
 use crate::light::program::{Outcome, Program, ThreadCounts};
-use crate::light::ready::AnyReady;
+use crate::light::ready::{AnyReady, Crew};
 use crate::light::scopes::Scopes;
-use crate::light::taker::{Taken, Taker};
+use crate::light::taker::Taken;
 use std::sync::Wait;
 use std::sync::ledger::{Blank, Ledger};
 use std::thread::{JoinHandle, Scope, Threads};
@@ -108,10 +109,10 @@ struct Room<L: Ledger, M: Ledger> {
 }
 
 impl<L: Ledger, M: Ledger> Room<L, M> {
-    /// Allocates room for this number of threads and the leader.
+    /// Allocates room for this number of threads and the leader, which has two shares.
     fn new<R: AllocGlobal>(rt: &R, threads: usize) -> io::Result<Room<L, M>> {
         Ok(Room {
-            shares: Vec::with_capacity(rt.alloc(), threads.saturating_add(1))?,
+            shares: Vec::with_capacity(rt.alloc(), threads.saturating_add(2))?,
             counts: Vec::with_capacity(rt.alloc(), threads)?,
         })
     }
@@ -122,38 +123,47 @@ impl<L: Ledger, M: Ledger> Room<L, M> {
 struct Joined<L: Ledger, M: Ledger> {
     shares: Vec<Share<L, M>>,
     counts: Vec<ThreadCounts>,
+    leader: ThreadCounts,
     frames: u64,
     missed: u64,
-    ghost all_back: { vec_len shares ≡ vec_len counts + 1 },
+    ghost all_back: { vec_len shares ≡ vec_len counts + 2 },
     ghost none_handed: { frames ≡ 0 → all_handed shares.items ≡ 0 },
     ghost some_each: { frames ≤ all_handed shares.items },
     ghost some: { missed ≤ frames },
     ghost counted: { all_reported shares.items < 2 ^ 64
-        → sum_by (λ t. t.reported) counts.items ≡ all_reported shares.items },
+        → leader.reported + sum_by (λ t. t.reported) counts.items
+        ≡ all_reported shares.items },
 }
 
 #[tactic(auto, using(crate::proofs::CountedShares::counted_more, crate::proofs::CountedShares::none_more, crate::proofs::CountedShares::some_more))]
-/// Joins all threads, and appends their shares to the leader's.
+/// Joins all threads, and appends their shares to the leader's two.
 fn join_all<L: Ledger, M: Ledger, R: Threads>(
     rt: &R,
     started: Vec<JoinHandle<CountedShare<L, M>>>,
-    taken: Taken<L, M>,
+    led: Led<L, M>,
     room: Room<L, M>,
 ) -> io::Result<Joined<L, M>>
     ensures threads { IfOk result (λ joined. vec_len joined.counts ≡ vec_len started) }
+    ensures leader { IfOk result (λ joined. joined.leader ≡ led.counted.counts) }
     ensures frames { IfOk result (λ joined.
-        (joined.frames ≡ taken.frames) × (joined.missed ≡ taken.missed)) }
+        (joined.frames ≡ led.taken.frames) × (joined.missed ≡ led.taken.missed)) }
 {
     let Room {
         mut shares,
         mut counts,
     } = room;
+    let Led { taken, counted } = led;
     let Taken {
         share,
         frames,
         missed,
     } = taken;
+    let CountedShare {
+        share: own,
+        counts: leader,
+    } = counted;
     shares.push(share)?;
+    shares.push(own)?;
     for thread in started {
         let counted = thread.join(rt);
         shares.push(counted.share)?;
@@ -162,32 +172,10 @@ fn join_all<L: Ledger, M: Ledger, R: Threads>(
     Ok(Joined {
         shares,
         counts,
+        leader,
         frames,
         missed,
     })
-}
-
-/// Runs the program's leader, with a share of its own, and returns what it took.
-fn lead<L: Ledger, M: Ledger, R: Wait + Copy, W: Program>(
-    rt: R,
-    profiler: SharedProfiler<L, M>,
-    own: Share<L, M>,
-    program: &W,
-) -> Taken<L, M>
-    requires { own ≡ no_counts }
-{
-    let mut taker = Taker {
-        rt,
-        profiler,
-        taken: Taken::new(own),
-    };
-    program.lead(&rt, &mut taker);
-    let Taker {
-        rt: _,
-        profiler: _,
-        taken,
-    } = taker;
-    taken
 }
 
 /// Starts the program's threads, opens its gate, runs its leader, and returns all shares.
@@ -205,24 +193,21 @@ fn run_all<
     rt: R,
     scope: &Scope<'s, E>,
     profiler: &SharedProfiler<L, M>,
-    own: Share<L, M>,
+    seat: Seat<L, M>,
     shares: Vec<Share<L, M>>,
-    threads: Vec<T>,
+    crew: Crew<T>,
     program: &'s W,
 ) -> io::Result<Joined<L, M>>
-    requires own { own ≡ no_counts }
-    requires shares { All (λ share. share ≡ no_counts) shares.items }
-    ensures { IfOk result (λ joined. vec_len joined.counts ≡ vec_len threads) }
+    requires { All (λ share. share ≡ no_counts) shares.items }
+    ensures { IfOk result (λ joined. vec_len joined.counts ≡ vec_len crew.threads) }
 {
+    let Crew { leader, threads } = crew;
     let room = Room::new(&rt, threads.len())?;
-    let Ok(leader) = profiler.clone() else {
-        return Err(no_memory());
-    };
     let started = start_all(rt, scope, profiler, shares, threads, program);
     program.open(&rt, started.is_ok());
     let started = started?;
-    let taken = lead(rt, leader, own, program);
-    join_all(&rt, started, taken, room)
+    let led = lead(rt, seat, leader, program);
+    join_all(&rt, started, led, room)
 }
 
 /// Calls [`run_all`] in a thread scope.
@@ -235,33 +220,30 @@ fn scoped<
 >(
     rt: R,
     profiler: &SharedProfiler<L, M>,
-    own: Share<L, M>,
+    seat: Seat<L, M>,
     shares: Vec<Share<L, M>>,
-    threads: Vec<T>,
+    crew: Crew<T>,
     program: &W,
 ) -> io::Result<Joined<L, M>>
-    requires own { own ≡ no_counts }
-    requires shares { All (λ share. share ≡ no_counts) shares.items }
-    ensures { IfOk result (λ joined. vec_len joined.counts ≡ vec_len threads) }
+    requires { All (λ share. share ≡ no_counts) shares.items }
+    ensures { IfOk result (λ joined. vec_len joined.counts ≡ vec_len crew.threads) }
 {
     thread::scope(
         thread::scope_env(),
         &rt,
         move |scope| -> io::Result<Joined<L, M>>
-            requires own { own ≡ no_counts }
-            requires shares { All (λ share. share ≡ no_counts) shares.items }
-            ensures { IfOk result (λ joined. vec_len joined.counts ≡ vec_len threads) }
-        { run_all(rt, scope, profiler, own, shares, threads, program) },
+            requires { All (λ share. share ≡ no_counts) shares.items }
+            ensures { IfOk result (λ joined. vec_len joined.counts ≡ vec_len crew.threads) }
+        { run_all(rt, scope, profiler, seat, shares, crew, program) },
     )
 }
 
-/// A shared profiler with its view, the leader's share and one for each thread.
+/// A shared profiler with its view, the leader's seat and a share for each thread.
 struct Opened<L: Ledger, M: Ledger> {
     profiler: SharedProfiler<L, M>,
     view: GlobalFrameView,
-    own: Share<L, M>,
+    seat: Seat<L, M>,
     shares: Vec<Share<L, M>>,
-    ghost own_new: { own ≡ no_counts },
     ghost all_new: { All (λ share. share ≡ no_counts) shares.items },
 }
 
@@ -286,7 +268,13 @@ impl<L: Ledger, M: Ledger> Opened<L, M> {
         let Ok((profiler, mut shares)) = opened else {
             return Err(no_memory());
         };
-        let Some(own) = shares.pop() else {
+        let Some(taking) = shares.pop() else {
+            return Err(no_memory());
+        };
+        let Some(reporting) = shares.pop() else {
+            return Err(no_memory());
+        };
+        let (Ok(frames), Ok(reports)) = (profiler.clone(), profiler.clone()) else {
             return Err(no_memory());
         };
         let Ok(view) = GlobalFrameView::attach(rt, rt.alloc(), &profiler) else {
@@ -295,7 +283,12 @@ impl<L: Ledger, M: Ledger> Opened<L, M> {
         Ok(Opened {
             profiler,
             view,
-            own,
+            seat: Seat {
+                frames,
+                taking,
+                reports,
+                reporting,
+            },
             shares,
         })
     }
@@ -308,13 +301,15 @@ fn settled<L: Ledger, M: Ledger, R: Wait>(
     view: GlobalFrameView,
     joined: Joined<L, M>,
 ) -> Outcome
-    requires { vec_len joined.counts + 1 ≡ L.parts }
+    requires { vec_len joined.counts + 2 ≡ L.parts }
     ensures threads { result.threads ≡ joined.counts }
+    ensures leader { result.leader ≡ joined.leader }
     ensures frames { (result.frames ≡ joined.frames) × (result.missed ≡ joined.missed) }
 {
     let Joined {
         shares,
         counts,
+        leader,
         frames,
         missed,
     } = joined;
@@ -322,6 +317,7 @@ fn settled<L: Ledger, M: Ledger, R: Wait>(
         Ok(settled) => Outcome {
             view,
             threads: counts,
+            leader,
             settled,
             frames,
             missed,
@@ -331,7 +327,7 @@ fn settled<L: Ledger, M: Ledger, R: Wait>(
     }
 }
 
-/// Opens a shared profiler with a share for each thread and one for the leader, and runs the program.
+/// Opens a shared profiler with a share for each thread and two for the leader, and runs the program.
 pub(crate) fn run<
     L: Ledger + Send + Sync,
     M: Ledger + Send + Sync,
@@ -341,24 +337,25 @@ pub(crate) fn run<
 >(
     rt: R,
     scopes: &Scopes,
-    threads: Vec<T>,
+    crew: Crew<T>,
     program: &W,
     parts: usize,
     reported: Blank,
     handed: Blank,
 ) -> io::Result<Outcome>
-    requires some { vec_len threads + 1 ≡ parts }
+    requires some { vec_len crew.threads + 2 ≡ parts }
     requires reported { IsBlankFor L.name L.parts parts reported }
     requires handed { IsBlankFor M.name M.parts parts handed }
-    ensures threads { IfOk result (λ outcome. vec_len outcome.threads ≡ vec_len threads) }
+    ensures threads { IfOk result (λ outcome.
+        vec_len outcome.threads ≡ vec_len crew.threads) }
 {
     let opened = Opened::<L, M>::new(&rt, scopes, parts, reported, handed)?;
     let Opened {
         profiler,
         view,
-        own,
+        seat,
         shares,
     } = opened;
-    let joined = scoped(rt, &profiler, own, shares, threads, program)?;
+    let joined = scoped(rt, &profiler, seat, shares, crew, program)?;
     Ok(settled(&rt, &profiler, view, joined))
 }

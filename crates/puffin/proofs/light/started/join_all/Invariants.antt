@@ -4,9 +4,9 @@ use Rattle.puffin.proofs.light.started.join_all.Given as goal
 
 abbrev pub invariant-loop-thread : goal.invariant-loop-thread
 invariant-loop-thread g l = record {
-  shares : vec_len l.shares ≡ length l.yielded + 1;
+  shares : vec_len l.shares ≡ length l.yielded + 2;
   counts : vec_len l.counts ≡ length l.yielded;
-  counted : all_reported l.shares.items < 2 ^ 64 → sum_by (λ t. t.reported) l.counts.items ≡ all_reported l.shares.items;
+  counted : all_reported l.shares.items < 2 ^ 64 → l.leader.reported + sum_by (λ t. t.reported) l.counts.items ≡ all_reported l.shares.items;
   none_handed : l.frames ≡ 0 → all_handed l.shares.items ≡ 0;
   some_each : l.frames ≤ all_handed l.shares.items;
 }

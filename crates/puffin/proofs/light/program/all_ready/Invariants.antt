@@ -1,7 +1,7 @@
 use Rattle.std.specs.Prelude.{◌≡◌, vec_len, All}
 use Rattle.puffin_threads.specs.Thread.Clock.{clock_start, clock_begun}
 use Rattle.puffin.specs.Clocks.{StartsAt}
-use Rattle.puffin.proofs.light.program.ready.Given as goal
+use Rattle.puffin.proofs.light.program.all_ready.Given as goal
 
 abbrev pub invariant-loop-name : goal.invariant-loop-name
 invariant-loop-name g l = record {

@@ -1,0 +1,62 @@
+//! A program's leader: it takes frames through one share, and reports its own scopes through another.
+ghost use Rattle.std.specs.Prelude.{◌≡◌};
+ghost use Rattle.puffin.specs.Shares.{no_counts};
+
+use crate::global_profiler::{Share, SharedProfiler, SharedReporter};
+use crate::light::counted::{CountedShare, Counting};
+use crate::light::program::Program;
+use crate::light::ready::AnyReady;
+use crate::light::taker::{Taken, Taker};
+use std::sync::Wait;
+use std::sync::ledger::Ledger;
+
+/// What a leader works with: two handles to the profiler, each with a share that counts nothing yet.
+#[derive(Drop)]
+pub(crate) struct Seat<L: Ledger, M: Ledger> {
+    /// The handle and the share with which it takes frames.
+    pub(crate) frames: SharedProfiler<L, M>,
+    pub(crate) taking: Share<L, M>,
+    /// The handle and the share with which its thread reports.
+    pub(crate) reports: SharedProfiler<L, M>,
+    pub(crate) reporting: Share<L, M>,
+    ghost taking_new: { taking ≡ no_counts },
+    ghost reporting_new: { reporting ≡ no_counts },
+}
+
+/// What a leader returned: what it took, and what became of its thread's scopes.
+#[derive(Drop)]
+pub(crate) struct Led<L: Ledger, M: Ledger> {
+    pub(crate) taken: Taken<L, M>,
+    pub(crate) counted: CountedShare<L, M>,
+}
+
+/// Runs a program's leader on this thread, with what its seat holds.
+pub(crate) fn lead<L: Ledger, M: Ledger, R: Wait + Copy, T: AnyReady, W: Program>(
+    rt: R,
+    seat: Seat<L, M>,
+    thread: T,
+    program: &W,
+) -> Led<L, M> {
+    let Seat {
+        frames,
+        taking,
+        reports,
+        reporting,
+    } = seat;
+    let mut taker = Taker {
+        rt,
+        profiler: frames,
+        taken: Taken::new(taking),
+    };
+    let mut reporter = Counting::new(SharedReporter::new(rt, reports, reporting));
+    let left = thread.lead(&rt, &mut reporter, &mut taker, program);
+    let Taker {
+        rt: _,
+        profiler: _,
+        taken,
+    } = taker;
+    Led {
+        taken,
+        counted: reporter.into_share(left),
+    }
+}
