@@ -167,6 +167,19 @@ static void discarding(void) {
     CALL(puffin_thread_close(&thread));
 }
 
+/* Two threads that were opened with the same ids draw different ones. */
+static void sharing(void) {
+    PuffinThread one = {0}, other = {0};
+    uint32_t first = 0, second = 0;
+    CALL(puffin_thread_open(&one, &ids, TEXT("one"), false));
+    CALL(puffin_thread_open(&other, &ids, TEXT("other"), false));
+    CALL(puffin_register_function(&one, TEXT("one"), TEXT("calls.c"), 1, &first));
+    CALL(puffin_register_function(&other, TEXT("other"), TEXT("calls.c"), 2, &second));
+    is("the threads' ids differ", first != second, true);
+    CALL(puffin_thread_close(&one));
+    CALL(puffin_thread_close(&other));
+}
+
 /* Scopes that are off begin nothing, and what is open is ended. */
 static void switching(void) {
     PuffinThread thread = {0};
@@ -520,6 +533,7 @@ int main(int argc, char **argv) {
         pthread_join(threads[i], NULL);
     }
     discarding();
+    sharing();
     user_scopes();
     CALL(puffin_snapshot(&profiler));
     CALL(puffin_new_frame(&profiler, &frame));
