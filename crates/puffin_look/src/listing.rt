@@ -61,18 +61,6 @@ pub(crate) trait Listing {
         takes u xs s v → takes v ys t w → takes u (xs ++ ys) (s ++ t) w };
 }
 
-/// Converts an error of a listing.
-fn as_file_error(cause: Error) -> FileError
-    ensures memory { cause ≡ Error.Memory → result ≡ FileError.Memory }
-    ensures other { (result ≡ FileError.Memory) ⊎ (result ≡ FileError.Refused cause) }
-    ensures io { result ≢ FileError.Io }
-{
-    match cause {
-        Error::Memory => FileError::Memory,
-        cause => FileError::Refused(cause),
-    }
-}
-
 /// Returns the unpacked data of a frame. Packed bytes are decoded where they are, and not copied.
 #[tactic(auto, using(puffin_frames::proofs::lemmas::FramesAgain::frame_again))]
 fn unpacked(frame: &mut FrameData) -> Result<Arc<UnpackedFrameData>, FileError>
@@ -98,10 +86,7 @@ fn add_frame<L: Listing>(listing: &mut L, frame: FrameData) -> Result<(), FileEr
 {
     let mut frame = frame;
     let unpacked = unpacked(&mut frame)?;
-    match listing.add(&unpacked, &frame.scope_delta) {
-        Ok(()) => Ok(()),
-        Err(cause) => Err(as_file_error(cause)),
-    }
+    Ok(listing.add(&unpacked, &frame.scope_delta)?)
 }
 
 /// Prints all frames of a file, each as soon as it was read. What is pending at the beginning is written in front of them, once
