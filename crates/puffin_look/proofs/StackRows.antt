@@ -1,5 +1,5 @@
 -- The times of paths, as a map in the order of insertion holds them.
-use Rattle.std.proofs.Common.{◌≡◌, ℕ, zero, suc, ◌+◌, Bool, true, false, List, [], ◌∷◌, ◌++◌, map, length, slice_get, position, Option, Some, None, refl, sym, ap, subst, ◌∙◌, is_some, true≢false, append-nil}
+use Rattle.std.proofs.Common.{◌≡◌, ℕ, zero, suc, Bool, true, false, List, [], ◌∷◌, ◌++◌, map, length, slice_get, position, Option, Some, None, refl, sym, ap, subst, ◌∙◌, is_some, true≢false, append-nil}
 use Rattle.std.specs.Prelude.{if◌then◌else◌, cond, ◌||◌, fold, codes, IfSome}
 use Rattle.std.specs.Str.{bytes_eq}
 use Rattle.std.specs.List.{list_any, AllByRecursion, IsDistinct}
@@ -14,7 +14,7 @@ use Rattle.std.specs.declared.vec.Vec.{Vec}
 use Rattle.std.specs.declared.alloc.Global.{Global}
 use Rattle.indexmap.specs.IndexMap.{set_value_at}
 use Rattle.puffin_look.specs.Folded.{Part, front, below, parts_at, outer_part}
-use Rattle.puffin_look.specs.inner.Stacks.{Row, Held, row_of, rows_in, row_with, new_row, with_part, times_with, no_times, path_at, place_kept}
+use Rattle.puffin_look.specs.inner.Stacks.{Row, Held, row_of, rows_in, row_with, with_part, times_with, no_times, path_at, place_kept}
 use Rattle.puffin_look.specs.declared.stacks.Times.{Times}
 
 abbrev pub Key : Type 0

@@ -1,6 +1,6 @@
 -- The stacks of a stream, and the times that they end with.
 use Rattle.std.proofs.Common.{◌≡◌, ℕ, ◌+◌, Bool, true, false, List, [], ◌∷◌, ◌++◌, map, min, Option, Some, None, refl, sym, ap, subst, ◌∙◌, append-nil, append_assoc, true≢false, arith}
-use Rattle.std.specs.Prelude.{fold, filter, sum_by, slice_get, if◌then◌else◌, ◌||◌, IfSome}
+use Rattle.std.specs.Prelude.{fold, sum_by, slice_get, if◌then◌else◌, IfSome}
 use Rattle.std.specs.Map.{keys_of}
 use Rattle.std.specs.List.{flat_map, list_any}
 use Rattle.std.specs.Str.{bytes_eq}

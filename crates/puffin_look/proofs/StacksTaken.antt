@@ -17,7 +17,7 @@ use Rattle.puffin_look.specs.Trees.{Entry, Tree, TreeFrame, AreSpelled, AreUnrea
 use Rattle.puffin_look.specs.FrameTree.{is_wanted, wanted_streams, has_trees, found_in}
 use Rattle.puffin_look.specs.Slowest.{IsNoText}
 use Rattle.puffin_look.specs.Folded.{Part, forest_parts, parts, IsFolded, IsAnyFolded}
-use Rattle.puffin_look.specs.inner.Stacks.{Row, rows_of, row_text, with_part, HasMoreParts, parts_more}
+use Rattle.puffin_look.specs.inner.Stacks.{rows_of, row_text, with_part, HasMoreParts, parts_more}
 use Rattle.puffin_look.specs.inner.Foldings.{wanted_of, StepsStack, TakesStacks, RefusesFrame}
 use Rattle.puffin_look.specs.inner.Listings.{ListsAll, StopsListing}
 use Rattle.puffin_look.specs.declared.folded.Folding.{Folding}

@@ -1,5 +1,5 @@
 -- The folded stacks of a file: each path of scopes with its own time.
-use Rattle.std.specs.Prelude.{◌≡◌, ℕ, ◌+◌, ◌-◌, Bool, true, false, List, [], ◌∷◌, ◌++◌, codes, map, fold, filter, ◌==◌, ◌||◌, nat_lt, if◌then◌else◌, Option, Some, None, sum_by}
+use Rattle.std.specs.Prelude.{◌≡◌, ℕ, ◌-◌, Bool, false, List, [], ◌∷◌, ◌++◌, codes, map, fold, filter, ◌==◌, ◌||◌, nat_lt, if◌then◌else◌, Option, Some, None, sum_by}
 use Rattle.std.specs.Fmt.{decimal}
 use Rattle.std.specs.FinMap as tree
 use Rattle.std.specs.List.{flat_map, list_any}

@@ -1,5 +1,5 @@
 -- What the folded stacks take from frames, one after the other.
-use Rattle.std.specs.Prelude.{◌≡◌, ◌⊎◌, ℕ, Bool, true, false, List, [], ◌++◌, filter, fold, Option, option_map}
+use Rattle.std.specs.Prelude.{◌≡◌, ◌⊎◌, ℕ, Bool, true, false, List, [], ◌++◌, fold, Option, option_map}
 use Rattle.std.proofs.Common.{refl, sym, ap, subst, ◌∙◌}
 use Rattle.std.proofs.lemmas.List.Sums.{fold-append}
 use denote.Ref.{Bor}
@@ -15,7 +15,7 @@ use Rattle.puffin_look.specs.Trees.{TreeFrame, AreRead, AreUnread}
 use Rattle.puffin_look.specs.FrameTree.{is_wanted, wanted_streams, known_with, has_trees, found_in}
 use Rattle.puffin_look.specs.Folded.{forest_parts, frame_parts, parts}
 use Rattle.puffin_look.specs.inner.Reads.{AreRead-append, outputs-append}
-use Rattle.puffin_look.specs.inner.Stacks.{Row, rows_of, with_part, HasMoreParts}
+use Rattle.puffin_look.specs.inner.Stacks.{rows_of, with_part, HasMoreParts}
 use Rattle.puffin_look.specs.declared.folded.Folding.{Folding}
 
 -- the text of the thread that is wanted

@@ -1,7 +1,7 @@
 -- What was printed is the folded stacks.
 use Rattle.std.proofs.Common.{inl, inr, refl, ◌∙◌}
 use Rattle.std.proofs.lemmas.Result.{err_from_is_err_and}
-use Rattle.puffin_look.proofs.StacksTaken.{folding_stopped, none_printed, folding_printed, folding_cut}
+use Rattle.puffin_look.proofs.StacksTaken.{folding_stopped, folding_printed, folding_cut}
 use Rattle.puffin_look.proofs.folded.print_folded.Goals as goal
 
 pub returns-in_err-list_frames-clause-err : goal.returns-in_err-list_frames-clause-err

@@ -1,7 +1,6 @@
 use Rattle.std.proofs.Common.{sym, ap, ◌∙◌}
 use Rattle.std.specs.Option.{option_copied_mut}
 use Rattle.puffin_look.specs.inner.Stacks.{rows_in}
-use Rattle.std.specs.declared.alloc.Global.{Global}
 use Rattle.indexmap.specs.IndexMap.{set_value_at}
 use Rattle.puffin_look.specs.declared.stacks.Times.{Times}
 use Rattle.puffin_look.proofs.StackRows.{part_added, no_place}
