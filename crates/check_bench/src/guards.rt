@@ -127,7 +127,7 @@ fn named_nests<C: NsSource>(thread: &mut ThreadProfiler<C>, scopes: &Scopes) -> 
 }
 
 /// A kind of work with guards.
-#[derive(Clone, Copy, PartialEq, Eq)]
+#[derive(Clone, Copy)]
 pub enum GuardWork {
     /// Macro scopes while the switch is off.
     Off,
@@ -164,7 +164,7 @@ impl GuardWork {
 
     /// Returns whether the switch is on.
     pub fn is_on(self) -> bool {
-        self != GuardWork::Off
+        !matches!(self, GuardWork::Off)
     }
 
     /// Makes one nest of scopes, or none for [`GuardWork::Off`].

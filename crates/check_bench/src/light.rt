@@ -65,7 +65,7 @@ fn row(thread: &mut Recorder, part: &Place) {
 }
 
 /// A kind of work with scopes at places.
-#[derive(Clone, Copy, PartialEq, Eq)]
+#[derive(Clone, Copy)]
 enum LightWork {
     /// Scopes that are switched off.
     Off,
@@ -128,7 +128,7 @@ impl Recording {
     fn new(rt: &HostRuntime, work: LightWork) -> Result<Recording> {
         let mut scopes = Scopes::new(rt.alloc())?;
         let part = place!(scopes, "recorder", "part")?;
-        scopes.set_on(work != LightWork::Off);
+        scopes.set_on(!matches!(work, LightWork::Off));
         let reports = Reports { count: 0 };
         let thread = Thread::new(thread(rt)?, reports, scopes.for_thread()?);
         Ok(Recording { thread, part, work })
@@ -144,8 +144,8 @@ impl Work for Recording {
 
 /// Counts or times each kind of work; the unit is a scope.
 pub fn run_light(rt: &HostRuntime, mode: Mode) -> Result<()> {
-    for work in LightWork::ALL {
-        let mut recording = Recording::new(rt, work)?;
+    for work in &LightWork::ALL {
+        let mut recording = Recording::new(rt, *work)?;
         timing::run(rt, mode, work.name(), ROUNDS, &mut recording)?;
     }
     Ok(())

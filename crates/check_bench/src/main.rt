@@ -24,16 +24,16 @@ mod views;
 use anyhow::{Context, Result};
 use guards::{GuardWork, Guarding, Nesting, Scopes};
 use light::run_light;
-use merges::{MergeWork, Merging};
+use merges::{MERGE_WORK, Merging};
 use names::{NameWork, Shortening};
 use packets::{FileWork, Files};
 use puffin::thread_profiler::{ScriptClock, SystemClock, ThreadProfiler};
 use reports::Profiling;
-use scopes::{Counting, ScopeWork, TEXT, Writing, stream_of};
+use scopes::{Counting, SCOPE_WORK, TEXT, Writing, stream_of};
 use sharing::{run_reports, run_shared_views, time_threads};
 use std::env;
 use timing::{Mode, run};
-use views::{ViewWork, run_view};
+use views::{VIEW_WORK, run_view};
 
 /// How often each kind of work is run; the fastest run counts.
 const ROUNDS: u32 = 4_000;
@@ -56,34 +56,44 @@ fn clocked_thread(rt: HostRuntime) -> Result<ThreadProfiler<SystemClock<HostRunt
     Ok(ThreadProfiler::new(rt.alloc(), name, SystemClock::new(rt)?))
 }
 
-/// Writes scopes into streams, and counts those of streams.
-fn run_streams(rt: &HostRuntime, mode: Mode) -> Result<()> {
-    for work in ScopeWork::ALL {
-        let stream = stream_of(rt.alloc(), &work)?;
+/// Writes scopes into streams.
+fn run_writing(rt: &HostRuntime, mode: Mode) -> Result<()> {
+    for work in &SCOPE_WORK {
+        let stream = stream_of(rt.alloc(), work)?;
         run(rt, mode, work.name, ROUNDS, &mut Writing { stream, work })?;
-    }
-    for work in ScopeWork::ALL {
-        let mut counting = Counting {
-            alloc: rt.alloc(),
-            stream: stream_of(rt.alloc(), &work)?,
-        };
-        let name = format!(in rt.alloc(); "count_{}", work.name)?;
-        run(rt, mode, name.as_str(), ROUNDS, &mut counting)?;
     }
     Ok(())
 }
 
-/// Makes scopes of a thread profiler, by its calls and with guards and macros.
-fn run_threads(rt: &HostRuntime, mode: Mode) -> Result<()> {
-    for (name, text) in [("profiled_empty", ""), ("profiled_text12", TEXT)] {
-        let thread = thread(rt)?;
-        run(rt, mode, name, ROUNDS, &mut Profiling { thread, text })?;
+/// Counts the scopes of streams.
+fn run_counting(rt: &HostRuntime, mode: Mode) -> Result<()> {
+    let alloc = rt.alloc();
+    for work in &SCOPE_WORK {
+        let stream = stream_of(alloc, work)?;
+        run(
+            rt,
+            mode,
+            work.counted,
+            ROUNDS,
+            &mut Counting { alloc, stream },
+        )?;
     }
-    for work in GuardWork::ALL {
+    Ok(())
+}
+
+/// Makes scopes of a thread profiler with this text, by its calls.
+fn run_calls(rt: &HostRuntime, mode: Mode, name: &str, text: &'static str) -> Result<()> {
+    let thread = thread(rt)?;
+    run(rt, mode, name, ROUNDS, &mut Profiling { thread, text })
+}
+
+/// Makes scopes of a thread profiler with guards and macros.
+fn run_guards(rt: &HostRuntime, mode: Mode) -> Result<()> {
+    for work in &GuardWork::ALL {
         let mut guarding = Guarding {
             thread: thread(rt)?,
             scopes: Scopes::new(work.is_on()),
-            work,
+            work: *work,
         };
         run(rt, mode, work.name(), ROUNDS, &mut guarding)?;
     }
@@ -110,15 +120,10 @@ fn run_clocked_macros(rt: HostRuntime, mode: Mode) -> Result<()> {
 
 /// Shortens names; the unit is a name.
 fn run_names(rt: &HostRuntime, mode: Mode) -> Result<()> {
-    for work in NameWork::ALL {
-        let alloc = rt.alloc();
-        run(
-            rt,
-            mode,
-            work.name(),
-            NAME_ROUNDS,
-            &mut Shortening { alloc, work },
-        )?;
+    let alloc = rt.alloc();
+    for work in &NameWork::ALL {
+        let mut shortening = Shortening { alloc, work: *work };
+        run(rt, mode, work.name(), NAME_ROUNDS, &mut shortening)?;
     }
     Ok(())
 }
@@ -127,8 +132,8 @@ fn run_names(rt: &HostRuntime, mode: Mode) -> Result<()> {
 fn run_files(rt: &HostRuntime, mode: Mode) -> Result<()> {
     let count = mode.pick(10, packets::FRAMES);
     let mut files = Files::new(rt.alloc(), count).ok().context("a file")?;
-    for work in FileWork::ALL {
-        files.work = work;
+    for work in &FileWork::ALL {
+        files.work = *work;
         run(rt, mode, work.name(), FILE_ROUNDS, &mut files)?;
     }
     Ok(())
@@ -136,12 +141,12 @@ fn run_files(rt: &HostRuntime, mode: Mode) -> Result<()> {
 
 /// Merges the scopes of frames, of which the unit is a scope, and adds frames to full views.
 fn run_frames(rt: &HostRuntime, mode: Mode) -> Result<()> {
-    for work in MergeWork::ALL {
+    for work in &MERGE_WORK {
         let work = work.sized(mode);
         let mut merging = Merging::new(rt.alloc(), &work)?;
         run(rt, mode, work.name, work.rounds, &mut merging)?;
     }
-    for work in ViewWork::all() {
+    for work in &VIEW_WORK {
         run_view(rt, mode, &work.sized(mode))?;
     }
     Ok(())
@@ -149,8 +154,11 @@ fn run_frames(rt: &HostRuntime, mode: Mode) -> Result<()> {
 
 /// Does all that waits for no lock.
 fn run_all(rt: HostRuntime, mode: Mode) -> Result<()> {
-    run_streams(&rt, mode)?;
-    run_threads(&rt, mode)?;
+    run_writing(&rt, mode)?;
+    run_counting(&rt, mode)?;
+    run_calls(&rt, mode, "profiled_empty", "")?;
+    run_calls(&rt, mode, "profiled_text12", TEXT)?;
+    run_guards(&rt, mode)?;
     run_light(&rt, mode)?;
     run_names(&rt, mode)?;
     run_files(&rt, mode)?;
@@ -172,34 +180,43 @@ enum Task {
     Frames,
 }
 
-/// Reads the arguments.
-fn asked(rt: &HostRuntime) -> Result<Task> {
-    let mut words = env::args(rt)?.skip(1);
-    match words.next() {
-        Some(word) if word.as_str() == "frames" => return Ok(Task::Frames),
-        Some(word) if word.as_str() == "time" => {}
-        _ => return Ok(Task::Count),
-    }
-    match words.next() {
-        Some(prefix) if prefix.as_str().starts_with("threads_") => Ok(Task::Threads),
-        _ => Ok(Task::Time),
+/// Returns an argument, or nothing if there is none.
+fn word(given: &Option<String>) -> &str {
+    match given {
+        Some(word) => word.as_str(),
+        None => "",
     }
 }
 
+/// Returns what the first two arguments ask for.
+fn asked_by(first: &str, second: &str) -> Task {
+    match first {
+        "frames" => Task::Frames,
+        "time" if second.starts_with("threads_") => Task::Threads,
+        "time" => Task::Time,
+        _ => Task::Count,
+    }
+}
+
+/// Reads the arguments.
+fn asked(rt: &HostRuntime) -> Result<Task> {
+    let mut words = env::args(rt)?.skip(1);
+    let (first, second) = (words.next(), words.next());
+    Ok(asked_by(word(&first), word(&second)))
+}
+
 fn main(rt: HostRuntime) -> Result<()> {
-    match asked(&rt)? {
-        Task::Count => {
-            run_reports(&rt, Mode::Count)?;
-            run_all(rt, Mode::Count)?;
-            run_shared_views(&rt, Mode::Count)
-        }
-        Task::Time => {
-            run_reports(&rt, Mode::Time)?;
-            run_all(rt, Mode::Time)?;
-            run_shared_views(&rt, Mode::Time)?;
-            time_threads(rt)
-        }
-        Task::Threads => time_threads(rt),
-        Task::Frames => run_frames(&rt, Mode::Time),
+    let mode = match asked(&rt)? {
+        Task::Count => Mode::Count,
+        Task::Time => Mode::Time,
+        Task::Threads => return time_threads(rt),
+        Task::Frames => return run_frames(&rt, Mode::Time),
+    };
+    run_reports(&rt, mode)?;
+    run_all(rt, mode)?;
+    run_shared_views(&rt, mode)?;
+    match mode {
+        Mode::Count => Ok(()),
+        Mode::Time => time_threads(rt),
     }
 }

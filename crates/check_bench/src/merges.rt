@@ -31,38 +31,6 @@ pub struct MergeWork {
 }
 
 impl MergeWork {
-    /// Every kind of work: 1,000, 10,000 and 100,000 scopes a frame, and 1,000 in the long form.
-    pub const ALL: [MergeWork; 4] = [
-        MergeWork {
-            name: "merge_wide",
-            form: Form::Short,
-            frames: 200,
-            children: 99,
-            rounds: 40,
-        },
-        MergeWork {
-            name: "merge_wide_10",
-            form: Form::Short,
-            frames: 200,
-            children: 999,
-            rounds: 8,
-        },
-        MergeWork {
-            name: "merge_wide_100",
-            form: Form::Short,
-            frames: 20,
-            children: 9_999,
-            rounds: 8,
-        },
-        MergeWork {
-            name: "merge_long",
-            form: Form::Long,
-            frames: 200,
-            children: 99,
-            rounds: 40,
-        },
-    ];
-
     /// Returns the same work, on few scopes if it is counted.
     pub fn sized(self, mode: Mode) -> MergeWork {
         MergeWork {
@@ -104,6 +72,38 @@ impl MergeWork {
         Ok(frames)
     }
 }
+
+/// Every kind of work: 1,000, 10,000 and 100,000 scopes a frame, and 1,000 in the long form.
+pub static MERGE_WORK: [MergeWork; 4] = [
+    MergeWork {
+        name: "merge_wide",
+        form: Form::Short,
+        frames: 200,
+        children: 99,
+        rounds: 40,
+    },
+    MergeWork {
+        name: "merge_wide_10",
+        form: Form::Short,
+        frames: 200,
+        children: 999,
+        rounds: 8,
+    },
+    MergeWork {
+        name: "merge_wide_100",
+        form: Form::Short,
+        frames: 20,
+        children: 9_999,
+        rounds: 8,
+    },
+    MergeWork {
+        name: "merge_long",
+        form: Form::Long,
+        frames: 200,
+        children: 99,
+        rounds: 40,
+    },
+];
 
 /// Makes the info of the thread that all frames have.
 pub fn main_thread(alloc: Global) -> Result<ThreadInfo> {

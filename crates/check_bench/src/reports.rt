@@ -15,6 +15,10 @@ use std::sync::Wait;
 
 /// How many frames a run of reports takes.
 const FRAMES: usize = 1_000;
+/// The names of the threads that report in a frame, each of them twice.
+static NAMES: [&str; 8] = [
+    "main", "loader", "audio", "worker", "main", "loader", "audio", "worker",
+];
 
 /// A reporter that accepts everything and keeps nothing.
 #[derive(Drop)]
@@ -87,28 +91,57 @@ pub fn two_scopes(alloc: Global) -> Result<Stream> {
     Ok(stream)
 }
 
-/// For each frame of a run, reports an honest info twice under each of four names and then takes the frame. Returns the
-/// number of reports.
+/// Reports an honest info twice under each of four names.
+#[inline]
+fn report_all(alloc: Global, profiler: &mut GlobalProfiler, info: &StreamInfo) -> Result<()>
+    requires { (f : Forest) × IsHonest info.now f }
+{
+    let times = info.as_stream_into_ref();
+    for name in &NAMES {
+        let thread = ThreadInfo {
+            start_time_ns: Some(0),
+            name: String::from_str(alloc, name)?,
+        };
+        profiler.report(thread, &[], &times)?;
+    }
+    Ok(())
+}
+
+/// For each frame of a run, reports an honest info twice under each of four names and then takes the frame.
 #[inline(never)]
-pub fn reported<R: Wait>(
+fn reported<R: Wait>(
     rt: &R,
     alloc: Global,
     profiler: &mut GlobalProfiler,
     info: &StreamInfo,
-) -> Result<usize>
+) -> Result<()>
     requires { (f : Forest) × IsHonest info.now f }
 {
-    let threads = ["main", "loader", "audio", "worker"];
-    let times = info.as_stream_into_ref();
     for _ in 0..FRAMES {
-        for name in threads.iter().chain(threads.iter()) {
-            let thread = ThreadInfo {
-                start_time_ns: Some(0),
-                name: String::from_str(alloc, name)?,
-            };
-            profiler.report(thread, &[], &times)?;
-        }
-        let _ = profiler.new_frame(rt)?;
+        report_all(alloc, profiler, info)?;
+        let _emitted = profiler.new_frame(rt)?;
     }
-    Ok(FRAMES * 2 * threads.len())
+    Ok(())
+}
+
+/// Makes the info of a scope with one child, and reports it in each frame of a run.
+fn reported_scopes<R: Wait>(rt: &R, alloc: Global, profiler: &mut GlobalProfiler) -> Result<()> {
+    let info = StreamInfo::parse(alloc, two_scopes(alloc)?)?;
+    reported(rt, alloc, profiler, &info)
+}
+
+/// Reports two scopes to a profiler, with a frame after every eight reports.
+#[derive(Drop)]
+pub struct Reporting<'a, R> {
+    pub rt: &'a R,
+    pub alloc: Global,
+    pub profiler: GlobalProfiler,
+}
+
+impl<R: Wait> Work for Reporting<'_, R> {
+    /// The units are reports.
+    fn run(&mut self) -> anyhow::Result<usize> {
+        reported_scopes(self.rt, self.alloc, &mut self.profiler)?;
+        Ok(FRAMES * NAMES.len())
+    }
 }

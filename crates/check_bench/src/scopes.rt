@@ -20,10 +20,11 @@ const LONG_TEXT: &str = "a text of two hundred bytes, as a path or a query may h
     size=4096&mips=all&format=bc7&repeat=xy&zz";
 
 /// A kind of work with scopes in a stream.
-#[derive(Clone, Copy)]
 pub struct ScopeWork {
-    /// The name under which the time is printed.
+    /// The name under which the time of writing is printed.
     pub name: &'static str,
+    /// The name under which the time of counting is printed.
+    pub counted: &'static str,
     /// Whether the scopes are nested, and not one after the other.
     pub nested: bool,
     /// The form of the stream.
@@ -32,53 +33,58 @@ pub struct ScopeWork {
     pub text: &'static str,
 }
 
-impl ScopeWork {
-    /// Every kind of work.
-    pub const ALL: [ScopeWork; 7] = [
-        ScopeWork {
-            name: "scope_empty",
-            nested: true,
-            form: Form::Short,
-            text: "",
-        },
-        ScopeWork {
-            name: "scope_text12",
-            nested: true,
-            form: Form::Short,
-            text: TEXT,
-        },
-        ScopeWork {
-            name: "flat_empty",
-            nested: false,
-            form: Form::Short,
-            text: "",
-        },
-        ScopeWork {
-            name: "flat_text12",
-            nested: false,
-            form: Form::Short,
-            text: TEXT,
-        },
-        ScopeWork {
-            name: "long_text12",
-            nested: true,
-            form: Form::Long,
-            text: TEXT,
-        },
-        ScopeWork {
-            name: "long_text200",
-            nested: true,
-            form: Form::Long,
-            text: LONG_TEXT,
-        },
-        ScopeWork {
-            name: "long_flat_text200",
-            nested: false,
-            form: Form::Long,
-            text: LONG_TEXT,
-        },
-    ];
-}
+/// Every kind of work with scopes in a stream.
+pub static SCOPE_WORK: [ScopeWork; 7] = [
+    ScopeWork {
+        name: "scope_empty",
+        counted: "count_scope_empty",
+        nested: true,
+        form: Form::Short,
+        text: "",
+    },
+    ScopeWork {
+        name: "scope_text12",
+        counted: "count_scope_text12",
+        nested: true,
+        form: Form::Short,
+        text: TEXT,
+    },
+    ScopeWork {
+        name: "flat_empty",
+        counted: "count_flat_empty",
+        nested: false,
+        form: Form::Short,
+        text: "",
+    },
+    ScopeWork {
+        name: "flat_text12",
+        counted: "count_flat_text12",
+        nested: false,
+        form: Form::Short,
+        text: TEXT,
+    },
+    ScopeWork {
+        name: "long_text12",
+        counted: "count_long_text12",
+        nested: true,
+        form: Form::Long,
+        text: TEXT,
+    },
+    ScopeWork {
+        name: "long_text200",
+        counted: "count_long_text200",
+        nested: true,
+        form: Form::Long,
+        text: LONG_TEXT,
+    },
+    ScopeWork {
+        name: "long_flat_text200",
+        counted: "count_long_flat_text200",
+        nested: false,
+        form: Form::Long,
+        text: LONG_TEXT,
+    },
+];
 
 /// Ends the scope at this offset, if it lies within the stream.
 #[inline]
@@ -152,13 +158,13 @@ fn counted(alloc: Global, stream: &Stream) -> Result<usize> {
 #[derive(Drop)]
 pub struct Writing {
     pub stream: Stream,
-    pub work: ScopeWork,
+    pub work: &'static ScopeWork,
 }
 
 impl Work for Writing {
     fn run(&mut self) -> anyhow::Result<usize> {
         self.stream.clear();
-        Ok(written(&mut self.stream, &self.work)?)
+        Ok(written(&mut self.stream, self.work)?)
     }
 }
 

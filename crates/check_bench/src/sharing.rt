@@ -1,18 +1,13 @@
 //! Counts or times reports and frames of profilers that wait for locks.
 
-ghost use Rattle.puffin_data.specs.Forest.{Forest};
-ghost use Rattle.puffin_data.specs.Honesty.{IsHonest};
-
-use crate::reports::{reported, two_scopes};
-use crate::timing::{Mode, print};
+use crate::reports::Reporting;
+use crate::timing::{Mode, print, run};
 use crate::{shared_views, threads};
 use anyhow::Result;
 use puffin::global_profiler::GlobalProfiler;
-use puffin_data::data::StreamInfo;
 use std::rt::{Clock, Runtime};
 use std::sync::Wait;
 use std::thread::Threads;
-use std::time::Instant;
 
 /// How often reports are run; the fastest run counts.
 const REPORT_ROUNDS: u32 = 300;
@@ -20,32 +15,24 @@ const REPORT_ROUNDS: u32 = 300;
 const VIEW_ROUNDS: u32 = 40;
 /// How often threads report to one profiler.
 const THREAD_ROUNDS: u32 = 20;
-
-/// Returns the nanoseconds of the fastest run of reports, and the number of reports in a run.
-fn fastest_reports<R: Runtime + AllocGlobal + Wait>(
-    rt: &R,
-    mode: Mode,
-    profiler: &mut GlobalProfiler,
-    info: &StreamInfo,
-) -> Result<(u128, usize)>
-    requires { (f : Forest) × IsHonest info.now f }
-{
-    let mut best = u128::MAX;
-    let mut reports = 0;
-    for _ in 0..mode.pick(1, REPORT_ROUNDS) {
-        let begun = Instant::now(rt)?;
-        reports = reported(rt, rt.alloc(), profiler, info)?;
-        best = best.min(begun.elapsed(rt)?.as_nanos());
-    }
-    Ok((best, reports))
-}
+/// The names of the work with threads, and how many threads report.
+static THREADS: [(&str, u8); 4] = [
+    ("threads_1", 1),
+    ("threads_2", 2),
+    ("threads_4", 4),
+    ("threads_8", 8),
+];
 
 /// Counts or times reports of two scopes, with a frame after every eight; the unit is a report.
 pub fn run_reports<R: Runtime + AllocGlobal + Wait>(rt: &R, mode: Mode) -> Result<()> {
-    let info = StreamInfo::parse(rt.alloc(), two_scopes(rt.alloc())?)?;
-    let mut profiler = GlobalProfiler::new(rt.alloc());
-    let (best, reports) = fastest_reports(rt, mode, &mut profiler, &info)?;
-    print(rt, mode, "report", best, reports)
+    let alloc = rt.alloc();
+    let profiler = GlobalProfiler::new(alloc);
+    let mut reporting = Reporting {
+        rt,
+        alloc,
+        profiler,
+    };
+    run(rt, mode, "report", REPORT_ROUNDS, &mut reporting)
 }
 
 /// Counts or times frames of a shared profiler that a view is attached to; the unit is a frame.
@@ -58,17 +45,12 @@ pub fn run_shared_views<R: Runtime + AllocGlobal + Wait>(rt: &R, mode: Mode) -> 
 pub fn time_threads<
     R: Runtime + AllocGlobal + Threads + Wait + Clock + Copy + Send + Sync + 'static,
 >(rt: R) -> Result<()> {
-    for (name, count) in [
-        ("threads_1", 1),
-        ("threads_2", 2),
-        ("threads_4", 4),
-        ("threads_8", 8),
-    ] {
+    for (name, count) in &THREADS {
         let mut best = u128::MAX;
         for _ in 0..THREAD_ROUNDS {
-            best = best.min(threads::run(rt, rt.alloc(), count)?);
+            best = best.min(threads::run(rt, rt.alloc(), *count)?);
         }
-        let reports = usize::from(count).saturating_mul(threads::REPORTS);
+        let reports = usize::from(*count).saturating_mul(threads::REPORTS);
         print(&rt, Mode::Time, name, best, reports)?;
     }
     Ok(())

@@ -5,7 +5,7 @@ use std::rt::Clock;
 use std::time::Instant;
 
 /// Whether work is counted or timed.
-#[derive(Clone, Copy, PartialEq, Eq)]
+#[derive(Clone, Copy)]
 pub enum Mode {
     /// Each kind of work is run once, on little data, and the number of its units is printed.
     Count,
@@ -49,12 +49,10 @@ pub fn run<R: Clock + Print, W: Work>(
 
 /// Prints a name, the nanoseconds that one unit takes, to hundredths, if work is timed, and the number of units.
 pub fn print(rt: &impl Print, mode: Mode, name: &str, best: u128, units: usize) -> Result<()> {
-    if mode == Mode::Count {
-        println!(rt; "{name} {units}")?;
-        return Ok(());
+    if let Mode::Count = mode {
+        return Ok(println!(rt; "{name} {units}")?);
     }
     let hundredths = best.saturating_mul(100) / (units as u128).max(1);
     let (whole, part) = (hundredths / 100, hundredths % 100);
-    println!(rt; "{name} {whole}.{part:02} {units}")?;
-    Ok(())
+    Ok(println!(rt; "{name} {whole}.{part:02} {units}")?)
 }

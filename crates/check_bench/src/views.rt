@@ -17,16 +17,18 @@ use std::time::Instant;
 const FRAMES: u32 = 1_000;
 /// How often frames are added to a view.
 const ROUNDS: u32 = 10;
+/// The limits of a new view: recent frames, and slowest ones.
+const USUAL: (u32, u32) = (1_000, 256);
+/// Ten times as many.
+const LARGE: (u32, u32) = (10_000, 2_560);
 
 /// A kind of work that adds frames to a full view.
 #[derive(Clone, Copy)]
 pub struct ViewWork {
     /// The name under which the time is printed.
     pub name: &'static str,
-    /// How many recent frames the view keeps.
-    pub max_recent: u32,
-    /// How many of the slowest frames the view keeps.
-    pub max_slow: u32,
+    /// How many recent frames the view keeps, and how many of the slowest.
+    pub limits: (u32, u32),
     /// Whether the view packs the newest frame.
     pub packs: bool,
     /// Whether each frame takes longer than those before it, and so is among the slowest. Otherwise each is shorter.
@@ -34,47 +36,10 @@ pub struct ViewWork {
 }
 
 impl ViewWork {
-    /// Makes a kind of work on a view with the limits of a new view.
-    fn usual(name: &'static str, packs: bool, rises: bool) -> ViewWork {
-        ViewWork {
-            name,
-            max_recent: 1_000,
-            max_slow: 256,
-            packs,
-            rises,
-        }
-    }
-
-    /// Makes a kind of work on a view with ten times the limits of a new view.
-    fn large(name: &'static str, packs: bool, rises: bool) -> ViewWork {
-        ViewWork {
-            name,
-            max_recent: 10_000,
-            max_slow: 2_560,
-            packs,
-            rises,
-        }
-    }
-
-    /// Returns every kind of work.
-    pub fn all() -> [ViewWork; 8] {
-        [
-            ViewWork::usual("add_shorter", false, false),
-            ViewWork::large("add_shorter_10", false, false),
-            ViewWork::usual("add_longer", false, true),
-            ViewWork::large("add_longer_10", false, true),
-            ViewWork::usual("add_shorter_packed", true, false),
-            ViewWork::large("add_shorter_packed_10", true, false),
-            ViewWork::usual("add_longer_packed", true, true),
-            ViewWork::large("add_longer_packed_10", true, true),
-        ]
-    }
-
     /// Returns the same work, on a small view if it is counted.
     pub fn sized(self, mode: Mode) -> ViewWork {
         ViewWork {
-            max_recent: mode.pick(20, self.max_recent),
-            max_slow: mode.pick(5, self.max_slow),
+            limits: (mode.pick(20, self.limits.0), mode.pick(5, self.limits.1)),
             ..self
         }
     }
@@ -107,14 +72,14 @@ impl ViewWork {
 
     /// Returns the index of the first frame that is added to the full view.
     fn first(&self) -> u32 {
-        self.max_recent.saturating_add(self.max_slow)
+        self.limits.0.saturating_add(self.limits.1)
     }
 
     /// Makes a view, and adds as many frames as it can hold.
     fn full(&self, alloc: Global) -> Result<FrameView> {
         let mut view = FrameView::new(alloc);
-        view.set_max_recent(self.max_recent as usize);
-        view.set_max_slow(self.max_slow as usize);
+        view.set_max_recent(self.limits.0 as usize);
+        view.set_max_slow(self.limits.1 as usize);
         view.set_pack_frames(self.packs);
         for index in 0..self.first() {
             view.add_frame(self.frame(alloc, index)?)?;
@@ -131,6 +96,58 @@ impl ViewWork {
         Ok(frames)
     }
 }
+
+/// Every kind of work that adds frames to a full view.
+pub static VIEW_WORK: [ViewWork; 8] = [
+    ViewWork {
+        name: "add_shorter",
+        limits: USUAL,
+        packs: false,
+        rises: false,
+    },
+    ViewWork {
+        name: "add_shorter_10",
+        limits: LARGE,
+        packs: false,
+        rises: false,
+    },
+    ViewWork {
+        name: "add_longer",
+        limits: USUAL,
+        packs: false,
+        rises: true,
+    },
+    ViewWork {
+        name: "add_longer_10",
+        limits: LARGE,
+        packs: false,
+        rises: true,
+    },
+    ViewWork {
+        name: "add_shorter_packed",
+        limits: USUAL,
+        packs: true,
+        rises: false,
+    },
+    ViewWork {
+        name: "add_shorter_packed_10",
+        limits: LARGE,
+        packs: true,
+        rises: false,
+    },
+    ViewWork {
+        name: "add_longer_packed",
+        limits: USUAL,
+        packs: true,
+        rises: true,
+    },
+    ViewWork {
+        name: "add_longer_packed_10",
+        limits: LARGE,
+        packs: true,
+        rises: true,
+    },
+];
 
 /// Adds frames to a view, and returns how many.
 #[inline(never)]
