@@ -185,6 +185,16 @@ fn the_leader_decides_after_each_round_whether_there_is_another(rt: HostRuntime)
     equal(&rt, (outcome.frames, outcome.missed), (3, 0));
     equal(&rt, outcome.settled.reported, 6);
     equal(&rt, ending.shown.load(Ordering::SeqCst), 3);
+}
+
+#[test]
+fn a_program_ends_with_its_last_round(rt: HostRuntime) {
+    let (scopes, places) = registered(rt.alloc()).expect(&rt, "the places");
+    let ending = Ending {
+        places,
+        shown: AtomicUsize::new(0),
+    };
     let outcome = in_rounds(rt, &["a", "b"], &scopes, 2, &ending).expect(&rt, "the rounds");
-    equal(&rt, outcome.frames, 2);
+    equal(&rt, (outcome.frames, outcome.missed), (2, 0));
+    equal(&rt, ending.shown.load(Ordering::SeqCst), 2);
 }
