@@ -183,7 +183,12 @@ fn the_leader_decides_after_each_round_whether_there_is_another(rt: HostRuntime)
     );
     equal(&rt, outcome.leader, reported(0));
     equal(&rt, (outcome.frames, outcome.missed), (3, 0));
-    equal(&rt, outcome.settled.reported, 6);
+    let settled = Settled {
+        reported: 6,
+        handed: 6,
+        pending: 0,
+    };
+    equal(&rt, outcome.settled, settled);
     equal(&rt, ending.shown.load(Ordering::SeqCst), 3);
 }
 
