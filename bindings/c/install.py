@@ -56,6 +56,8 @@ def make_shared(to, archive):
 
 
 def install(prefix, library, kit):
+    if not pathlib.Path(library).is_file():
+        sys.exit(f"install.py: there is no {library}: run `rt lib` in crates/puffin_c first")
     for folder in ("include", "lib/pkgconfig", "lib/cmake/puffin"):
         (prefix / folder).mkdir(parents=True, exist_ok=True)
     for header in ("puffin.h", "puffin.hpp"):

@@ -6,7 +6,7 @@
  * A program has to follow these rules. Nothing checks them, either here or in the library:
  *
  * - Pass no NULL, except for a text or for bytes that a call only reads (const uint8_t *) and for the lists of puffin_scopes,
- *   puffin_frame_streams and puffin_file_threads, if their length is 0. A pointer must
+ *   puffin_frame_streams, puffin_file_threads, puffin_merge_file and puffin_merge_view, if their length is 0. A pointer must
  *   point to as many bytes as its length says. While a call runs, no other thread may write bytes that the call reads, or read
  *   or write bytes that the call may write. No two parameters of a call may overlap, unless both are only read.
  * - Fill a handle (PuffinIds, PuffinThread, PuffinProfiler) with zeros ({0}) before its first call. It isn't open then:
@@ -50,14 +50,14 @@ enum {
     PUFFIN_INVALID_STREAM = 2,    /* the bytes aren't scopes */
     PUFFIN_SCOPE_NEVER_ENDED = 3, /* a scope in the bytes was begun and not ended */
     PUFFIN_INVALID_OFFSET = 4,    /* the offset is past the file's end */
-    PUFFIN_TOO_LARGE = 6,         /* a count doesn't fit 64 bits */
+    PUFFIN_TOO_LARGE = 6,         /* a count or a merged time doesn't fit 64 bits */
     PUFFIN_RANGE_TOO_LONG = 7,    /* the frame's duration wouldn't fit int64_t */
     PUFFIN_MISMATCHED_END = 8,    /* the scope isn't the innermost open one */
     PUFFIN_SCOPES_OPEN = 9,       /* a report while a scope is open */
     PUFFIN_MISSING_ID = 10,       /* only of a file: scope details without an id */
     PUFFIN_IDS_EXHAUSTED = 11,    /* all ids are used up */
     PUFFIN_INDEX_EXHAUSTED = 12,  /* the frame's index is the last one */
-    PUFFIN_TOO_DEEP = 14,         /* only of a report on a file: a scope is nested in 1,024 others */
+    PUFFIN_TOO_DEEP = 14,         /* only of a report or a merge: a scope is nested in 1,024 others */
     PUFFIN_MEMORY = 16,           /* an allocation failed */
     PUFFIN_UNLIKE_FORMS = 17,     /* long and short texts under one thread's name and start */
     PUFFIN_NOT_TEXT = 32,         /* a text isn't UTF-8 */
@@ -171,6 +171,27 @@ typedef struct PuffinFileThread {
 uint32_t puffin_file_threads(const uint8_t *file, size_t size, PuffinFileThread *threads, size_t room, uint8_t *names,
                              size_t names_room, PuffinLists *sizes);
 
+/* ---- the scopes of one thread, merged over frames */
+
+/* A merged scope, nested in depth others: all scopes of a thread with the same path of ids and texts, which are its pieces. Its
+ * text is at text_at in the bytes of all texts. per_frame_ns is total_ns divided by the number of frames, rounded down; max_ns is
+ * the duration of the longest piece. start_ns is the least start of the pieces, each measured from the start of the scope around
+ * it or, at the top, as if every frame began when the first did. It is greater if that is below 0, or before the end of the merged
+ * scope in front of it within the same one, which is that one's start_ns plus its per_frame_ns. */
+typedef struct PuffinMerged {
+    int64_t start_ns, total_ns, per_frame_ns, max_ns;
+    uint64_t pieces, depth, text_at, text_size;
+    uint32_t id;
+} PuffinMerged;
+
+/* Merges the scopes of the thread with this name and this start, or with this name and no start if has_start isn't set, over the
+ * frames of a file. Lists the merged scopes, each before those in it: copies them to the front of merged, at most room of them,
+ * and their texts, one behind the other, to the front of texts. Sets *sizes to how many merged scopes and bytes of texts there
+ * are; there are none if no frame has the thread. Fails like puffin_report_file. */
+uint32_t puffin_merge_file(const uint8_t *file, size_t file_size, bool has_start, int64_t start_ns, const uint8_t *name,
+                           size_t name_size, PuffinMerged *merged, size_t room, uint8_t *texts, size_t texts_room,
+                           PuffinLists *sizes);
+
 /* ---- ids, which threads and profilers share */
 
 typedef struct PuffinIds {
@@ -266,6 +287,13 @@ uint32_t puffin_set_limits(PuffinProfiler *profiler, size_t recent, size_t slow)
 /* Drops all frames of the view, recent and slow, and keeps its limits. What waits for the next frame stays. */
 uint32_t puffin_view_clear(PuffinProfiler *profiler);
 
+/* Merges the scopes of one thread over the newest frames of the view: over as many as frames says, or over all recent ones if
+ * there are fewer. 1 means the newest frame. Gives the merged scopes like puffin_merge_file. Fails with PUFFIN_NOT_TEXT if the
+ * name isn't UTF-8, or with PUFFIN_TOO_DEEP or PUFFIN_TOO_LARGE if the scopes can't be merged. */
+uint32_t puffin_merge_view(PuffinProfiler *profiler, size_t frames, bool has_start, int64_t start_ns, const uint8_t *name,
+                           size_t name_size, PuffinMerged *merged, size_t room, uint8_t *texts, size_t texts_room,
+                           PuffinLists *sizes);
+
 /* Makes a .puffin file in memory from the view's frames, and sets *size to its size in bytes. */
 uint32_t puffin_file_begin(PuffinProfiler *profiler, uint64_t *size);
 /* Copies that file's next bytes to the front of out, as many as fit, and sets *size to how many were copied: 0 at the end. */
@@ -291,6 +319,7 @@ enum {
     PUFFIN_SIZE_OF_SCOPE,
     PUFFIN_SIZE_OF_STREAM,
     PUFFIN_SIZE_OF_FILE_THREAD,
+    PUFFIN_SIZE_OF_MERGED,
     PUFFIN_SIZES /* how many sizes this header knows */
 };
 /* Copies the sizes to the front of sizes, at most room of them, and returns how many the library has. */
@@ -337,6 +366,22 @@ PUFFIN_INLINE_ uint32_t puffin_report_file_(const uint8_t *file, size_t file_siz
     return puffin_report_file(puffin_bytes_(file), file_size, has_start, start_ns, puffin_bytes_(name), name_size, out, room,
                               size);
 }
+PUFFIN_INLINE_ uint32_t puffin_merge_file_(const uint8_t *file, size_t file_size, bool has_start, int64_t start_ns,
+                                           const uint8_t *name, size_t name_size, PuffinMerged *merged, size_t room,
+                                           uint8_t *texts, size_t texts_room, PuffinLists *sizes) {
+    PuffinMerged none;
+    uint8_t no_text;
+    return puffin_merge_file(puffin_bytes_(file), file_size, has_start, start_ns, puffin_bytes_(name), name_size,
+                             merged ? merged : &none, room, texts ? texts : &no_text, texts_room, sizes);
+}
+PUFFIN_INLINE_ uint32_t puffin_merge_view_(PuffinProfiler *profiler, size_t frames, bool has_start, int64_t start_ns,
+                                           const uint8_t *name, size_t name_size, PuffinMerged *merged, size_t room,
+                                           uint8_t *texts, size_t texts_room, PuffinLists *sizes) {
+    PuffinMerged none;
+    uint8_t no_text;
+    return puffin_merge_view(profiler, frames, has_start, start_ns, puffin_bytes_(name), name_size, merged ? merged : &none,
+                             room, texts ? texts : &no_text, texts_room, sizes);
+}
 PUFFIN_INLINE_ uint32_t puffin_thread_open_(PuffinThread *thread, PuffinIds *ids, const uint8_t *name, size_t name_size,
                                             bool long_texts) {
     return puffin_thread_open(thread, ids, puffin_bytes_(name), name_size, long_texts);
@@ -376,6 +421,8 @@ PUFFIN_INLINE_ uint32_t puffin_user_scopes_(PuffinProfiler *profiler, bool has_s
 #define puffin_file_threads puffin_file_threads_
 #define puffin_check_file puffin_check_file_
 #define puffin_report_file puffin_report_file_
+#define puffin_merge_file puffin_merge_file_
+#define puffin_merge_view puffin_merge_view_
 #define puffin_thread_open puffin_thread_open_
 #define puffin_register_function puffin_register_function_
 #define puffin_register_scope puffin_register_scope_

@@ -468,6 +468,118 @@ static void viewing(const uint8_t *file, uint64_t size) {
     REFUSED("no file", puffin_frame_streams(TEXT("XUF0"), 0, &frame, &next, streams, 4, bytes, 1, &sizes), PUFFIN_FILE_NO_MAGIC);
 }
 
+static void is_merged(const PuffinMerged *merged, uint32_t id, uint64_t depth, int64_t start, int64_t total, int64_t per_frame,
+                      int64_t max, uint64_t pieces, uint64_t text_at, uint64_t text_size) {
+    is("id", merged->id, id);
+    is("depth", merged->depth, depth);
+    is("start", (uint64_t)merged->start_ns, (uint64_t)start);
+    is("total", (uint64_t)merged->total_ns, (uint64_t)total);
+    is("per frame", (uint64_t)merged->per_frame_ns, (uint64_t)per_frame);
+    is("longest", (uint64_t)merged->max_ns, (uint64_t)max);
+    is("pieces", merged->pieces, pieces);
+    is("place of the text", merged->text_at, text_at);
+    is("size of the text", merged->text_size, text_size);
+}
+
+/* The scopes of a thread of record(), merged over the frame of the file, which is the view's only one. */
+static void merging(const uint8_t *file, uint64_t size) {
+    PuffinProfiler nothing = {0};
+    static PuffinMerged merged[4];
+    static uint8_t texts[8];
+    PuffinLists sizes = {7, 7};
+    is("merge", puffin_merge_view(&nothing, 1, false, 0, TEXT("\xff"), merged, 4, texts, 8, &sizes), PUFFIN_NOT_OPEN);
+    is("no text", puffin_merge_view(&profiler, 1, false, 0, TEXT("\xff"), merged, 4, texts, 8, &sizes), PUFFIN_NOT_TEXT);
+    is("no text", puffin_merge_file(TEXT("XUF0"), false, 0, TEXT("\xff"), merged, 4, texts, 8, &sizes), PUFFIN_NOT_TEXT);
+    REFUSED("a cut file", puffin_merge_file(file, size - 1, true, 1000, TEXT("main"), merged, 4, texts, 8, &sizes),
+            PUFFIN_FILE_TRUNCATED);
+    is("what a refusal leaves", sizes.rows + sizes.bytes + merged[0].pieces + texts[0], 14);
+    for (int i = 0; i < 2; i++) {
+        memset(merged, 0, sizeof merged);
+        memset(texts, 0, sizeof texts);
+        if (i == 0) {
+            CALL(puffin_merge_file(file, size, true, 1000, TEXT("main"), merged, 4, texts, sizeof texts, &sizes));
+        } else {
+            CALL(puffin_merge_view(&profiler, 9, true, 1000, TEXT("main"), merged, 4, texts, sizeof texts, &sizes));
+        }
+        is("merged scopes", sizes.rows, 2);
+        is("bytes of texts", sizes.bytes, 4);
+        is_merged(&merged[0], merged[0].id, 0, 1000, 800, 800, 400, 2, 0, 0);
+        is_merged(&merged[1], merged[1].id, 1, 100, 200, 200, 50, 4, 0, 4);
+        is_merged(&merged[2], 0, 0, 0, 0, 0, 0, 0, 0, 0);
+        is("the function and its part", merged[0].id != merged[1].id, true);
+        is("texts", memcmp(texts, "step\0", 6) == 0, true);
+    }
+    CALL(puffin_merge_view(&profiler, 1, false, 0, TEXT("main"), NULL, 0, NULL, 0, &sizes));
+    is("no thread without a start", sizes.rows + sizes.bytes, 0);
+    CALL(puffin_merge_view(&profiler, 0, true, 1000, TEXT("main"), NULL, 0, NULL, 0, &sizes));
+    is("no frames", sizes.rows + sizes.bytes, 0);
+}
+
+/* The view has one more frame, from 10 on, which is merged by itself, and with the one before it, which begins at 5. */
+static void merging_two(void) {
+    static uint8_t bytes[200], texts[4];
+    static PuffinMerged merged[4];
+    PuffinLists sizes = {7, 7};
+    PuffinFrame frame = {0};
+    size_t size = 0;
+    size += begin_at(bytes + size, 1, 10, "ab", 32);
+    size += begin_at(bytes + size, 2, 12, "c", 0);
+    size += end_at(bytes + size, 13);
+    size += end_at(bytes + size, 18);
+    size += begin_at(bytes + size, 1, 20, "", 0);
+    size += end_at(bytes + size, 22);
+    CALL(puffin_user_scopes(&profiler, true, 5, TEXT("gpu"), bytes, size, false));
+    CALL(puffin_new_frame(&profiler, &frame));
+    CALL(puffin_merge_view(&profiler, 1, true, 5, TEXT("gpu"), merged, 4, texts, sizeof texts, &sizes));
+    is("merged scopes", sizes.rows, 3);
+    is_merged(&merged[0], 1, 0, 10, 8, 8, 8, 1, 0, 2);
+    is_merged(&merged[1], 2, 1, 2, 1, 1, 1, 1, 2, 1);
+    is_merged(&merged[2], 1, 0, 20, 2, 2, 2, 1, 3, 0);
+    is("texts", memcmp(texts, "abc", 4) == 0, true);
+    /* Of one start, the scope without a text is first, and the other one starts where its 3 of each frame end. */
+    CALL(puffin_merge_view(&profiler, 2, true, 5, TEXT("gpu"), merged, 4, texts, sizeof texts, &sizes));
+    is("merged scopes", sizes.rows, 3);
+    is("bytes of texts", sizes.bytes, 3);
+    is_merged(&merged[0], 1, 0, 5, 6, 3, 4, 2, 0, 0);
+    is_merged(&merged[1], 1, 0, 8, 8, 4, 8, 1, 0, 2);
+    is_merged(&merged[2], 2, 1, 2, 1, 0, 1, 1, 2, 1);
+    is("texts", memcmp(texts, "abc", 4) == 0, true);
+    memset(merged, 0, sizeof merged);
+    memset(texts, 0, sizeof texts);
+    CALL(puffin_merge_view(&profiler, 2, true, 5, TEXT("gpu"), merged, 1, texts, 2, &sizes));
+    is("merged scopes", sizes.rows, 3);
+    is_merged(&merged[0], 1, 0, 5, 6, 3, 4, 2, 0, 0);
+    is_merged(&merged[1], 0, 0, 0, 0, 0, 0, 0, 0, 0);
+    is("texts", memcmp(texts, "ab\0", 4) == 0, true);
+}
+
+/* A scope in 1,024 others isn't merged: not in the view, and not in its file. */
+static void merging_deep(void) {
+    enum { DEEP = 1025 };
+    static uint8_t bytes[31 * DEEP], file[32 * DEEP];
+    PuffinMerged merged = {0};
+    PuffinLists sizes = {7, 7};
+    PuffinFrame frame = {0};
+    uint64_t size = 0, got = 0;
+    uint8_t text = 7;
+    for (int i = 0; i < DEEP; i++) {
+        size_t children = 31 * (DEEP - 1 - i);
+        begin_at(bytes + 22 * i, 1, 5, "", (uint8_t)children);
+        bytes[22 * i + 15] = (uint8_t)(children >> 8);
+        end_at(bytes + 22 * DEEP + 9 * i, 9);
+    }
+    CALL(puffin_view_clear(&profiler));
+    CALL(puffin_user_scopes(&profiler, true, 5, TEXT("gpu"), bytes, sizeof bytes, false));
+    CALL(puffin_new_frame(&profiler, &frame));
+    REFUSED("too deep", puffin_merge_view(&profiler, 1, true, 5, TEXT("gpu"), &merged, 1, &text, 1, &sizes), PUFFIN_TOO_DEEP);
+    CALL(puffin_file_begin(&profiler, &size));
+    CALL(puffin_file_next(&profiler, file, sizeof file, &got));
+    is("bytes of the file", got, size);
+    REFUSED("too deep", puffin_merge_file(file, size, true, 5, TEXT("gpu"), &merged, 1, &text, 1, &sizes),
+            PUFFIN_FILE_REFUSED + 256 * PUFFIN_TOO_DEEP);
+    is("what a refusal leaves", sizes.rows + sizes.bytes + merged.pieces + text, 21);
+}
+
 static void reading(const char *path) {
     uint64_t size = 0, frames = 0, lines = 0, end = 7, got = 7;
     static uint8_t out[2000];
@@ -548,6 +660,9 @@ int main(int argc, char **argv) {
     reading(argv[1]);
     counts = true;
     viewing(file_bytes, file_size);
+    merging(file_bytes, file_size);
+    merging_two();
+    merging_deep();
     views();
     CALL(puffin_ids_close(&ids));
     CALL(puffin_profiler_close(&profiler));

@@ -21,6 +21,7 @@ CRATE = CRATES / "puffin_c"
 ARCHIVE = CRATE / "out" / "libpuffin_c.a"
 SECOND = CRATE / "out" / "libpuffin_c_second.a"
 TOOL = CRATES / "puffin_tool" / "out" / "puffin_tool"
+LOOK = CRATES / "puffin_look_tool" / "out" / "puffin_look_tool"
 
 
 def building(kit, kept, archive, *more):
@@ -60,7 +61,7 @@ def main():
         count = common.Count()
         count.add(False)
         return count.end()
-    words = [sys.executable, "-m", "tests.c.run", ARCHIVE, kit / "c" / "liblibc_c.a", TOOL, SECOND]
+    words = [sys.executable, "-m", "tests.c.run", ARCHIVE, kit / "c" / "liblibc_c.a", TOOL, LOOK, SECOND]
     return subprocess.run(words, cwd=common.ROOT).returncode
 
 

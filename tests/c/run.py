@@ -1,11 +1,12 @@
 """Builds programs over the C interface, runs them, and reads the files that they write.
 
-    python3 -m tests.c.run LIBRARY KIT_LIBRARY [TOOL [SECOND]]
+    python3 -m tests.c.run LIBRARY KIT_LIBRARY [TOOL [LOOK [SECOND]]]
 
-LIBRARY is libpuffin_c.a, KIT_LIBRARY the kit's c/liblibc_c.a, TOOL puffin-tool, which reports the files, and SECOND the library as
-Rattle's own compiler makes it: the C programs run over both, and what they write and print has to be the same. A C compiler is
-needed: `cc`, or what CC names. What else isn't there (a C++ compiler, cargo, valgrind, the thread sanitizer, pkg-config, cmake)
-is left out and named, and so is puffin-tool without TOOL. The last line is 'N passed, M failed'.
+LIBRARY is libpuffin_c.a, KIT_LIBRARY the kit's c/liblibc_c.a, TOOL puffin-tool, which reports the files, LOOK puffin-look, which
+shows them, and SECOND the library as Rattle's own compiler makes it: the C programs run over both, and what they write
+and print has to be the same. The folder looked has what each word of puffin-look has to print. A C compiler is needed: `cc`, or
+what CC names. What else isn't there (a C++ compiler, cargo, valgrind, the thread sanitizer, pkg-config, cmake) is left out and
+named, and so are puffin-tool and puffin-look. The last line is 'N passed, M failed'.
 """
 
 import os
@@ -31,6 +32,8 @@ READINGS = 20_000
 # the most instructions that the beginning and the end of a scope may take, with the loop that makes the calls and a report every
 # 128 scopes, but without those of the C library
 INSTRUCTIONS = {"on": 188, "text": 216, "off": 10}
+# the words of puffin-look
+LOOKED = ("threads", "frames", "frame", "trace", "folded")
 CALLS_REPORT = (
     b"frames 1\n",
     b"record pieces 2 total 800 per_frame 800 max 400 ",
@@ -77,12 +80,13 @@ def numbers(said):
 class Programs:
     """The programs over the C interface, built and run in a folder."""
 
-    def __init__(self, place, library, kit, tool):
+    def __init__(self, place, library, kit, tool, look):
         self.count = common.Count()
         self.place = place
         self.library = library
         self.kit = kit
         self.tool = tool
+        self.look = look
 
     def check(self, what, is_fine, told=b""):
         if not self.count.add(is_fine):
@@ -112,7 +116,15 @@ class Programs:
         is_fine = len(lines) == len(CALLS_REPORT) and all(map(bytes.startswith, lines, CALLS_REPORT))
         self.check("the report of calls.c", is_fine, got.stdout)
         self.check_report("puffin-tool reports the file so", "1000:main", lambda told: told == b"".join(lines[:-1]))
+        self.looked("calls", self.place / "file", 0)
         self.refusals(program, got.stdout)
+
+    def looked(self, source, file, index):
+        """What each word of puffin-look prints of the file of a C program; of the word `frame`, the frame with this index."""
+        for word in LOOKED if self.look else ():
+            told = run(self.look, word, file, *([index] if word == "frame" else []))
+            is_fine = told.returncode == 0 and told.stdout == (HERE / "looked" / source / word).read_bytes()
+            self.check(f"puffin-look {word} of the file of {source}.c", is_fine, told.stdout + told.stderr)
 
     def refusals(self, program, usual):
         """Each allocation of the C program refused in turn: it makes some, and as many at least as the one that is refused; and of
@@ -226,6 +238,9 @@ class Programs:
             return
         got = run(program, FRAMES, self.place)
         self.check("long.c", got.returncode == 0 and got.stdout == b"frames %d\n" % FRAMES, got.stderr)
+        got = run(program, 3, self.place)
+        self.check("long.c of three frames", got.returncode == 0 and got.stdout == b"frames 3\n", got.stderr)
+        self.looked("long", self.place / "part0.puffin", 1)
         if is_there("valgrind"):
             got = run("valgrind", "--error-exitcode=9", "--leak-check=full", "-q", program, 200, self.place)
             self.check("long.c by valgrind", got.returncode == 0, got.stderr)
@@ -283,15 +298,16 @@ class Programs:
 
 
 def main():
-    library, kit, *rest = (pathlib.Path(word).resolve() for word in sys.argv[1:5])
-    tool, second = (*rest, None, None)[:2]
+    library, kit, *rest = (pathlib.Path(word).resolve() for word in sys.argv[1:6])
+    tool, look, second = (*rest, None, None, None)[:3]
     with tempfile.TemporaryDirectory() as folder:
-        programs = Programs(pathlib.Path(folder), library, kit, tool)
-        if not shutil.which(C_COMPILER) or (tool and not tool.is_file()):
-            programs.check("this needs a C compiler (cc, or what CC names), and puffin-tool where it is named", False)
+        programs = Programs(pathlib.Path(folder), library, kit, tool, look)
+        if not shutil.which(C_COMPILER) or not all(it.is_file() for it in (tool, look) if it):
+            programs.check("this needs a C compiler (cc, or what CC names), and each program that is named", False)
             return programs.count.end()
-        if not tool:
-            print("left out: puffin-tool")
+        for name, it in (("puffin-tool", tool), ("puffin-look", look)):
+            if not it:
+                print(f"left out: {name}")
         programs.headers()
         programs.calls()
         programs.viewer()

@@ -44,6 +44,7 @@ int main(void) {
     is("PuffinScope", sizes[PUFFIN_SIZE_OF_SCOPE], sizeof(PuffinScope));
     is("PuffinStream", sizes[PUFFIN_SIZE_OF_STREAM], sizeof(PuffinStream));
     is("PuffinFileThread", sizes[PUFFIN_SIZE_OF_FILE_THREAD], sizeof(PuffinFileThread));
+    is("PuffinMerged", sizes[PUFFIN_SIZE_OF_MERGED], sizeof(PuffinMerged));
     is("past the sizes", sizes[PUFFIN_SIZES], 0);
     is("sizes", puffin_sizes(few, 1), PUFFIN_SIZES);
     is("one size", few[0] == sizeof(PuffinCount) && few[1] == 0, 1);

@@ -4,7 +4,8 @@
 
 The program writes frames of two scopes until it is killed by a signal. Then it reads the file up to the last whole frame, and
 counts just the frames whose packets are whole: they are found here by the lengths in the file. The same is shown of each
-beginning of a file of three frames, from the first four letters on. The last line is 'N passed, M failed'.
+beginning of a file of three frames, from the first four letters on. A recording into files that replace each other is killed
+too: of what it leaves, each file but the last has all its frames, and lists every name. The last line is 'N passed, M failed'.
 """
 
 import pathlib
@@ -20,6 +21,10 @@ from .. import common
 ENOUGH = 200_000
 MOST_SECONDS = 60
 SCOPES_IN_A_FRAME = 2
+NAMES = 2
+THREADS = 2
+FRAMES_IN_A_FILE = 50
+FILES = 4
 
 
 def packet_end(data, at):
@@ -49,22 +54,51 @@ def read_by(program, path):
     return ran.returncode, ran.stdout
 
 
-def counted(data):
-    """What the program must print of a file."""
+def counted(data, threads=1):
+    """What the program must print of a file that this number of threads wrote."""
     frames = whole_packets(data)
-    return 0, f"frames {frames} scopes {SCOPES_IN_A_FRAME * frames}\n".encode()
+    scopes = SCOPES_IN_A_FRAME * threads * frames
+    return 0, f"frames {frames} scopes {scopes} names {NAMES if frames else 0}\n".encode()
+
+
+def is_killed(words, has_enough):
+    """Whether a program was still running when it was killed, after it had written enough."""
+    running = subprocess.Popen(words, stdout=subprocess.DEVNULL)
+    began = time.monotonic()
+    while running.poll() is None and time.monotonic() - began < MOST_SECONDS and not has_enough():
+        time.sleep(0.005)
+    running.kill()
+    return running.wait() == -signal.SIGKILL and has_enough()
 
 
 def recording_that_is_killed(program, path):
     """Whether a recording was still going on when it was killed, with enough of it written."""
-    running = subprocess.Popen([program, "record", path, str(10**12)], stdout=subprocess.DEVNULL)
-    began = time.monotonic()
-    while running.poll() is None and time.monotonic() - began < MOST_SECONDS:
-        if path.exists() and path.stat().st_size >= ENOUGH:
-            break
-        time.sleep(0.005)
-    running.kill()
-    return running.wait() == -signal.SIGKILL and path.stat().st_size >= ENOUGH
+    words = [program, "record", path, str(10**12)]
+    return is_killed(words, lambda: path.exists() and path.stat().st_size >= ENOUGH)
+
+
+def numbered(folder):
+    """The files of a folder by their numbers, in ascending order."""
+    return dict(sorted((int(path.stem), path) for path in folder.iterdir()))
+
+
+def rotation_that_is_killed(program, folder):
+    """What a recording into files that replace each other has to leave when it is killed."""
+    words = [program, "rotate", folder, str(10**12), str(FRAMES_IN_A_FILE), str(FILES)]
+    yield "the rotation is killed", is_killed(words, lambda: max(numbered(folder), default=0) > 3 * FILES)
+    files = numbered(folder)
+    *whole, last = files.values()
+    first = min(files)
+    yield "the last files are there", list(files) == list(range(first, first + len(files)))
+    yield "no others are there", FILES <= len(files) <= FILES + 1
+    for path in whole:
+        data = path.read_bytes()
+        is_whole = whole_packets(data) == FRAMES_IN_A_FILE and read_by(program, path) == counted(data, THREADS)
+        yield f"{path.name} has all its frames and every name", is_whole
+    data = last.read_bytes()
+    # killed before the file's first letters were written, it has nothing to read
+    is_read = len(data) < 4 or read_by(program, last) == counted(data, THREADS)
+    yield "the last file is read up to its last whole frame", is_read and whole_packets(data) <= FRAMES_IN_A_FILE
 
 
 def cases(program, folder):
@@ -85,6 +119,10 @@ def cases(program, folder):
             yield f"the first {length} bytes", False
             return
     yield "each beginning is read up to its last whole frame", True
+
+    rotated = folder / "rotated"
+    rotated.mkdir()
+    yield from rotation_that_is_killed(program, rotated)
 
 
 def main():

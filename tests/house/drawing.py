@@ -38,6 +38,8 @@ WORDS = {
     "example_rounds": "four threads",
     "example_threads": "four threads, proved",
     "example_recorder": "frames as they come",
+    "example_pool": "a hundred jobs",
+    "example_look": "a frame as a tree",
     "example_bodies": "a profiled library",
     "example_crates": "two crates",
     "example": "a whole program",

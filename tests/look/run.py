@@ -1,34 +1,53 @@
-"""Runs puffin-look on the cases of this folder and compares what it writes.
+"""Runs puffin-look on the cases of this folder, and on files that programs wrote, and compares what it writes.
 
-    python3 -m tests.look.run PROGRAM [SCRIPT]
+    python3 -m tests.look.run PROGRAM [SCRIPT [EXAMPLE]]
 
 A case is a folder in cases/ as those of tests/cli, which lists its files. SCRIPT is the script that builds and runs the
-program; it is run through a symbolic link from another folder. traces.py has checks of traces by other readers, folded.py of
-folded stacks. The last line is 'N passed, M failed'.
+program; it is run through a symbolic link from another folder. EXAMPLE is the program of crates/example, which writes a file;
+another is of the Rust crate. On both each word of the program is run, and compared with another reading of the file: listings.py
+has the checks of lists and trees, traces.py of traces, folded.py of folded stacks. tests/c runs the words on a file of a C
+program. The last line is 'N passed, M failed'.
 """
 
+import functools
 import pathlib
 import subprocess
 import sys
 
 from .. import common
 from ..cli import run
-from . import folded, traces
+from . import folded, listings, sources, traces
 
 CASES = pathlib.Path(__file__).resolve().parent / "cases"
 
 
+def checks_of_file(name, make):
+    """The checks of a file that is made for the first of them: each one's name, and what it compares."""
+    source = functools.cache(make)
+    checks = listings.CHECKS | traces.CHECKS | folded.CHECKS
+    return [(f"{word}_of_{name}", lambda program, _, it=it: it(program, source())) for word, it in checks.items()]
+
+
+def checks(example):
+    """The checks besides the cases."""
+    found = checks_of_file("the_rust_crate", sources.original)
+    found += checks_of_file("the_example", functools.partial(sources.of_example, example)) if example else []
+    found += [("the_readings_of_both", sources.faults_in_python)]
+    return found + list((traces.CHECKS_OF_NAMES | folded.CHECKS_OF_NAMES).items())
+
+
 def main():
-    program, *script = (str(pathlib.Path(word).resolve()) for word in sys.argv[1:])
+    program, *rest = (str(pathlib.Path(word).resolve()) for word in sys.argv[1:4])
+    script, example = (*rest, None, None)[:2]
     cases = sorted(it for it in CASES.iterdir() if it.is_dir())
     runs = [(case.name, run.faults, program, case) for case in cases]
-    runs += [("through_a_link", run.faults_through_a_link, it, CASES / "frames_one_frame") for it in script]
-    runs += [(name, compare, program, None) for name, compare in (traces.CHECKS | folded.CHECKS).items()]
+    runs += [("through_a_link", run.faults_through_a_link, script, CASES / "frames_one_frame")] if script else []
+    runs += [(name, compare, program, None) for name, compare in checks(example)]
     count = common.Count()
     for name, compare, what, case in runs:
         try:
             found = compare(what, case)
-        except (OSError, subprocess.SubprocessError) as error:
+        except (OSError, ValueError, subprocess.SubprocessError) as error:
             found = [str(error)]
         count.add(not found)
         print(f"case {name} ... {'; '.join(found) if found else 'ok'}")

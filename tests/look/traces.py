@@ -1,59 +1,17 @@
 """Reads the traces that puffin-look writes by other readers: Python's json, and a forest that is made anew from the events.
 
-original/frames.hex is a file that the Rust crate wrote, and original/dump what the Rust crate reads in it, each stream in
-hexadecimal digits. The forest of each thread and frame, as it is made anew from the trace's events, has to be that of its
-stream. A file of 10,000 scopes with random names and texts, of all bytes, has to give JSON with the same names and texts.
+The forest of each thread and frame, as it is made anew from the trace's events, has to be that of another reading of the file. A
+file of 10,000 scopes with random names and texts, of all bytes, has to give JSON with the same names and texts.
 """
 
 import decimal
 import json
-import pathlib
 import random
-import re
 import struct
-import subprocess
-import tempfile
 
-from ..cli import run
+from .sources import printed
 
-HERE = pathlib.Path(__file__).resolve().parent
 NAMES = 10_000
-
-
-# ---- streams
-
-def forest_in(stream, begin, end):
-    """The scopes of a stream in the short form: lists of id, start, stop, text, and the scopes within."""
-    scopes = []
-    while begin < end:
-        ident, start, length = struct.unpack_from("<xIqB", stream, begin)
-        text = stream[begin + 14 : begin + 14 + length]
-        inner = begin + 22 + length
-        (size,) = struct.unpack_from("<Q", stream, inner - 8)
-        (stop,) = struct.unpack_from("<q", stream, inner + size + 1)
-        scopes.append([ident, start, stop, text.decode(), forest_in(stream, inner, inner + size)])
-        begin = inner + size + 9
-    return scopes
-
-
-def frames_in(dump):
-    """For each frame of a dump its index, and for each thread its START:NAME and its forest, with the names so far."""
-    frames, names = [], {}
-    for frame in re.split(r"^frame ", dump, flags=re.MULTILINE)[1:]:
-        names = names_in(frame, names)
-        trees = {}
-        for thread, stream in re.findall(r"^  thread (.*) scopes \d+ depth \d+ range \S+ \S+ stream ([0-9a-f]*)$", frame, re.MULTILINE):
-            trees[thread] = with_names(forest_in(bytes.fromhex(stream), 0, len(stream) // 2), names)
-        frames.append((int(frame.split()[0]), trees))
-    return frames
-
-
-def names_in(lines, names):
-    """The names so far with those of these lines of a dump: under each id its name, file and line. The first one counts."""
-    details = r'ScopeId\((\d+)\)\), scope_name: (?:None|Some\("(.*?)"\)), function_name: "(.*?)", file_path: "(.*?)", line_nr: (\d+)'
-    for it in re.findall(details, lines):
-        names.setdefault(int(it[0]), (it[1] or it[2], it[3], int(it[4])))
-    return names
 
 
 # ---- traces
@@ -64,7 +22,7 @@ def nanoseconds(micros):
 
 
 def frames_of(events):
-    """The same of a trace, with the name, file and line in place of the id."""
+    """The index of each frame of a trace, and under each thread its scopes, as in a reading."""
     threads, frames, open_scopes, origin = {}, [], {}, None
     for event in events:
         if event["ph"] == "M":
@@ -89,27 +47,15 @@ def frames_of(events):
     return frames
 
 
-def with_names(forest, names):
-    """A forest of a stream as one of a trace."""
-    return [[names.get(it[0], (f"#{it[0]}", None, None)), *it[1:4], with_names(it[4], names)] for it in forest]
-
-
 def trace_of(program, data):
-    """What the program writes for these bytes of a file."""
-    with tempfile.TemporaryDirectory() as place:
-        path = pathlib.Path(place, "file")
-        path.write_bytes(data)
-        done = subprocess.run([program, "trace", path], capture_output=True, timeout=120)
-    if done.returncode or done.stderr:
-        raise OSError(f"status {done.returncode}, {done.stderr!r}")
-    return json.loads(done.stdout.decode(), parse_float=decimal.Decimal)
+    """The events that the program writes for these bytes of a file."""
+    return json.loads(printed(program, data, "trace"), parse_float=decimal.Decimal)
 
 
-def faults_in_forests(program, _case):
-    """What differs between a trace and what the Rust crate reads."""
-    dump = (HERE / "original" / "dump").read_text()
-    wanted = frames_in(dump)
-    found = frames_of(trace_of(program, run.digits(HERE / "original" / "frames.hex")))
+def faults_in_forests(program, source):
+    """What differs between a trace and another reading."""
+    wanted = [(frame.index, {it.name: it.scopes for it in frame.threads}) for frame in source.frames]
+    found = frames_of(trace_of(program, source.data))
     return [] if found == wanted else [f"{found} instead of {wanted}"]
 
 
@@ -159,7 +105,7 @@ def random_names():
     return [letters() for _ in range(NAMES)]
 
 
-def faults_in_names(program, _case):
+def faults_in_names(program, _source):
     """What differs between random names and texts and what json reads in their trace."""
     names, chance = random_names(), random.Random(63)
     texts = [bytes(chance.randrange(256) for _ in range(chance.randrange(20))) for _ in range(NAMES)]
@@ -169,4 +115,5 @@ def faults_in_names(program, _case):
     return [f"{a} instead of {b}" for a, b in zip(found, wanted) if a != b][:3] or ([] if len(found) == NAMES else ["too few"])
 
 
-CHECKS = {"the_forest_of_a_trace": faults_in_forests, "names_of_all_bytes": faults_in_names}
+CHECKS = {"trace": faults_in_forests}
+CHECKS_OF_NAMES = {"names_of_all_bytes": faults_in_names}

@@ -22,7 +22,7 @@ mod view;
 
 pub use global::{are_scopes_on, file, new_frame, refused, set_limits, set_scopes_on, snapshot, Place, ScopeGuard};
 pub use raw::Version;
-pub use view::{file_threads, FileFrames, FileScope, FileStream, FileThread};
+pub use view::{file_threads, merge_file, FileFrames, FileScope, FileStream, FileThread, MergedScope};
 
 use raw::{Handle, RawFrame};
 use std::{error, fmt, num::NonZeroU32, sync::OnceLock, time::Instant};
@@ -292,7 +292,7 @@ mod tests {
 
     #[test]
     fn structs_have_the_library_s_sizes() {
-        let mut sizes = [0; 9];
+        let mut sizes = [0; 10];
         assert_eq!(unsafe { raw::puffin_sizes(sizes.as_mut_ptr(), sizes.len()) }, sizes.len());
         assert_eq!(sizes[1], size_of::<RawFrame>() as u64);
         assert_eq!(sizes[2..5], [size_of::<Handle>() as u64; 3]);
@@ -300,6 +300,7 @@ mod tests {
         assert_eq!(sizes[6], size_of::<raw::RawScope>() as u64);
         assert_eq!(sizes[7], size_of::<raw::RawStream>() as u64);
         assert_eq!(sizes[8], size_of::<raw::RawFileThread>() as u64);
+        assert_eq!(sizes[9], size_of::<raw::RawMerged>() as u64);
     }
 
     #[test]

@@ -91,6 +91,21 @@ pub struct RawFileThread {
     pub has_start: bool,
 }
 
+/// A merged scope.
+#[repr(C)]
+#[derive(Default, Clone, Copy)]
+pub struct RawMerged {
+    pub start_ns: i64,
+    pub total_ns: i64,
+    pub per_frame_ns: i64,
+    pub max_ns: i64,
+    pub pieces: u64,
+    pub depth: u64,
+    pub text_at: u64,
+    pub text_size: u64,
+    pub id: u32,
+}
+
 #[repr(C)]
 #[derive(Debug, Clone, Copy, PartialEq, Eq)]
 pub struct Version {
@@ -162,6 +177,32 @@ extern "C" {
         room: usize,
         names: *mut u8,
         names_room: usize,
+        sizes: *mut Lists,
+    ) -> u32;
+    pub fn puffin_merge_file(
+        file: *const u8,
+        file_size: usize,
+        has_start: bool,
+        start_ns: i64,
+        name: *const u8,
+        name_size: usize,
+        merged: *mut RawMerged,
+        room: usize,
+        texts: *mut u8,
+        texts_room: usize,
+        sizes: *mut Lists,
+    ) -> u32;
+    pub fn puffin_merge_view(
+        profiler: *mut Handle,
+        frames: usize,
+        has_start: bool,
+        start_ns: i64,
+        name: *const u8,
+        name_size: usize,
+        merged: *mut RawMerged,
+        room: usize,
+        texts: *mut u8,
+        texts_room: usize,
         sizes: *mut Lists,
     ) -> u32;
     pub fn puffin_profiler_open(profiler: *mut Handle, ids: *mut Handle) -> u32;

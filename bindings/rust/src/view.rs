@@ -1,7 +1,7 @@
-//! What is in a file: its threads, its frames, and the scopes of each thread in a frame.
+//! What is in a file: its threads, its frames, and the scopes of each thread, in a frame or merged over frames.
 
-use crate::raw::{self, Lists, RawFileThread, RawFrame, RawScope, RawStream};
-use crate::{told, Fault, Frame};
+use crate::raw::{self, Lists, RawFileThread, RawFrame, RawMerged, RawScope, RawStream};
+use crate::{told, Fault, Frame, Profiler};
 
 /// What the frames of a file have of one thread.
 #[derive(Debug, Clone, PartialEq, Eq)]
@@ -30,6 +30,23 @@ pub struct FileStream {
     pub name: String,
     pub start_ns: Option<i64>,
     pub scopes: Vec<FileScope>,
+}
+
+/// All scopes of a thread with the same path of ids and texts, merged; they are its pieces.
+#[derive(Debug, Clone, PartialEq, Eq)]
+pub struct MergedScope {
+    pub id: u32,
+    /// The number of merged scopes that it is nested in.
+    pub depth: u64,
+    pub pieces: u64,
+    /// The start, measured from the start of the merged scope around it or, at the top, as if every frame began when the first did.
+    pub start_ns: i64,
+    pub total_ns: i64,
+    /// The total divided by the number of frames, rounded down.
+    pub per_frame_ns: i64,
+    /// The duration of the longest piece.
+    pub max_ns: i64,
+    pub text: String,
 }
 
 /// Asks how long a list is, and then for the list.
@@ -61,6 +78,43 @@ pub fn file_threads(file: &[u8]) -> Result<Vec<FileThread>, Fault> {
         scopes: row.scopes,
     };
     Ok(rows.iter().map(thread).collect())
+}
+
+/// Asks for a list of merged scopes.
+fn merged(call: impl FnMut(*mut RawMerged, usize, *mut u8, usize, *mut Lists) -> u32) -> Result<Vec<MergedScope>, Fault> {
+    let (rows, texts) = listed(call)?;
+    let scope = |row: &RawMerged| MergedScope {
+        id: row.id,
+        depth: row.depth,
+        pieces: row.pieces,
+        start_ns: row.start_ns,
+        total_ns: row.total_ns,
+        per_frame_ns: row.per_frame_ns,
+        max_ns: row.max_ns,
+        text: text_at(&texts, row.text_at, row.text_size),
+    };
+    Ok(rows.iter().map(scope).collect())
+}
+
+/// Merges the scopes of a thread over the frames of a file: each before its children.
+pub fn merge_file(file: &[u8], start_ns: Option<i64>, name: &str) -> Result<Vec<MergedScope>, Fault> {
+    let (start, bytes, size) = (start_ns.unwrap_or(0), name.as_ptr(), name.len());
+    merged(|rows, room, texts, texts_room, sizes| unsafe {
+        let (file, file_size) = (file.as_ptr(), file.len());
+        let has_start = start_ns.is_some();
+        raw::puffin_merge_file(file, file_size, has_start, start, bytes, size, rows, room, texts, texts_room, sizes)
+    })
+}
+
+impl Profiler {
+    /// Merges the scopes of a thread over the newest frames of the view, at most so many: each before its children.
+    pub fn merge_view(&mut self, frames: usize, start_ns: Option<i64>, name: &str) -> Result<Vec<MergedScope>, Fault> {
+        let (start, bytes, size) = (start_ns.unwrap_or(0), name.as_ptr(), name.len());
+        merged(|rows, room, texts, texts_room, sizes| unsafe {
+            let has_start = start_ns.is_some();
+            raw::puffin_merge_view(&mut self.0, frames, has_start, start, bytes, size, rows, room, texts, texts_room, sizes)
+        })
+    }
 }
 
 /// Returns the scopes of a stream.

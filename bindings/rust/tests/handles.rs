@@ -1,6 +1,6 @@
 //! The library's handles, on two threads.
 
-use puffin_c::{check_file, file_threads, now_ns, FileFrames, Ids, Profiler, Thread, FILE_START};
+use puffin_c::{check_file, file_threads, merge_file, now_ns, FileFrames, Ids, Profiler, Thread, FILE_START};
 use std::sync::Mutex;
 
 /// A function with two scopes in it.
@@ -62,6 +62,14 @@ fn a_file_is_seen_frame_by_frame() {
     assert_eq!((frame.index, frame.scopes, streams.len()), (1, 3, 1));
     let scopes: Vec<_> = streams[0].scopes.iter().map(|scope| (scope.depth, scope.start_ns, scope.text.as_str())).collect();
     assert_eq!(scopes, [(0, 2000, ""), (1, 2000, "step"), (1, 2010, "step")]);
+    let merged = merge_file(&file, Some(1000), "main").unwrap();
+    assert_eq!(profiler.merge_view(2, Some(1000), "main"), Ok(merged.clone()));
+    let numbers: Vec<_> = merged.iter().map(|it| (it.depth, it.pieces, it.total_ns, it.per_frame_ns, it.max_ns)).collect();
+    assert_eq!(numbers, [(0, 2, 200, 100, 100), (1, 4, 20, 10, 5)]);
+    let places: Vec<_> = merged.iter().map(|it| (it.id, it.start_ns, it.text.as_str())).collect();
+    assert_eq!(places, [(id, 1000, ""), (id, 0, "step")]);
+    assert_eq!(profiler.merge_view(1, Some(1000), "main").unwrap()[1].pieces, 2);
+    assert_eq!(profiler.merge_view(2, None, "main"), Ok(Vec::new()));
     let cut: Vec<_> = FileFrames::new(&file[..file.len() - 1]).collect();
     assert_eq!(cut.len(), 2);
     assert_eq!(cut[1].as_ref().unwrap_err().to_string(), "PUFFIN_FILE_TRUNCATED");

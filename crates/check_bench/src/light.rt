@@ -1,13 +1,13 @@
 //! Counts and times scopes at places, made with [`puffin::light`] on a thread whose reports aren't kept. Its clock stays at one
-//! time.
+//! time, except in work that uses the system's clock.
 
 use crate::scopes::{DEPTH, NESTS, SCOPES, TEXT};
 use crate::timing::{Mode, Work};
-use crate::{thread, timing};
+use crate::{REAL_ROUNDS, clocked_thread, thread, timing};
 use anyhow::Result;
 use puffin::light::{Place, Records, Scopes, Thread};
 use puffin::scope_details::ScopeDetails;
-use puffin::thread_profiler::{Reporter, ScriptClock, ThreadInfo};
+use puffin::thread_profiler::{NsSource, Reporter, ScriptClock, SystemClock, ThreadInfo};
 use puffin::{place, profile};
 use puffin_data::data::StreamInfoRef;
 
@@ -40,7 +40,7 @@ type Recorder = Thread<ScriptClock, Reports>;
 
 /// Makes scopes nested `depth` deep.
 #[inline(never)]
-fn nest(thread: &mut Recorder, part: &Place, depth: usize) {
+fn nest<C: NsSource>(thread: &mut Thread<C, Reports>, part: &Place, depth: usize) {
     let mut guard = thread.scope(part);
     if depth > 1 {
         nest(guard.thread(), part, depth - 1);
@@ -140,6 +140,34 @@ impl Work for Recording {
         self.work.run(&mut self.thread, &self.part);
         Ok(SCOPES)
     }
+}
+
+/// Makes nests of scopes with the system's clock.
+#[derive(Drop)]
+struct Clocked {
+    thread: Thread<SystemClock<HostRuntime>, Reports>,
+    part: Place,
+}
+
+impl Work for Clocked {
+    fn run(&mut self) -> Result<usize> {
+        for _ in 0..NESTS {
+            nest(&mut self.thread, &self.part, DEPTH);
+        }
+        Ok(SCOPES)
+    }
+}
+
+/// Counts or times scopes with the system's clock; the unit is a scope.
+pub fn run_clocked_light(rt: HostRuntime, mode: Mode) -> Result<()> {
+    let mut scopes = Scopes::new(rt.alloc())?;
+    let part = place!(scopes, "recorder", "part")?;
+    let reports = Reports { count: 0 };
+    let mut clocked = Clocked {
+        thread: Thread::new(clocked_thread(rt)?, reports, scopes.for_thread()?),
+        part,
+    };
+    timing::run(&rt, mode, "real_light", REAL_ROUNDS, &mut clocked)
 }
 
 /// Counts or times each kind of work; the unit is a scope.

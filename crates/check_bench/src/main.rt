@@ -23,7 +23,7 @@ mod views;
 
 use anyhow::{Context, Result};
 use guards::{GuardWork, Guarding, Nesting, Scopes};
-use light::run_light;
+use light::{run_clocked_light, run_light};
 use merges::{MERGE_WORK, Merging};
 use names::{NameWork, Shortening};
 use packets::{FileWork, Files};
@@ -164,7 +164,8 @@ fn run_all(rt: HostRuntime, mode: Mode) -> Result<()> {
     run_files(&rt, mode)?;
     run_frames(&rt, mode)?;
     run_clocked(rt, mode)?;
-    run_clocked_macros(rt, mode)
+    run_clocked_macros(rt, mode)?;
+    run_clocked_light(rt, mode)
 }
 
 /// What the arguments ask for.

@@ -26,6 +26,8 @@ pub struct MergeWork {
     pub frames: u32,
     /// How many children each top-level scope has.
     pub children: u32,
+    /// Whether the children are in another order in each frame.
+    pub shuffled: bool,
     /// How often the work is run.
     pub rounds: u32,
 }
@@ -40,14 +42,14 @@ impl MergeWork {
         }
     }
 
-    /// Makes the stream of one frame, beginning at `start`.
-    fn stream(&self, alloc: Global, start: i64) -> Result<Stream> {
+    /// Makes the stream of one frame, beginning at `start`. The ids of children are `step` apart.
+    fn stream(&self, alloc: Global, start: i64, step: u32) -> Result<Stream> {
         let mut stream = Stream::with_form(alloc, self.form);
         let mut now = start;
         for top in 1..=TOPS {
             if let Some(id) = ScopeId::new(top) {
                 let offset = stream.begin_scope_at(now, id, TEXT)?;
-                now = leaves(&mut stream, self.children, now)?;
+                now = leaves(&mut stream, self.children, step, now)?;
                 end(&mut stream, offset, now)?;
             }
         }
@@ -56,7 +58,9 @@ impl MergeWork {
 
     /// Makes the frame with this index.
     fn frame(&self, alloc: Global, index: u32) -> Result<Arc<UnpackedFrameData>> {
-        let stream = self.stream(alloc, 10_000_000 * i64::from(index))?;
+        let step = if self.shuffled { index } else { 0 };
+        let start = 10_000_000 * i64::from(index);
+        let stream = self.stream(alloc, start, step.wrapping_add(1))?;
         let mut streams = BTreeMap::new(alloc);
         let _before = streams.insert(main_thread(alloc)?, StreamInfo::parse(alloc, stream)?)?;
         let frame = UnpackedFrameData::new(alloc, u64::from(index), streams)?;
@@ -73,13 +77,15 @@ impl MergeWork {
     }
 }
 
-/// Every kind of work: 1,000, 10,000 and 100,000 scopes a frame, and 1,000 in the long form.
-pub static MERGE_WORK: [MergeWork; 4] = [
+/// Every kind of work: 1,000, 10,000 and 100,000 scopes a frame, 1,000 in the long form, and 10,000 in another order in each
+/// frame. Those are a prime number for each top-level scope, so that each child has an id of its own.
+pub static MERGE_WORK: [MergeWork; 5] = [
     MergeWork {
         name: "merge_wide",
         form: Form::Short,
         frames: 200,
         children: 99,
+        shuffled: false,
         rounds: 40,
     },
     MergeWork {
@@ -87,6 +93,7 @@ pub static MERGE_WORK: [MergeWork; 4] = [
         form: Form::Short,
         frames: 200,
         children: 999,
+        shuffled: false,
         rounds: 8,
     },
     MergeWork {
@@ -94,6 +101,7 @@ pub static MERGE_WORK: [MergeWork; 4] = [
         form: Form::Short,
         frames: 20,
         children: 9_999,
+        shuffled: false,
         rounds: 8,
     },
     MergeWork {
@@ -101,7 +109,16 @@ pub static MERGE_WORK: [MergeWork; 4] = [
         form: Form::Long,
         frames: 200,
         children: 99,
+        shuffled: false,
         rounds: 40,
+    },
+    MergeWork {
+        name: "merge_shuffled",
+        form: Form::Short,
+        frames: 200,
+        children: 997,
+        shuffled: true,
+        rounds: 8,
     },
 ];
 
@@ -113,10 +130,12 @@ pub fn main_thread(alloc: Global) -> Result<ThreadInfo> {
     })
 }
 
-/// Writes scopes one after the other, each with its own id. Returns the time after them.
-fn leaves(stream: &mut Stream, count: u32, mut now: i64) -> Result<i64> {
-    for number in 1..=count {
-        if let Some(id) = ScopeId::new(number) {
+/// Writes scopes one after the other, each with its own id, `step` after the one before, or at the beginning again. Returns the
+/// time after them.
+fn leaves(stream: &mut Stream, count: u32, step: u32, mut now: i64) -> Result<i64> {
+    for number in 0..count {
+        let place = number.wrapping_mul(step).checked_rem(count);
+        if let Some(id) = ScopeId::new(place.unwrap_or(0).wrapping_add(1)) {
             let offset = stream.begin_scope_at(now, id, TEXT)?;
             now = now.wrapping_add(1);
             end(stream, offset, now)?;

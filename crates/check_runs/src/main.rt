@@ -12,10 +12,10 @@ use puffin::scope_details::ScopeCollection;
 use puffin::thread_profiler::ThreadInfo;
 use puffin::{place, profile};
 use puffin_report::summarize;
-use std::mem;
 use std::rt::Clock;
 use std::sync::Wait;
 use std::thread::Threads;
+use std::{io, mem};
 
 #[derive(Drop)]
 struct Game {
@@ -25,13 +25,14 @@ struct Game {
 
 impl Rounds for Game {
     /// A thread with an even number loads; the others paint, and load within that.
-    fn part<T: Records>(&self, number: usize, thread: &mut T) {
+    fn part<T: Records>(&self, number: usize, thread: &mut T) -> io::Result<()> {
         if number % 2 == 0 {
             profile!(_load, thread, self.load);
         } else {
             profile!(paint, thread, self.paint);
             profile!(_load, paint, self.load);
         }
+        Ok(())
     }
 }
 

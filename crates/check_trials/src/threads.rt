@@ -3,6 +3,7 @@
 use puffin::light::{GuardState, Outcome, Place, Records, Rounds, Scopes, in_rounds};
 use puffin::{Result, place};
 use std::alloc::Global;
+use std::io;
 use std::rt::Clock;
 use std::sync::Wait;
 use std::sync::atomic::{AtomicU64, Ordering};
@@ -46,12 +47,13 @@ impl Parts {
 
 impl Rounds for Parts {
     /// Makes a scope within another.
-    fn part<T: Records>(&self, _number: usize, thread: &mut T) {
+    fn part<T: Records>(&self, _number: usize, thread: &mut T) -> io::Result<()> {
         self.done.fetch_add(1, Ordering::SeqCst);
         let mut outer = thread.scope(&self.outer);
         self.count(outer.state());
         let inner = outer.scope_with(&self.inner, "text");
         self.count(inner.state());
+        Ok(())
     }
 }
 

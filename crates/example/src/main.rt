@@ -11,10 +11,10 @@ use puffin::data::Counted;
 use puffin::light::{Frames, Place, Program, Records, Scopes, profiled};
 use puffin::profile_view::{FrameView, FrameWriter};
 use puffin::{place, profile};
-use std::env;
 use std::fs::File;
 use std::sync::atomic::Ordering;
 use std::sync::{Barrier, Mutex, Wait};
+use std::{env, io};
 
 const ROUNDS: usize = 12;
 
@@ -28,12 +28,13 @@ struct Studio {
 }
 
 impl Program for Studio {
-    fn work<R: Wait, T: Records>(&self, rt: &R, number: usize, thread: &mut T) {
+    fn work<R: Wait, T: Records>(&self, rt: &R, number: usize, thread: &mut T) -> io::Result<()> {
         for _ in 0..ROUNDS {
             self.meeting.wait(rt);
             self.picture.draw(number, thread);
             self.meeting.wait(rt);
         }
+        Ok(())
     }
 
     /// Writes each frame as it comes. A frame that can't be written is missing from the file, but is still in the view.

@@ -3,6 +3,7 @@
 
 use puffin::light::{Place, Records, Rounds, Scopes, in_rounds, save};
 use puffin::{place, profile};
+use std::io;
 
 #[derive(Drop)]
 struct Game {
@@ -11,9 +12,10 @@ struct Game {
 }
 
 impl Rounds for Game {
-    fn part<T: Records>(&self, _number: usize, thread: &mut T) {
+    fn part<T: Records>(&self, _number: usize, thread: &mut T) -> io::Result<()> {
         profile!(whole, thread, self.update);
         profile!(_physics, whole, self.physics, "all bodies");
+        Ok(())
     }
 }
 

@@ -11,3 +11,10 @@ StartsAt start begun clock = (clock_start clock ≡ start) × (clock_begun clock
 abbrev pub HaveOneStart : {T R : Type 0} → (T → SystemClock R) → List T → Type 0
 HaveOneStart clock_of threads =
     (start begun : ℤ) × All (λ thread. StartsAt start begun (clock_of thread)) threads
+
+-- these clocks and this one have one start
+abbrev pub AgreeWith : {T R : Type 0} → (T → SystemClock R) → SystemClock R → List T → Type 0
+AgreeWith clock_of clock threads =
+    (start begun : ℤ)
+    × StartsAt start begun clock
+    × All (λ thread. StartsAt start begun (clock_of thread)) threads

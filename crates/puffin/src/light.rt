@@ -14,6 +14,8 @@
 //! | profile several threads that work in rounds, with a frame for each round | [`Rounds`], [`in_rounds`] |
 //! | the same, if each thread keeps a state from round to round | [`StatefulRounds`] |
 //! | profile several threads, and take frames when you choose | [`Program`], [`profiled`] |
+//! | profile a server or a pool, each of whose jobs has a name of its own | [`Pool`], [`pooled`] |
+//! | name the leader of several threads, or set what their view keeps | [`Settings`] |
 
 mod counted;
 pub mod files;
@@ -23,18 +25,23 @@ pub mod laws;
 mod leader;
 mod macros;
 pub mod place;
+pub mod pool;
 pub mod program;
 mod ready;
 pub mod rounds;
 pub mod scopes;
+pub mod settings;
 mod started;
 mod taker;
 pub mod thread;
+mod worker;
 
 pub use files::{SaveCause, SaveError, save};
 pub use guard::{Guard, GuardState, Records};
 pub use place::Place;
-pub use program::{Frames, Outcome, Program, ThreadCounts, profiled};
+pub use pool::{Pool, pooled};
+pub use program::{Failed, Frames, Outcome, Program, ThreadCounts, profiled};
 pub use rounds::{Rounds, StatefulRounds, in_rounds};
 pub use scopes::{Scopes, ThreadScopes};
+pub use settings::Settings;
 pub use thread::Thread;

@@ -4,6 +4,8 @@ pub mod Frames
 pub mod GivenFrames
 pub mod Held
 pub mod IdsSlots
+pub mod MergedListed
+pub mod MergesMade
 pub mod Named
 pub mod ProfilerSlots
 pub mod RawBoxes

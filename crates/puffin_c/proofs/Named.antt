@@ -21,7 +21,7 @@ text_given true start name h = h
 text_given false start name h = h
 
 -- a name that is refused is no text, or memory ran out
-refused_name : (bytes : List ℕ) (info : ThreadKey) (f : Fault) → IsNoText info.name f →
+pub refused_name : (bytes : List ℕ) (info : ThreadKey) (f : Fault) → IsNoText info.name f →
     ((f ≡ fault.NotText) × ¬ (IsUtf8 info.name))
     ⊎ (IsUtf8 info.name × (e : FileError) × (f ≡ file_fault e) × LacksLines bytes info e)
 refused_name bytes info f (inl none) = inl none

@@ -4,6 +4,7 @@ pub mod Faults
 pub mod Handles
 pub mod Layout
 pub mod Lists
+pub mod Merges
 pub mod Owning
 pub mod Pieces
 pub mod Profiling

@@ -9,6 +9,7 @@ use crate::count::PuffinCount;
 use crate::frame::PuffinFrame;
 use crate::handles::{PuffinIds, PuffinProfiler, PuffinThread};
 use crate::lists::PuffinLists;
+use crate::merged::PuffinMerged;
 use crate::scopes::PuffinScope;
 use crate::streams::PuffinStream;
 use crate::threads::PuffinFileThread;
@@ -17,7 +18,7 @@ use std::mem::size_of;
 
 /// Copies the sizes of the interface's structs, in bytes, to the front of `sizes`, as many as fit, and returns how many there are:
 /// those of [`PuffinCount`], [`PuffinFrame`], [`PuffinIds`], [`PuffinThread`], [`PuffinProfiler`], [`PuffinLists`], [`PuffinScope`],
-/// [`PuffinStream`] and [`PuffinFileThread`], in this order. A later version may add more.
+/// [`PuffinStream`], [`PuffinFileThread`] and [`PuffinMerged`], in this order. A later version may add more.
 #[unsafe(no_mangle)]
 pub extern "C" fn puffin_sizes(sizes: &mut [u64]) -> usize
     ensures sizes { sizes.new ≡ laid_over sizes.old struct_sizes }
@@ -33,6 +34,7 @@ pub extern "C" fn puffin_sizes(sizes: &mut [u64]) -> usize
         size_of::<PuffinScope>() as u64,
         size_of::<PuffinStream>() as u64,
         size_of::<PuffinFileThread>() as u64,
+        size_of::<PuffinMerged>() as u64,
     ];
     lay_over(&all, sizes);
     all.len()

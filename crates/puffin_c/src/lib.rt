@@ -15,6 +15,8 @@ pub mod ids_slot;
 pub mod layout;
 pub mod lists;
 mod memory_source;
+pub mod merge;
+pub mod merged;
 pub mod naming;
 mod profiler;
 pub mod profiler_slot;

@@ -4,10 +4,11 @@ use crate::equal::equal;
 use puffin::frame_data::FrameData;
 use puffin::global_profiler::{Emitted, Settled};
 use puffin::light::{
-    Frames, Place, Program, Records, Rounds, Scopes, ThreadCounts, in_rounds, profiled,
+    Frames, Place, Program, Records, Rounds, Scopes, Settings, ThreadCounts, in_rounds, profiled,
 };
 use puffin::{Result, place, profile};
 use std::alloc::Global;
+use std::io;
 use std::sync::atomic::{AtomicUsize, Ordering};
 use std::sync::{Barrier, Wait};
 
@@ -56,8 +57,9 @@ fn has_thread(frame: &FrameData, name: &str) -> bool {
 
 /// In round `n`, counted from 0, the leader opens `n` scopes, and each thread one.
 impl Rounds for Places {
-    fn part<T: Records>(&self, _number: usize, thread: &mut T) {
+    fn part<T: Records>(&self, _number: usize, thread: &mut T) -> io::Result<()> {
         profile!(_row, thread, self.row);
+        Ok(())
     }
 
     fn lead<R: Wait, T: Records>(&self, _rt: &R, round: usize, thread: &mut T) {
@@ -66,8 +68,11 @@ impl Rounds for Places {
         }
     }
 
-    fn leader(&self) -> &'static str {
-        "helm"
+    fn settings(&self) -> Settings {
+        Settings {
+            leader: "helm",
+            ..Settings::default()
+        }
     }
 }
 
@@ -102,11 +107,12 @@ struct Watch {
 }
 
 impl Program for Watch {
-    fn work<R: Wait, T: Records>(&self, rt: &R, _number: usize, thread: &mut T) {
+    fn work<R: Wait, T: Records>(&self, rt: &R, _number: usize, thread: &mut T) -> io::Result<()> {
         {
             profile!(_row, thread, self.places.row);
         }
         self.done.wait(rt);
+        Ok(())
     }
 
     fn lead<R: Wait, T: Records, F: Frames>(&self, rt: &R, thread: &mut T, frames: &mut F) {
@@ -156,11 +162,18 @@ struct Ending {
 }
 
 impl Rounds for Ending {
-    fn part<T: Records>(&self, _number: usize, thread: &mut T) {
+    fn part<T: Records>(&self, _number: usize, thread: &mut T) -> io::Result<()> {
         profile!(_row, thread, self.places.row);
+        Ok(())
     }
 
-    fn goes_on<R: Wait>(&self, _rt: &R, round: usize, taken: &Result<Emitted>) -> bool {
+    fn goes_on<R: Wait, F: Frames>(
+        &self,
+        _rt: &R,
+        round: usize,
+        taken: &Result<Emitted>,
+        _frames: &mut F,
+    ) -> bool {
         if let Ok(emitted) = taken
             && emitted.frame.is_some()
         {

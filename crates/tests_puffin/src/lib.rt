@@ -16,6 +16,10 @@ mod light;
 #[cfg(test)]
 mod places;
 #[cfg(test)]
+mod pool;
+#[cfg(test)]
+mod runs;
+#[cfg(test)]
 mod sinks;
 #[cfg(test)]
 mod surface;

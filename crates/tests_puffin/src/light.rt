@@ -132,10 +132,11 @@ fn a_full_device_and_a_missing_folder_refuse_a_view(rt: HostRuntime) {
 
 impl Rounds for Places {
     /// The first thread begins no scope.
-    fn part<T: Records>(&self, number: usize, thread: &mut T) {
+    fn part<T: Records>(&self, number: usize, thread: &mut T) -> io::Result<()> {
         if number > 0 {
             both(thread, self);
         }
+        Ok(())
     }
 }
 
@@ -190,10 +191,11 @@ struct Uneven {
 }
 
 impl Program for Uneven {
-    fn work<R: Wait, T: Records>(&self, _rt: &R, number: usize, thread: &mut T) {
+    fn work<R: Wait, T: Records>(&self, _rt: &R, number: usize, thread: &mut T) -> io::Result<()> {
         for _ in 0..number {
             both(thread, &self.places);
         }
+        Ok(())
     }
 
     fn lead<R: Wait, T: Records, F: Frames>(&self, _rt: &R, _thread: &mut T, frames: &mut F) {
@@ -222,17 +224,18 @@ struct Rising {
 impl StatefulRounds for Rising {
     type State = usize;
 
-    fn state(&self, _number: usize) -> usize {
-        0
+    fn state(&self, _number: usize) -> io::Result<usize> {
+        Ok(0)
     }
 
-    fn part<T: Records>(&self, number: usize, done: &mut usize, thread: &mut T) {
+    fn part<T: Records>(&self, number: usize, done: &mut usize, thread: &mut T) -> io::Result<()> {
         if *done < number {
             *done = done.saturating_add(1);
             for _ in 0..*done {
                 both(thread, &self.places);
             }
         }
+        Ok(())
     }
 }
 

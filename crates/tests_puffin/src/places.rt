@@ -10,6 +10,7 @@ use puffin::scope_details::ScopeDetails;
 use puffin::thread_profiler::{Reporter, ScriptClock, ThreadInfo, ThreadProfiler};
 use puffin::{Error, place, profile};
 use std::alloc::Global;
+use std::io;
 use std::sync::{Arc, Mutex};
 use tests_support::frames::lists;
 
@@ -93,12 +94,13 @@ struct Foreign {
 }
 
 impl Rounds for Foreign {
-    fn part<T: Records>(&self, number: usize, thread: &mut T) {
+    fn part<T: Records>(&self, number: usize, thread: &mut T) -> io::Result<()> {
         if number == 0 {
             profile!(_other, thread, self.other);
         } else {
             profile!(_own, thread, self.own);
         }
+        Ok(())
     }
 }
 

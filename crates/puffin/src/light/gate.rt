@@ -1,7 +1,9 @@
 //! Threads that begin together, or not at all.
 
 use crate::light::guard::Records;
+use crate::light::pool::Pool;
 use crate::light::program::{Frames, Program};
+use std::io;
 use std::sync::{Condvar, Mutex, Wait};
 
 /// The state of a gate.
@@ -55,13 +57,13 @@ impl<'p, W> Gate<'p, W> {
     }
 }
 
-/// A program behind a gate. The code that starts its threads opens the gate.
-pub(crate) trait Gated: Program {
+/// A program, or a pool, behind a gate. The code that starts its threads opens the gate.
+pub(crate) trait Gated {
     /// Lets all threads begin or, if `begins` is false, end without having begun.
     fn open(&self, rt: &impl Wait, begins: bool);
 }
 
-impl<W: Program> Gated for Gate<'_, W> {
+impl<W> Gated for Gate<'_, W> {
     fn open(&self, rt: &impl Wait, begins: bool) {
         let mut signal = self.signal.lock(rt);
         *signal = if begins { Signal::Begin } else { Signal::Leave };
@@ -71,17 +73,33 @@ impl<W: Program> Gated for Gate<'_, W> {
 }
 
 impl<W: Program> Program for Gate<'_, W> {
-    fn work<R: Wait, T: Records>(&self, rt: &R, number: usize, thread: &mut T) {
-        if self.may_begin(rt) {
-            self.program.work(rt, number, thread);
+    fn work<R: Wait, T: Records>(&self, rt: &R, number: usize, thread: &mut T) -> io::Result<()> {
+        if !self.may_begin(rt) {
+            return Ok(());
         }
+        self.program.work(rt, number, thread)
     }
 
     fn lead<R: Wait, T: Records, F: Frames>(&self, rt: &R, thread: &mut T, frames: &mut F) {
         self.program.lead(rt, thread, frames);
     }
+}
 
-    fn leader(&self) -> &'static str {
-        self.program.leader()
+impl<W: Pool> Pool for Gate<'_, W> {
+    type Job = W::Job;
+
+    fn next<R: Wait>(&self, rt: &R) -> io::Result<Option<(String, W::Job)>> {
+        if !self.may_begin(rt) {
+            return Ok(None);
+        }
+        self.program.next(rt)
+    }
+
+    fn work<R: Wait, T: Records>(&self, rt: &R, job: W::Job, thread: &mut T) -> io::Result<()> {
+        self.program.work(rt, job, thread)
+    }
+
+    fn lead<R: Wait, T: Records, F: Frames>(&self, rt: &R, thread: &mut T, frames: &mut F) {
+        self.program.lead(rt, thread, frames);
     }
 }

@@ -4,8 +4,7 @@ ghost use Rattle.puffin.specs.Shares.{no_counts};
 
 use crate::global_profiler::{Share, SharedProfiler, SharedReporter};
 use crate::light::counted::{CountedShare, Counting};
-use crate::light::program::Program;
-use crate::light::ready::AnyReady;
+use crate::light::ready::AnyLeader;
 use crate::light::taker::{Taken, Taker};
 use std::sync::Wait;
 use std::sync::ledger::Ledger;
@@ -31,10 +30,10 @@ pub(crate) struct Led<L: Ledger, M: Ledger> {
 }
 
 /// Runs a program's leader on this thread, with what its seat holds.
-pub(crate) fn lead<L: Ledger, M: Ledger, R: Wait + Copy, T: AnyReady, W: Program>(
+pub(crate) fn lead<L: Ledger, M: Ledger, R: Wait + Copy, D: AnyLeader<W>, W>(
     rt: R,
     seat: Seat<L, M>,
-    thread: T,
+    leader: D,
     program: &W,
 ) -> Led<L, M> {
     let Seat {
@@ -49,7 +48,7 @@ pub(crate) fn lead<L: Ledger, M: Ledger, R: Wait + Copy, T: AnyReady, W: Program
         taken: Taken::new(taking),
     };
     let mut reporter = Counting::new(SharedReporter::new(rt, reports, reporting));
-    let left = thread.lead(&rt, &mut reporter, &mut taker, program);
+    let left = leader.lead(&rt, &mut reporter, &mut taker, program);
     let Taker {
         rt: _,
         profiler: _,

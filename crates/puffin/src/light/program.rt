@@ -10,6 +10,7 @@ use crate::light::gate::Gate;
 use crate::light::guard::Records;
 use crate::light::ready::{Crew, Ready};
 use crate::light::scopes::Scopes;
+use crate::light::settings::Settings;
 use crate::light::started::run;
 use crate::thread_profiler::SystemClock;
 use puffin_data::Result;
@@ -28,6 +29,10 @@ pub trait Frames {
     fn new_frame(&mut self) -> Result<Emitted>
         ensures spells { IfOk result (λ emitted. SpellsItsScopes emitted.frame) }
         ensures cause { IfErr result IsFrameCause };
+
+    /// Makes the next frame list every known scope, and not only the new ones, so that a file which begins with that frame has
+    /// all names. Allocates nothing.
+    fn emit_scope_snapshot(&mut self);
 }
 
 /// A program whose threads are profiled. All threads share it by `&`; a thread's own state is kept in local variables of
@@ -35,13 +40,19 @@ pub trait Frames {
 ///
 /// ```
 /// impl Program for Game {
-///     fn work<R: Wait, T: Records>(&self, rt: &R, _number: usize, thread: &mut T) {
+///     fn work<R: Wait, T: Records>(
+///         &self,
+///         rt: &R,
+///         _number: usize,
+///         thread: &mut T,
+///     ) -> io::Result<()> {
 ///         let mut loaded = false;
 ///         for _ in 0..10 {
 ///             profile!(_whole, thread, self.update, if loaded { "warm" } else { "cold" });
 ///             loaded = true;
 ///         }
 ///         self.done.wait(rt);
+///         Ok(())
 ///     }
 ///
 ///     fn lead<R: Wait, T: Records, F: Frames>(&self, rt: &R, thread: &mut T, frames: &mut F) {
@@ -57,17 +68,18 @@ pub trait Frames {
 /// Here `done` is a `Barrier` of all threads and the leader. What is reported after the last frame is in no frame;
 /// `Outcome::settled` counts it as pending.
 pub trait Program {
-    /// Does the work of one thread. Threads are numbered from 0, in the order of the names passed to [`profiled`].
-    fn work<R: Wait, T: Records>(&self, rt: &R, number: usize, thread: &mut T);
+    /// Does the work of one thread. Threads are numbered from 0, in the order of the names passed to [`profiled`]. If it fails,
+    /// the error is in [`Outcome::failed`], and the other threads go on.
+    fn work<R: Wait, T: Records>(&self, rt: &R, number: usize, thread: &mut T) -> io::Result<()>;
 
     /// Takes frames while the threads work, and begins scopes of its own on `thread`. It runs on the thread that called
     /// [`profiled`]. As on any thread, its scopes are reported when the outermost of them ends, so a frame that is taken within
     /// a scope of the leader has none of its open scopes.
     fn lead<R: Wait, T: Records, F: Frames>(&self, rt: &R, thread: &mut T, frames: &mut F);
 
-    /// Returns the name under which the leader's scopes are recorded: `leader`, unless you write this method.
-    fn leader(&self) -> &'static str {
-        "leader"
+    /// Returns what the run is set to before it begins: [`Settings::default`], unless you write this method.
+    fn settings(&self) -> Settings {
+        Settings::default()
     }
 }
 
@@ -83,6 +95,15 @@ pub struct ThreadCounts {
     pub refused: u64,
 }
 
+/// A thread that failed.
+#[derive(Clone, Copy, Debug)]
+pub struct Failed {
+    /// The thread's number.
+    pub number: usize,
+    /// What it returned.
+    pub error: io::Error,
+}
+
 /// The result of a program whose threads are profiled.
 #[derive(Drop)]
 pub struct Outcome {
@@ -92,6 +113,8 @@ pub struct Outcome {
     pub threads: Vec<ThreadCounts>,
     /// What became of the leader's own scopes.
     pub leader: ThreadCounts,
+    /// The thread with the lowest number of those that failed, or `None` if none did. Its scopes are counted like all others.
+    pub failed: Option<Failed>,
     /// How many scopes the leader and all threads reported, how many of these were handed out in frames, and how many are
     /// pending.
     pub settled: Settled,
@@ -107,7 +130,7 @@ pub struct Outcome {
 }
 
 /// Prepares a thread under this name, with a clock that has the start of this one.
-fn ready<R: AllocGlobal + Clock + Copy>(
+pub(crate) fn ready<R: AllocGlobal + Clock + Copy>(
     rt: R,
     name: &str,
     clock: &SystemClock<R>,
@@ -129,7 +152,7 @@ fn all_ready<R: AllocGlobal + Clock + Copy>(
     leader: &str,
     names: &[&str],
     scopes: &Scopes,
-) -> io::Result<Crew<Ready<SystemClock<R>>>>
+) -> io::Result<Crew<Ready<SystemClock<R>>, Ready<SystemClock<R>>>>
     ensures threads { IfOk result (λ crew. vec_len crew.threads ≡ length names.now) }
     ensures clocks { IfOk result (λ crew.
         HaveOneStart (λ thread. thread.clock) (crew.leader ∷ crew.threads.items)) }
@@ -160,12 +183,14 @@ pub fn profiled<R: AllocGlobal + Threads + Wait + Clock + Copy + Send + Sync, W:
 ) -> io::Result<Outcome>
     ensures threads { IfOk result (λ outcome. vec_len outcome.threads ≡ length names.now) }
 {
-    let crew = all_ready(rt, program.leader(), names, scopes)?;
+    let settings = program.settings();
+    let crew = all_ready(rt, settings.leader, names, scopes)?;
     let parts = names.len() + 2;
     let gate = Gate::new(program);
-    let outcome = run::<Brand, Brand, R, Ready<SystemClock<R>>, Gate<W>>(
+    let outcome = run::<Brand, Brand, R, Ready<SystemClock<R>>, Ready<SystemClock<R>>, Gate<W>>(
         rt,
         scopes,
+        &settings,
         crew,
         &gate,
         parts,

@@ -1,5 +1,5 @@
 //! Threads of a program, from their start until all shares are back.
-ghost use Rattle.std.specs.Prelude.{◌≡◌, ◌+◌, ◌<◌, ◌≤◌, ◌^◌, [], IfOk, vec_len, All, sum_by};
+ghost use Rattle.std.specs.Prelude.{◌≡◌, ◌+◌, ◌<◌, ◌≤◌, ◌^◌, [], Some, None, OnOk, IfOk, IfErr, vec_len, All, sum_by};
 ghost use Rattle.puffin.specs.Shares.{IsBlankFor, no_counts, all_reported, all_handed};
 
 use crate::global_profiler::{
@@ -8,29 +8,40 @@ use crate::global_profiler::{
 use crate::light::counted::{CountedShare, Counting};
 use crate::light::gate::Gated;
 use crate::light::leader::{Led, Seat, lead};
-use crate::light::program::{Outcome, Program, ThreadCounts};
-use crate::light::ready::{AnyReady, Crew};
+use crate::light::program::{Failed, Outcome, ThreadCounts};
+use crate::light::ready::{AnyLeader, AnyReady, Crew, Ended};
 use crate::light::scopes::Scopes;
+use crate::light::settings::Settings;
 use crate::light::taker::Taken;
 use std::sync::Wait;
 use std::sync::ledger::{Blank, Ledger};
 use std::thread::{JoinHandle, Scope, Threads};
 use std::{io, thread};
 
+/// What a thread returned: its share and what became of its scopes, and what its work returned.
+#[derive(Drop)]
+struct Worked<L: Ledger, M: Ledger> {
+    counted: CountedShare<L, M>,
+    result: io::Result<()>,
+}
+
 /// Does a thread's work, and returns its share.
-fn work<L: Ledger, M: Ledger, R: Wait + Copy, T: AnyReady, W: Program>(
+fn work<L: Ledger, M: Ledger, R: Wait + Copy, T: AnyReady<W>, W>(
     rt: R,
     number: usize,
     profiler: SharedProfiler<L, M>,
     share: Share<L, M>,
     thread: T,
     program: &W,
-) -> CountedShare<L, M>
+) -> Worked<L, M>
     requires { share ≡ no_counts }
 {
     let mut reporter = Counting::new(SharedReporter::new(rt, profiler, share));
-    let left = thread.run(&rt, number, &mut reporter, program);
-    reporter.into_share(left)
+    let Ended { result, left } = thread.run(&rt, number, &mut reporter, program);
+    Worked {
+        counted: reporter.into_share(left),
+        result,
+    }
 }
 
 /// Starts a thread that calls [`work`].
@@ -40,8 +51,8 @@ fn start<
     L: Ledger + Send + 's,
     M: Ledger + Send + 's,
     R: Wait + Copy + Send + 's,
-    T: AnyReady + Drop + Send + 's,
-    W: Program + Sync,
+    T: AnyReady<W> + Drop + Send + 's,
+    W: Sync,
 >(
     rt: R,
     scope: &Scope<'s, E>,
@@ -50,11 +61,11 @@ fn start<
     share: Share<L, M>,
     thread: T,
     program: &'s W,
-) -> io::Result<JoinHandle<CountedShare<L, M>>>
+) -> io::Result<JoinHandle<Worked<L, M>>>
     requires { share ≡ no_counts }
 {
     Ok(scope.spawn(
-        move || -> CountedShare<L, M>
+        move || -> Worked<L, M>
             requires { share ≡ no_counts }
         { work(rt, number, profiler, share, thread, program) },
     )?)
@@ -72,8 +83,8 @@ fn start_all<
     L: Ledger + Send + 's,
     M: Ledger + Send + 's,
     R: AllocGlobal + Threads + Wait + Copy + Send + 's,
-    T: AnyReady + Drop + Send + 's,
-    W: Program + Sync,
+    T: AnyReady<W> + Drop + Send + 's,
+    W: Sync,
 >(
     rt: R,
     scope: &Scope<'s, E>,
@@ -81,7 +92,7 @@ fn start_all<
     shares: Vec<Share<L, M>>,
     threads: Vec<T>,
     program: &'s W,
-) -> io::Result<Vec<JoinHandle<CountedShare<L, M>>>>
+) -> io::Result<Vec<JoinHandle<Worked<L, M>>>>
     requires { All (λ share. share ≡ no_counts) shares.items }
     ensures { IfOk result (λ started. vec_len started ≡ vec_len threads) }
 {
@@ -124,6 +135,7 @@ struct Joined<L: Ledger, M: Ledger> {
     shares: Vec<Share<L, M>>,
     counts: Vec<ThreadCounts>,
     leader: ThreadCounts,
+    failed: Option<Failed>,
     frames: u64,
     missed: u64,
     ghost all_back: { vec_len shares ≡ vec_len counts + 2 },
@@ -135,11 +147,21 @@ struct Joined<L: Ledger, M: Ledger> {
         ≡ all_reported shares.items },
 }
 
+/// Returns the failure of the thread with this number, if its work failed.
+fn failure(number: usize, ended: io::Result<()>) -> Option<Failed>
+    ensures ok { OnOk ended (result ≡ None) }
+    ensures err { IfErr ended (λ error.
+        result ≡ Some (record { number = number; error = error })) }
+{
+    let error = ended.err()?;
+    Some(Failed { number, error })
+}
+
 #[tactic(auto, using(crate::proofs::CountedShares::counted_more, crate::proofs::CountedShares::none_more, crate::proofs::CountedShares::some_more))]
 /// Joins all threads, and appends their shares to the leader's two.
 fn join_all<L: Ledger, M: Ledger, R: Threads>(
     rt: &R,
-    started: Vec<JoinHandle<CountedShare<L, M>>>,
+    started: Vec<JoinHandle<Worked<L, M>>>,
     led: Led<L, M>,
     room: Room<L, M>,
 ) -> io::Result<Joined<L, M>>
@@ -162,10 +184,12 @@ fn join_all<L: Ledger, M: Ledger, R: Threads>(
         share: own,
         counts: leader,
     } = counted;
+    let mut failed = None;
     shares.push(share)?;
     shares.push(own)?;
     for thread in started {
-        let counted = thread.join(rt);
+        let Worked { counted, result } = thread.join(rt);
+        failed = failed.or(failure(counts.len(), result));
         shares.push(counted.share)?;
         counts.push(counted.counts)?;
     }
@@ -173,6 +197,7 @@ fn join_all<L: Ledger, M: Ledger, R: Threads>(
         shares,
         counts,
         leader,
+        failed,
         frames,
         missed,
     })
@@ -187,7 +212,8 @@ fn run_all<
     L: Ledger + Send + 's,
     M: Ledger + Send + 's,
     R: AllocGlobal + Threads + Wait + Copy + Send + 's,
-    T: AnyReady + Drop + Send + 's,
+    D: AnyLeader<W> + Drop,
+    T: AnyReady<W> + Drop + Send + 's,
     W: Gated + Sync,
 >(
     rt: R,
@@ -195,7 +221,7 @@ fn run_all<
     profiler: &SharedProfiler<L, M>,
     seat: Seat<L, M>,
     shares: Vec<Share<L, M>>,
-    crew: Crew<T>,
+    crew: Crew<D, T>,
     program: &'s W,
 ) -> io::Result<Joined<L, M>>
     requires { All (λ share. share ≡ no_counts) shares.items }
@@ -215,14 +241,15 @@ fn scoped<
     L: Ledger + Send + Sync,
     M: Ledger + Send + Sync,
     R: AllocGlobal + Threads + Wait + Copy + Send + Sync,
-    T: AnyReady + Drop + Send,
+    D: AnyLeader<W> + Drop + Send,
+    T: AnyReady<W> + Drop + Send,
     W: Gated + Sync,
 >(
     rt: R,
     profiler: &SharedProfiler<L, M>,
     seat: Seat<L, M>,
     shares: Vec<Share<L, M>>,
-    crew: Crew<T>,
+    crew: Crew<D, T>,
     program: &W,
 ) -> io::Result<Joined<L, M>>
     requires { All (λ share. share ≡ no_counts) shares.items }
@@ -248,10 +275,12 @@ struct Opened<L: Ledger, M: Ledger> {
 }
 
 impl<L: Ledger, M: Ledger> Opened<L, M> {
-    /// Opens a new profiler with this number of shares, whose first frame lists these places. Fails if memory runs out.
+    /// Opens a new profiler with this number of shares, whose first frame lists these places, and whose view has these
+    /// settings. Fails if memory runs out.
     fn new<R: AllocGlobal + Wait>(
         rt: &R,
         scopes: &Scopes,
+        settings: &Settings,
         parts: usize,
         reported: Blank,
         handed: Blank,
@@ -280,6 +309,7 @@ impl<L: Ledger, M: Ledger> Opened<L, M> {
         let Ok(view) = GlobalFrameView::attach(rt, rt.alloc(), &profiler) else {
             return Err(no_memory());
         };
+        settings.set(&mut view.lock(rt));
         Ok(Opened {
             profiler,
             view,
@@ -310,6 +340,7 @@ fn settled<L: Ledger, M: Ledger, R: Wait>(
         shares,
         counts,
         leader,
+        failed,
         frames,
         missed,
     } = joined;
@@ -318,6 +349,7 @@ fn settled<L: Ledger, M: Ledger, R: Wait>(
             view,
             threads: counts,
             leader,
+            failed,
             settled,
             frames,
             missed,
@@ -332,12 +364,14 @@ pub(crate) fn run<
     L: Ledger + Send + Sync,
     M: Ledger + Send + Sync,
     R: AllocGlobal + Threads + Wait + Copy + Send + Sync,
-    T: AnyReady + Drop + Send,
+    D: AnyLeader<W> + Drop + Send,
+    T: AnyReady<W> + Drop + Send,
     W: Gated + Sync,
 >(
     rt: R,
     scopes: &Scopes,
-    crew: Crew<T>,
+    settings: &Settings,
+    crew: Crew<D, T>,
     program: &W,
     parts: usize,
     reported: Blank,
@@ -349,7 +383,7 @@ pub(crate) fn run<
     ensures threads { IfOk result (λ outcome.
         vec_len outcome.threads ≡ vec_len crew.threads) }
 {
-    let opened = Opened::<L, M>::new(&rt, scopes, parts, reported, handed)?;
+    let opened = Opened::<L, M>::new(&rt, scopes, settings, parts, reported, handed)?;
     let Opened {
         profiler,
         view,

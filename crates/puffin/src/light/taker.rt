@@ -83,4 +83,10 @@ impl<L: Ledger, M: Ledger, R: Wait> Frames for Taker<L, M, R> {
         taken.missed = missed;
         Ok(emitted)
     }
+
+    fn emit_scope_snapshot(&mut self)
+        ensures { self.new.taken ≡ self.old.taken }
+    {
+        self.profiler.emit_scope_snapshot(&self.rt);
+    }
 }

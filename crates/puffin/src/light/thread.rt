@@ -226,19 +226,28 @@ impl<C: NsSource, P: Reporter> Records for Thread<C, P> {
 }
 
 impl<C: Drop, P> Thread<C, P> {
-    ghost use Rattle.puffin.specs.LightThread.{reporter_of};
+    ghost use Rattle.puffin.specs.LightThread.{reporter_of, scopes_of};
 
     /// Consumes the thread and returns its reporter. Closed scopes that weren't reported are lost; [`Thread::num_closed`] says
     /// how many there are.
     pub fn into_reporter(self) -> P
         ensures { result ≡ reporter_of self }
     {
+        let (reporter, _scopes) = self.into_parts();
+        reporter
+    }
+
+    /// Does what [`Thread::into_reporter`] does, and also returns the scopes that the thread knew, for another thread.
+    pub fn into_parts(self) -> (P, ThreadScopes)
+        ensures reporter { result.0 ≡ reporter_of self }
+        ensures scopes { result.1 ≡ scopes_of self }
+    {
         let Thread {
             profiler: _,
             reporter,
-            scopes: _,
+            scopes,
             refused: _,
         } = self;
-        reporter
+        (reporter, scopes)
     }
 }

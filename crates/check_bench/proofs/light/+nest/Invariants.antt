@@ -1,4 +1,4 @@
 use Rattle.check_bench.proofs.light.+nest.Given as goal
 
 abbrev pub decreases-nest : goal.decreases-nest
-decreases-nest l = l.depth
+decreases-nest g l = l.depth

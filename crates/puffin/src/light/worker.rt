@@ -1,0 +1,86 @@
+//! Threads that take jobs, each of which is recorded under a name of its own.
+
+use crate::light::pool::Pool;
+use crate::light::program::Frames;
+use crate::light::ready::{AnyLeader, AnyReady, Ended, Left, Lent, Ready, end};
+use crate::light::scopes::ThreadScopes;
+use crate::light::thread::Thread;
+use crate::thread_profiler::{Reporter, SystemClock, ThreadProfiler};
+use std::alloc::Global;
+use std::io;
+use std::rt::Clock;
+use std::sync::Wait;
+
+/// A thread that is ready to take jobs of a pool.
+#[derive(Drop)]
+pub(crate) struct Worker<C> {
+    pub(crate) alloc: Global,
+    pub(crate) clock: SystemClock<C>,
+    pub(crate) scopes: ThreadScopes,
+}
+
+/// The leader of a pool, whose thread is ready.
+#[derive(Drop)]
+pub(crate) struct Head<C> {
+    pub(crate) ready: Ready<SystemClock<C>>,
+}
+
+impl<C: Clock + Copy + Drop, W: Pool> AnyReady<W> for Worker<C> {
+    /// Does one job after the other, until there is none or one fails.
+    fn run<R: Wait, P: Reporter>(
+        self,
+        rt: &R,
+        _number: usize,
+        reporter: &mut P,
+        pool: &W,
+    ) -> Ended {
+        let Worker {
+            alloc,
+            clock,
+            mut scopes,
+        } = self;
+        let mut left = Left {
+            unreported: 0,
+            refused: 0,
+        };
+        let mut result = Ok(());
+        for _ in rt.forever() {
+            let (name, job) = match pool.next(rt) {
+                Ok(Some(next)) => next,
+                Ok(None) => break,
+                Err(e) => {
+                    result = Err(e);
+                    break;
+                }
+            };
+            let profiler = ThreadProfiler::new(alloc, name, clock.another());
+            let lent = Lent {
+                reporter: &mut *reporter,
+            };
+            let mut thread = Thread::new(profiler, lent, scopes);
+            result = pool.work(rt, job, &mut thread);
+            let (job_left, known) = end(thread);
+            left = left.and(job_left);
+            scopes = known;
+            if result.is_err() {
+                break;
+            }
+        }
+        Ended { result, left }
+    }
+}
+
+impl<C: Clock + Drop, W: Pool> AnyLeader<W> for Head<C> {
+    fn lead<R: Wait, P: Reporter, F: Frames>(
+        self,
+        rt: &R,
+        reporter: &mut P,
+        frames: &mut F,
+        pool: &W,
+    ) -> Left {
+        let mut thread = self.ready.start(reporter);
+        pool.lead(rt, &mut thread, frames);
+        let (left, _scopes) = end(thread);
+        left
+    }
+}

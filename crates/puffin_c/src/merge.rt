@@ -1,0 +1,210 @@
+//! Merges the scopes of one thread over the frames of a file, or over those of a profiler's view.
+
+ghost use Rattle.std.specs.Prelude.{◌≡◌, ◌⊎◌, ℕ, List, Option, Some, Ok, Err, Result, IfOk, IfErr};
+ghost use Rattle.std.specs.Arc.{arc_value};
+ghost use Rattle.puffin_data.specs.declared.file_error.FileError.TheVariants as file_error;
+ghost use Rattle.puffin_threads.specs.Thread.ThreadKey.{ThreadKey, key_of};
+ghost use Rattle.puffin_frames.specs.Frame.Contents.{packet_fields};
+ghost use Rattle.puffin_merge.specs.Merge.Scopes.{frame_bytes, frames_bytes};
+ghost use Rattle.puffin_merge.specs.Merge.Tree.{MergedForest};
+ghost use Rattle.puffin_report.specs.Report.{HasSummary};
+ghost use Rattle.puffin_report.specs.Summary.{bytes_in, all_bytes_in};
+ghost use Rattle.puffin_c.specs.declared.fault.Fault.{Fault};
+ghost use Rattle.puffin_c.specs.Faults.{answer_code};
+ghost use Rattle.puffin_c.specs.Handles.{profiler_in};
+ghost use Rattle.puffin_c.specs.Merges.{IsListOf, MergesFile, newest_fields, IsMergeOf, LacksMerge, MergesView};
+ghost use Rattle.puffin_c.specs.Reporting.{LacksLines, key_given};
+
+use crate::fault::{Fault, answer_code};
+use crate::file::named_thread;
+use crate::handles::PuffinProfiler;
+use crate::lists::PuffinLists;
+use crate::memory_source::MemorySource;
+use crate::merged::{MergedList, PuffinMerged, list_of};
+use puffin_data::FileError;
+use puffin_frames::frame_data::{FrameData, UnpackedFrameData};
+use puffin_merge::merge::merge_scopes_for_thread;
+use puffin_report::{Summary, summarize};
+use puffin_threads::thread_profiler::ThreadInfo;
+use puffin_view::profile_view::FrameView;
+use std::alloc::Global;
+use std::sync::Arc;
+
+/// Reads a file frame by frame, and sums it up for a thread.
+fn summary_of(alloc: Global, file: &[u8], thread: &ThreadInfo) -> Result<Summary, FileError>
+    ensures ok { IfOk result (λ summary.
+        (left : Option (List ℕ)) × HasSummary (key_of thread.now) (Some file.now) left summary) }
+    ensures err { IfErr result (LacksLines file.now (key_of thread.now)) }
+{
+    summarize(alloc, &mut MemorySource::new(file), thread)
+}
+
+fn file_merged(
+    alloc: Global,
+    file: &[u8],
+    has_start: bool,
+    start_ns: i64,
+    name: &[u8],
+    merged: &mut [PuffinMerged],
+    texts: &mut [u8],
+    sizes: &mut PuffinLists,
+) -> Result<(), Fault>
+    ensures { MergesFile file.now (key_given has_start start_ns name.now) merged.old merged.new
+        texts.old texts.new sizes.old sizes.new result }
+{
+    let thread = named_thread(alloc, has_start, start_ns, name)?;
+    let summary = summary_of(alloc, file, &thread)?;
+    let list = list_of(alloc, &summary.merged)?;
+    list.give(merged, texts, sizes);
+    Ok(())
+}
+
+/// Merges the scopes of one thread over the frames of a file of any origin: of the thread with this name and this start, or with
+/// this name and no start if `has_start` isn't set. The frames, their merge and its nodes are those of [`puffin_report_file`].
+/// Copies the merged scopes, each before its children and with its depth, to the front of `merged` and their texts, one behind
+/// the other, to the front of `texts`, as many of each as fit, and sets `sizes` to how many merged scopes and bytes of texts there
+/// are.
+///
+/// Fails with `NotText` if the name isn't UTF-8, whatever the file contains. Otherwise fails with the first fault in the file, which
+/// is that of its merge if every frame is sound; or with `Memory`. Nothing changes then.
+///
+/// [`puffin_report_file`]: crate::file::puffin_report_file
+#[unsafe(no_mangle)]
+pub extern "C" fn puffin_merge_file(
+    alloc: Global,
+    file: &[u8],
+    has_start: bool,
+    start_ns: i64,
+    name: &[u8],
+    merged: &mut [PuffinMerged],
+    texts: &mut [u8],
+    sizes: &mut PuffinLists,
+) -> u32
+    ensures { (answer : Result (Unit {0}) Fault)
+        × (result ≡ answer_code answer)
+        × MergesFile file.now (key_given has_start start_ns name.now) merged.old merged.new
+        texts.old texts.new sizes.old sizes.new answer }
+{
+    let answer = file_merged(alloc, file, has_start, start_ns, name, merged, texts, sizes);
+    answer_code(answer)
+}
+
+/// Returns the unpacked data of a frame.
+#[tactic(auto, using(puffin_frames::proofs::lemmas::FramesAgain::frame_again))]
+fn opened(frame: &mut FrameData) -> Result<Arc<UnpackedFrameData>, FileError>
+    ensures ok { IfOk result (λ unpacked. (info : ThreadKey) →
+        bytes_in info (packet_fields frame.old) ≡ Ok (frame_bytes info (arc_value unpacked))) }
+    ensures err { IfErr result (λ e.
+        (e ≡ file_error.Memory)
+        ⊎ ((info : ThreadKey) → bytes_in info (packet_fields frame.old) ≡ Err e)) }
+{
+    frame.unpacked()
+}
+
+/// Returns the unpacked data of a frame of a view, in which it stays as it is.
+fn opened_copy(frame: &FrameData) -> Result<Arc<UnpackedFrameData>, FileError>
+    ensures ok { IfOk result (λ unpacked. (info : ThreadKey) →
+        bytes_in info (packet_fields frame.now) ≡ Ok (frame_bytes info (arc_value unpacked))) }
+    ensures err { IfErr result (λ e.
+        (e ≡ file_error.Memory)
+        ⊎ ((info : ThreadKey) → bytes_in info (packet_fields frame.now) ≡ Err e)) }
+{
+    let mut copy = frame.clone()?;
+    opened(&mut copy)
+}
+
+/// Returns the unpacked data of the last `number` recent frames of a view, oldest first.
+fn newest_opened(
+    alloc: Global,
+    view: &FrameView,
+    number: usize,
+) -> Result<Vec<Arc<UnpackedFrameData>>, FileError>
+    ensures ok { IfOk result (λ opened. (info : ThreadKey) →
+        all_bytes_in info (newest_fields number view.now) ≡ Ok (frames_bytes info opened.items)) }
+    ensures err { IfErr result (λ e.
+        (e ≡ file_error.Memory)
+        ⊎ ((info : ThreadKey) → all_bytes_in info (newest_fields number view.now) ≡ Err e)) }
+{
+    let mut newest = Vec::new(alloc);
+    'frames: for frame in view.latest_frames(number) {
+        newest.push(opened_copy(frame)?)?;
+    }
+    Ok(newest)
+}
+
+/// Merges the scopes of a thread over the last `number` recent frames of a view, and lists the merged scopes.
+fn newest_merged(
+    alloc: Global,
+    view: &FrameView,
+    number: usize,
+    thread: &ThreadInfo,
+) -> Result<MergedList, Fault>
+    ensures ok { IfOk result (λ list. (f : MergedForest)
+        × IsMergeOf (key_of thread.now) (newest_fields number view.now) f
+        × IsListOf f list) }
+    ensures err { IfErr result (
+        LacksMerge (key_of thread.now) (newest_fields number view.now)) }
+{
+    let frames = newest_opened(alloc, view, number)?;
+    let merged = merge_scopes_for_thread(alloc, view.scope_collection(), &frames, thread)?;
+    Ok(list_of(alloc, &merged)?)
+}
+
+fn view_merged(
+    alloc: Global,
+    profiler: &mut PuffinProfiler,
+    frames: usize,
+    has_start: bool,
+    start_ns: i64,
+    name: &[u8],
+    merged: &mut [PuffinMerged],
+    texts: &mut [u8],
+    sizes: &mut PuffinLists,
+) -> Result<(), Fault>
+    ensures merges { MergesView (profiler_in profiler.old) frames
+        (key_given has_start start_ns name.now) merged.old merged.new texts.old texts.new sizes.old
+        sizes.new result }
+    ensures same_profiler { profiler_in profiler.new ≡ profiler_in profiler.old }
+{
+    if !profiler.is_open {
+        return Err(Fault::NotOpen);
+    }
+    let thread = named_thread(alloc, has_start, start_ns, name)?;
+    let whole = profiler.take(alloc);
+    let answer = newest_merged(alloc, &whole.view, frames, &thread);
+    profiler.put(whole);
+    answer?.give(merged, texts, sizes);
+    Ok(())
+}
+
+/// Merges the scopes of one thread over the newest `frames` of the view's recent frames, or over all of them if there are fewer: of the
+/// thread with this name and this start, or with this name and no start if `has_start` isn't set. Gives the merged scopes like
+/// [`puffin_merge_file`]. The frames stay as they are, and copies of packed ones are unpacked, all before the merge.
+///
+/// Fails with the first of these that applies: `NotOpen`; `NotText` if the name isn't UTF-8; what refuses the merge, `TooDeep` at a
+/// scope nested in 1,024 others, or `TooLarge` if a start, a number of pieces, a total duration or the end of a merged scope doesn't
+/// fit. Can also fail with `Memory`, but not in place of `NotOpen` or `NotText`. Nothing changes in either case. The contract also
+/// allows for faults of the frames' own bytes, which no frame that a profiler made has.
+#[unsafe(no_mangle)]
+pub extern "C" fn puffin_merge_view(
+    alloc: Global,
+    profiler: &mut PuffinProfiler,
+    frames: usize,
+    has_start: bool,
+    start_ns: i64,
+    name: &[u8],
+    merged: &mut [PuffinMerged],
+    texts: &mut [u8],
+    sizes: &mut PuffinLists,
+) -> u32
+    ensures merges { (answer : Result (Unit {0}) Fault)
+        × (result ≡ answer_code answer)
+        × MergesView (profiler_in profiler.old) frames (key_given has_start start_ns name.now)
+        merged.old merged.new texts.old texts.new sizes.old sizes.new answer }
+    ensures same_profiler { profiler_in profiler.new ≡ profiler_in profiler.old }
+{
+    let answer = view_merged(
+        alloc, profiler, frames, has_start, start_ns, name, merged, texts, sizes,
+    );
+    answer_code(answer)
+}
