@@ -42,6 +42,8 @@ pub struct Collector {
     collection: ScopeCollection,
     new_details: Vec<Arc<ScopeDetails>>,
     wants_all: bool,
+    // How many bytes may be pending after a report.
+    max_pending: usize,
 }
 
 impl Model for Collector {
@@ -86,7 +88,17 @@ impl Collector {
             collection: ScopeCollection::new(alloc),
             new_details: Vec::new(alloc),
             wants_all: false,
+            max_pending: usize::MAX,
         }
+    }
+
+    /// Sets how many bytes of scopes may be pending, of all threads together. [`Collector::report`] fails with `Memory` where
+    /// there would be more, as if the machine had no more, and changes nothing. What is pending stays. At first there is no such
+    /// limit.
+    pub fn set_max_pending(&mut self, bytes: usize)
+        ensures { self.new ≡ self.old }
+    {
+        self.max_pending = bytes;
     }
 
     /// Registers the caller's own scopes by name, and returns an id for each. A known name keeps its id. Details with a new

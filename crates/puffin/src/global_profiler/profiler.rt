@@ -66,6 +66,16 @@ impl GlobalProfiler {
         }
     }
 
+    /// Sets how many bytes of scopes may wait for the next frame, as [`Collector::set_max_pending`] does. Reports above it are
+    /// refused with `Memory`. At first there is no such limit.
+    pub fn set_max_pending(&mut self, bytes: usize)
+        requires boxed_sinks { ⊤ }
+        ensures collected { collected_of self.new ≡ collected_of self.old }
+        ensures sinks { SameSinks self.old self.new }
+    {
+        self.collector.set_max_pending(bytes);
+    }
+
     /// Appends a thread's scopes to the pending ones, and `details` to the new details that the next frame lists, as
     /// [`Collector::report`] does. Fails in the same cases.
     #[inline(always)]

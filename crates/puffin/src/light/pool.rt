@@ -76,7 +76,7 @@ pub trait Pool {
 /// Prepares the thread of a leader, and this number of workers. All have the same clock, the system's.
 fn all_ready<R: AllocGlobal + Clock + Copy>(
     rt: R,
-    leader: &str,
+    settings: &Settings,
     workers: usize,
     scopes: &Scopes,
 ) -> io::Result<Crew<Head<R>, Worker<R>>>
@@ -94,10 +94,11 @@ fn all_ready<R: AllocGlobal + Clock + Copy>(
             alloc: rt.alloc(),
             clock: clock.another(),
             scopes,
+            max_bytes: settings.max_thread_bytes,
         })?;
     }
     let leader = Head {
-        ready: ready(rt, leader, &clock, scopes)?,
+        ready: ready(rt, settings.leader, &clock, scopes, settings)?,
     };
     Ok(Crew { leader, threads })
 }
@@ -120,7 +121,7 @@ pub fn pooled<R: AllocGlobal + Threads + Wait + Clock + Copy + Send + Sync, W: P
     ensures threads { IfOk result (λ outcome. vec_len outcome.threads ≡ workers) }
 {
     let settings = pool.settings();
-    let crew = all_ready(rt, settings.leader, workers, scopes)?;
+    let crew = all_ready(rt, &settings, workers, scopes)?;
     let parts = crew.threads.len() + 2;
     let gate = Gate::new(pool);
     let outcome = run::<Brand, Brand, R, Head<R>, Worker<R>, Gate<W>>(

@@ -129,12 +129,13 @@ pub struct Outcome {
     ghost none_handed: { frames ≡ 0 → settled.handed ≡ 0 },
 }
 
-/// Prepares a thread under this name, with a clock that has the start of this one.
+/// Prepares a thread under this name and with these settings, with a clock that has the start of this one.
 pub(crate) fn ready<R: AllocGlobal + Clock + Copy>(
     rt: R,
     name: &str,
     clock: &SystemClock<R>,
     scopes: &Scopes,
+    settings: &Settings,
 ) -> io::Result<Ready<SystemClock<R>>>
     ensures { IfOk result (λ thread.
         StartsAt (clock_start clock.now) (clock_begun clock.now) thread.clock) }
@@ -143,13 +144,14 @@ pub(crate) fn ready<R: AllocGlobal + Clock + Copy>(
     let Ok(scopes) = scopes.for_thread() else {
         return Err(io::Error::from(io::ErrorKind::OutOfMemory));
     };
-    Ok(Ready::new(rt.alloc(), name, clock.another(), scopes))
+    let max_bytes = settings.max_thread_bytes;
+    Ok(Ready::new(rt.alloc(), name, clock.another(), scopes, max_bytes))
 }
 
 /// Prepares a thread for each name, and one for the leader. All have the same clock, the system's.
 fn all_ready<R: AllocGlobal + Clock + Copy>(
     rt: R,
-    leader: &str,
+    settings: &Settings,
     names: &[&str],
     scopes: &Scopes,
 ) -> io::Result<Crew<Ready<SystemClock<R>>, Ready<SystemClock<R>>>>
@@ -160,9 +162,9 @@ fn all_ready<R: AllocGlobal + Clock + Copy>(
     let clock = SystemClock::new(rt)?;
     let mut threads = Vec::new(rt.alloc());
     for name in names {
-        threads.push(ready(rt, name, &clock, scopes)?)?;
+        threads.push(ready(rt, name, &clock, scopes, settings)?)?;
     }
-    let leader = ready(rt, leader, &clock, scopes)?;
+    let leader = ready(rt, settings.leader, &clock, scopes, settings)?;
     Ok(Crew { leader, threads })
 }
 
@@ -184,7 +186,7 @@ pub fn profiled<R: AllocGlobal + Threads + Wait + Clock + Copy + Send + Sync, W:
     ensures threads { IfOk result (λ outcome. vec_len outcome.threads ≡ length names.now) }
 {
     let settings = program.settings();
-    let crew = all_ready(rt, settings.leader, names, scopes)?;
+    let crew = all_ready(rt, &settings, names, scopes)?;
     let parts = names.len() + 2;
     let gate = Gate::new(program);
     let outcome = run::<Brand, Brand, R, Ready<SystemClock<R>>, Ready<SystemClock<R>>, Gate<W>>(

@@ -2,13 +2,18 @@
 
 use crate::profile_view::FrameView;
 
-/// What a run of several threads is set to before it begins: the name of its leader, and what its view keeps.
+/// What a run of several threads is set to before it begins: the name of its leader, what its view keeps, and how much memory its
+/// scopes may take.
 ///
 /// ```
 /// Settings { leader: "main loop", max_recent: 200, ..Settings::default() }
 /// ```
 ///
 /// With `max_recent` and `max_slow` at 0 the view keeps no frame. The leader still gets each frame that it takes.
+///
+/// A scope above `max_thread_bytes` doesn't begin, and is counted in [`ThreadCounts::refused`](crate::light::ThreadCounts::refused). A report above
+/// `max_pending_bytes` is refused: its scopes stay with their thread and go into its next report, or are counted in
+/// [`ThreadCounts::unreported`](crate::light::ThreadCounts::unreported) at its end. With both limits, a run whose leader takes no frame doesn't use up the memory.
 #[derive(Clone, Copy, Debug, PartialEq, Eq)]
 pub struct Settings {
     /// The name under which the leader's scopes are recorded.
@@ -19,17 +24,24 @@ pub struct Settings {
     pub max_slow: usize,
     /// Whether the view packs frames, as [`FrameView::set_pack_frames`] says.
     pub pack_frames: bool,
+    /// The maximum number of bytes that the scopes of a thread take until they are reported, with what is kept free for their
+    /// ends.
+    pub max_thread_bytes: usize,
+    /// The maximum number of bytes of all threads' scopes that wait for the next frame.
+    pub max_pending_bytes: usize,
 }
 
 impl Default for Settings {
     /// Returns the settings of a program that sets nothing: the leader's name is `leader`, and the view keeps up to 1,000 recent
-    /// and 256 slow frames, with packing on, like [`FrameView::new`].
+    /// and 256 slow frames, with packing on, like [`FrameView::new`]. Nothing limits the bytes.
     fn default() -> Settings {
         Settings {
             leader: "leader",
             max_recent: 1_000,
             max_slow: 256,
             pack_frames: true,
+            max_thread_bytes: usize::MAX,
+            max_pending_bytes: usize::MAX,
         }
     }
 }

@@ -293,6 +293,7 @@ impl<L: Ledger, M: Ledger> Opened<L, M> {
         let Ok(()) = profiler.add_scopes(scopes.details()) else {
             return Err(no_memory());
         };
+        profiler.set_max_pending(settings.max_pending_bytes);
         let opened = SharedProfiler::<L, M>::open(rt.alloc(), profiler, parts, reported, handed);
         let Ok((profiler, mut shares)) = opened else {
             return Err(no_memory());

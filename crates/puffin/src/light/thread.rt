@@ -137,6 +137,14 @@ impl<C: NsSource, P: Reporter> Thread<C, P> {
         &mut self.reporter
     }
 
+    /// Sets how many bytes of scopes the thread may hold, as [`ThreadProfiler::set_max_bytes`] does. A scope above it doesn't
+    /// begin, and is counted in [`Thread::num_refused`]. At first there is no such limit.
+    pub fn set_max_bytes(&mut self, bytes: usize)
+        ensures { self.new ≡ self.old }
+    {
+        self.profiler.set_max_bytes(bytes);
+    }
+
     /// Returns the number of closed scopes that wait for a report, because an earlier one was refused or other scopes are open.
     pub fn num_closed(&self) -> usize
         ensures { result ≡ num_ended (thread_of (profiler_of self.now)).word }

@@ -17,6 +17,7 @@ pub(crate) struct Worker<C> {
     pub(crate) alloc: Global,
     pub(crate) clock: SystemClock<C>,
     pub(crate) scopes: ThreadScopes,
+    pub(crate) max_bytes: usize,
 }
 
 /// The leader of a pool, whose thread is ready.
@@ -38,6 +39,7 @@ impl<C: Clock + Copy + Drop, W: Pool> AnyReady<W> for Worker<C> {
             alloc,
             clock,
             mut scopes,
+            max_bytes,
         } = self;
         let mut left = Left {
             unreported: 0,
@@ -53,7 +55,8 @@ impl<C: Clock + Copy + Drop, W: Pool> AnyReady<W> for Worker<C> {
                     break;
                 }
             };
-            let profiler = ThreadProfiler::new(alloc, name, clock.another());
+            let mut profiler = ThreadProfiler::new(alloc, name, clock.another());
+            profiler.set_max_bytes(max_bytes);
             let lent = Lent {
                 reporter: &mut *reporter,
             };

@@ -24,7 +24,8 @@ impl Collector {
     /// Fails with the first cause that applies, and then changes nothing: `MissingId` if some details have no id; `UnlikeForms`
     /// if these scopes and those pending under the info have bytes in unlike forms; `TooLarge` if, with these scopes, the
     /// number of pending bytes, of pending scopes or of scopes ever reported doesn't fit 64 bits; `RangeTooLong` if the time
-    /// from the least start to the greatest stop of all scopes then pending doesn't fit `i64`; `Memory`.
+    /// from the least start to the greatest stop of all scopes then pending doesn't fit `i64`; `Memory` if there is none, or if
+    /// more would be pending than [`Collector::set_max_pending`] allows.
     #[inline(always)]
     pub fn report(
         &mut self,
@@ -112,6 +113,9 @@ impl Collector {
             Ok(sums) => sums,
             Err(cause) => return Err(self.first_cause(&info, times, cause)),
         };
+        if self.max_pending < meta.num_bytes {
+            return Err(self.first_cause(&info, times, Error::Memory));
+        }
         report_to(self.alloc, &mut self.pending, info, times)?;
         self.meta = meta;
         self.reported = reported;

@@ -27,6 +27,8 @@ pub struct Stream {
     // The bytes, followed by the room. The room is initialized, so that bytes are appended by overwriting it.
     block: Vec<u8>,
     len: usize,
+    // How long the block may become by a call that makes it longer.
+    max_bytes: usize,
 }
 
 impl Model for Stream {
@@ -60,6 +62,7 @@ impl Stream {
             form,
             block: Vec::new(alloc),
             len: 0,
+            max_bytes: usize::MAX,
         }
     }
 
@@ -73,6 +76,7 @@ impl Stream {
             form,
             block: bytes,
             len,
+            max_bytes: usize::MAX,
         }
     }
 
@@ -132,6 +136,14 @@ impl Stream {
         self.block.len() - self.len
     }
 
+    /// Sets how many bytes the stream may hold, with the room that its calls ask for. A call that needs more fails with `Memory`,
+    /// as if the machine had no more. Bytes and room that are there already stay. At first there is no such limit.
+    pub fn set_max_bytes(&mut self, bytes: usize)
+        ensures { self.new ≡ self.old }
+    {
+        self.max_bytes = bytes;
+    }
+
     /// Makes room for at least this many more bytes. Fails only with `Memory`, and never if there is enough room already. The
     /// bytes don't change, even if it fails.
     #[inline]
@@ -160,8 +172,14 @@ impl Stream {
         ensures room { self.old.room ≤ self.new.room }
         ensures memory { IsOkUnless result Error.Memory }
     {
+        let Some(needed) = self.block.len().checked_add(more) else {
+            return Err(Error::Memory);
+        };
+        if self.max_bytes < needed {
+            return Err(Error::Memory);
+        }
         self.block.reserve(more)?;
-        let whole = self.block.capacity();
+        let whole = self.block.capacity().min(self.max_bytes);
         self.block.resize(whole, 0)?;
         Ok(())
     }
@@ -178,6 +196,7 @@ impl Stream {
             form: self.form,
             block,
             len,
+            max_bytes: self.max_bytes,
         })
     }
 
@@ -206,6 +225,9 @@ impl Stream {
         ensures form { self.new.form ≡ self.old.form }
         ensures memory { IsOkUnless result Error.Memory }
     {
+        if self.max_bytes.saturating_sub(self.len) < bytes.len() {
+            return Err(Error::Memory);
+        }
         self.block.truncate(self.len);
         self.block.extend_from_slice(bytes)?;
         self.len = self.block.len();

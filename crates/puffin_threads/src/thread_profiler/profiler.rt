@@ -76,6 +76,19 @@ impl<C: NsSource> ThreadProfiler<C> {
         &mut self.clock
     }
 
+    /// Sets how many bytes of scopes the thread may hold: open ones, closed ones that no report took, and what is kept free for
+    /// their ends. [`ThreadProfiler::begin_scope`] fails with `Memory` where a scope would need more, as if the machine had no
+    /// more; the scopes before it stay as they are. At first there is no such limit. Allocates nothing.
+    ///
+    /// ```
+    /// thread.set_max_bytes(1_000_000);
+    /// ```
+    pub fn set_max_bytes(&mut self, bytes: usize)
+        ensures { self.new ≡ self.old }
+    {
+        self.state.set_max_bytes(bytes);
+    }
+
     /// Returns the number of open scopes.
     pub fn depth(&self) -> usize
         ensures { result ≡ open_after 0 (thread_of self.now).word }

@@ -156,6 +156,13 @@ impl ThreadState {
         }
     }
 
+    /// Sets how many bytes the scopes may take, with what is kept free for their ends.
+    pub(crate) fn set_max_bytes(&mut self, bytes: usize)
+        ensures { self.new ≡ self.old }
+    {
+        self.info.stream.set_max_bytes(bytes);
+    }
+
     /// Returns the number of open scopes.
     pub(crate) fn depth(&self) -> usize
         ensures { result ≡ open_after 0 self.now.word }
