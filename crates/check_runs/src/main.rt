@@ -1,11 +1,15 @@
 //! Uses the same places in several runs, in different orders, and with several profilers. Prints what the reports of all files
-//! say: the name of each scope and the number of its pieces.
+//! say: the name of each scope and the number of its pieces. Then begins a million scopes of which nobody takes a frame, and
+//! prints what became of them.
 #![tactic(auto)]
 
 use anyhow::{Context, Result};
 use puffin::data::{Buffered, Counted};
 use puffin::global_profiler::GlobalProfiler;
-use puffin::light::{Place, Records, Rounds, Scopes, Thread, in_rounds};
+use puffin::light::{
+    Frames, Place, Program, Records, Rounds, Scopes, Settings, Thread, ThreadCounts, in_rounds,
+    profiled,
+};
 use puffin::merge::MergeScope;
 use puffin::profile_view::FrameView;
 use puffin::scope_details::ScopeCollection;
@@ -33,6 +37,31 @@ impl Rounds for Game {
             profile!(_load, paint, self.load);
         }
         Ok(())
+    }
+}
+
+/// A thread that loads a million times, and a leader that takes no frame.
+#[derive(Drop)]
+struct Untaken {
+    load: Place,
+}
+
+impl Program for Untaken {
+    fn work<R: Wait, T: Records>(&self, _rt: &R, _number: usize, thread: &mut T) -> io::Result<()> {
+        for _ in 0..1_000_000 {
+            profile!(_load, thread, self.load);
+        }
+        Ok(())
+    }
+
+    fn lead<R: Wait, T: Records, F: Frames>(&self, _rt: &R, _thread: &mut T, _frames: &mut F) {}
+
+    fn settings(&self) -> Settings {
+        Settings {
+            max_thread_bytes: 100_000,
+            max_pending_bytes: 1_000_000,
+            ..Settings::default()
+        }
     }
 }
 
@@ -109,6 +138,24 @@ fn report_on<R: AllocGlobal + Print + Wait>(
     report(rt, title, &["alone"], &view)
 }
 
+/// Runs a program of one thread whose leader takes no frame, and prints what became of the thread's scopes.
+fn run_untaken<R: AllocGlobal + Clock + Print + Threads + Wait + Copy + Send + Sync>(
+    rt: R,
+    title: &str,
+    scopes: &Scopes,
+    program: &Untaken,
+) -> Result<()> {
+    let outcome = profiled(rt, &["alone"], scopes, program)?;
+    let ThreadCounts {
+        reported,
+        unreported,
+        refused,
+    } = *outcome.threads.first().context("a thread")?;
+    println!(rt; "{title}")?;
+    println!(rt; "  reported {reported} unreported {unreported} refused {refused}")?;
+    Ok(())
+}
+
 fn main(rt: HostRuntime) -> Result<()> {
     let mut scopes = Scopes::new(rt.alloc())?;
     let game = Game {
@@ -118,6 +165,15 @@ fn main(rt: HostRuntime) -> Result<()> {
     run(rt, "one thread", &["a"], &scopes, &game)?;
     run(rt, "two threads", &["a", "b"], &scopes, &game)?;
     run(rt, "one thread again", &["c"], &scopes, &game)?;
+    let untaken = Untaken {
+        load: place!(scopes, "load")?,
+    };
+    run_untaken(
+        rt,
+        "a million scopes of which nobody takes a frame",
+        &scopes,
+        &untaken,
+    )?;
     // One thread reports to a profiler, and then to another one.
     let mut thread = Thread::start(rt, "alone", GlobalProfiler::new(rt.alloc()), &scopes)?;
     {

@@ -57,6 +57,26 @@ fn a_copy_stays_when_an_info_is_cleared(rt: HostRuntime) {
     assert!(rt; copy.stream.bytes() == both.as_slice());
 }
 
+/// What extending one scope by itself returns, in a stream that may hold this number of bytes, and the bytes after that.
+fn doubled(alloc: Global, max_bytes: usize) -> Result<(Result<()>, usize)> {
+    let mut info = StreamInfo::parse(alloc, stream_of(alloc, &ONE_SCOPE)?)?;
+    let other = info.clone()?;
+    info.stream.set_max_bytes(max_bytes);
+    let extended = info.extend(&other.as_stream_into_ref());
+    Ok((extended, info.stream.len()))
+}
+
+#[test]
+fn an_info_is_not_extended_above_its_limit(rt: HostRuntime) {
+    for (max_bytes, expected) in [(70, (Ok(()), 70)), (69, (Err(Error::Memory), 35))] {
+        equal(
+            &rt,
+            doubled(rt.alloc(), max_bytes).expect(&rt, "scopes"),
+            expected,
+        );
+    }
+}
+
 /// The info of one scope in the long form. Its text is short, so its bytes are those of the short form.
 fn long_one(alloc: Global) -> Result<StreamInfo> {
     let bytes = Vec::from_slice(alloc, &ONE_SCOPE)?;

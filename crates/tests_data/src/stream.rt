@@ -1,7 +1,7 @@
 use crate::equal::equal;
 use crate::reader::{scope_at, top_scopes};
-use puffin_data::Result;
 use puffin_data::data::{END_SIZE, Reader, Scope, Stream};
+use puffin_data::{Error, Result};
 use std::process::Abort;
 use tests_support::samples::ONE_SCOPE;
 use tests_support::streams::{end, id, stream_of};
@@ -126,6 +126,20 @@ fn within_the_room_nothing_is_refused(rt: HostRuntime) {
         assert!(rt; left <= stream.room());
     }
     equal(&rt, stream.len(), 70);
+}
+
+#[test]
+fn a_stream_grows_to_its_limit_and_no_further(rt: HostRuntime) {
+    let mut stream = stream_of(rt.alloc(), &ONE_SCOPE).expect(&rt, "memory");
+    stream.set_max_bytes(70);
+    equal(&rt, stream.reserve(36), Err(Error::Memory));
+    equal(&rt, stream.bytes(), ONE_SCOPE.as_slice());
+    stream.reserve(1).expect(&rt, "memory");
+    stream.reserve(35).expect(&rt, "memory");
+    equal(&rt, stream.room(), 35);
+    equal(&rt, stream.reserve(36), Err(Error::Memory));
+    stream.set_max_bytes(71);
+    stream.reserve(36).expect(&rt, "memory");
 }
 
 #[test]

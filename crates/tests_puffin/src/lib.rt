@@ -14,6 +14,8 @@ mod leader;
 #[cfg(test)]
 mod light;
 #[cfg(test)]
+mod limits;
+#[cfg(test)]
 mod places;
 #[cfg(test)]
 mod pool;

@@ -74,6 +74,21 @@ fn one_scope_is_reported(rt: HostRuntime) {
 }
 
 #[test]
+fn a_scope_above_the_limit_does_not_begin(rt: HostRuntime) {
+    let mut rig = Rig::new(rt.alloc(), 100, 0).expect(&rt, "memory");
+    rig.thread.set_max_bytes(200);
+    rig.begins(&rt, (1, "data"), 18);
+    rig.begins(&rt, (2, ""), 40);
+    // What begins asks for room for the longest text.
+    equal(&rt, rig.begin(3, ""), Err(Error::Memory));
+    rig.has(&rt, (2, 0, 0));
+    rig.ends(&rt, 40, Ok(Closed::Inner));
+    rig.ends(&rt, 18, Ok(Closed::Reported));
+    is_report(&rt, &rig.recorder, 0, 100, (2, 2, (100, 100)));
+    rig.begins(&rt, (3, ""), 14);
+}
+
+#[test]
 fn a_falling_clock_stands_still(rt: HostRuntime) {
     let mut rig = Rig::new(rt.alloc(), 100, 0).expect(&rt, "memory");
     rig.begins(&rt, (1, ""), 14);

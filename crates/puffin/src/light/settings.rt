@@ -1,5 +1,8 @@
 //! What a run of several threads is set to before it begins.
 
+ghost use Rattle.std.specs.Prelude.{◌≡◌};
+ghost use Rattle.puffin_view.specs.View.Known.{view_of, with_frames};
+
 use crate::profile_view::FrameView;
 
 /// What a run of several threads is set to before it begins: the name of its leader, what its view keeps, and how much memory its
@@ -32,6 +35,15 @@ pub struct Settings {
 }
 
 impl Default for Settings {
+    ghost use Rattle.std.specs.Prelude.{◌≡◌, ◌-◌, ◌^◌, true};
+
+    ghost is_default = { λ settings.
+        (settings.max_recent ≡ 1000)
+        × (settings.max_slow ≡ 256)
+        × (settings.pack_frames ≡ true)
+        × (settings.max_thread_bytes ≡ 2 ^ 64 - 1)
+        × (settings.max_pending_bytes ≡ 2 ^ 64 - 1) };
+
     /// Returns the settings of a program that sets nothing: the leader's name is `leader`, and the view keeps up to 1,000 recent
     /// and 256 slow frames, with packing on, like [`FrameView::new`]. Nothing limits the bytes.
     fn default() -> Settings {
@@ -48,7 +60,14 @@ impl Default for Settings {
 
 impl Settings {
     /// Sets a view to what the run's view keeps.
-    pub(crate) fn set(&self, view: &mut FrameView) {
+    pub(crate) fn set(&self, view: &mut FrameView)
+        ensures { view.new
+            ≡ with_frames view.old (record (view_of view.old) {
+              max_recent = self.now.max_recent;
+              max_slow = self.now.max_slow;
+              packs = self.now.pack_frames;
+            }) }
+    {
         view.set_max_recent(self.max_recent);
         view.set_max_slow(self.max_slow);
         view.set_pack_frames(self.pack_frames);

@@ -1,0 +1,122 @@
+//! Limits of the bytes that scopes take.
+
+use crate::equal::equal;
+use crate::global_profiler::{emitted, holds, report};
+use puffin::global_profiler::{Collector, GlobalProfiler};
+use puffin::light::{
+    Frames, Outcome, Place, Program, Records, Scopes, Settings, Thread, ThreadCounts, profiled,
+};
+use puffin::{Error, place, profile};
+use std::alloc::Global;
+use std::io;
+use std::process::Abort;
+use std::sync::Wait;
+
+/// Checks that of three scopes of 31 bytes the third is refused.
+fn takes_two<R: puffin::thread_profiler::Reporter>(
+    rt: &(impl AllocGlobal + Abort),
+    reporter: &mut R,
+) {
+    for name in ["a", "b"] {
+        report(rt, reporter, name, 1, (100, 200)).expect(rt, "a report");
+    }
+    for name in ["a", "c"] {
+        equal(
+            rt,
+            report(rt, reporter, name, 1, (200, 300)),
+            Err(Error::Memory),
+        );
+    }
+}
+
+#[test]
+fn a_report_above_the_limit_is_refused(rt: HostRuntime) {
+    let mut collector = Collector::new(rt.alloc(), 0);
+    collector.set_max_pending(2 * 31);
+    takes_two(&rt, &mut collector);
+    equal(&rt, collector.totals().reported, 2);
+}
+
+#[test]
+fn after_a_frame_there_is_room_again(rt: HostRuntime) {
+    let mut profiler = GlobalProfiler::new(rt.alloc());
+    profiler.set_max_pending(2 * 31 + 30);
+    takes_two(&rt, &mut profiler);
+    let frame = emitted(&rt, &mut profiler);
+    for name in ["a", "b"] {
+        holds(&rt, &frame, name, Some((31, 1)));
+    }
+    takes_two(&rt, &mut profiler);
+}
+
+/// Registers a place in new scopes.
+fn registered(alloc: Global) -> puffin::Result<(Scopes, Place)> {
+    let mut scopes = Scopes::new(alloc)?;
+    let step = place!(scopes, "step")?;
+    Ok((scopes, step))
+}
+
+#[test]
+fn a_scope_above_a_thread_s_limit_is_counted(rt: HostRuntime) {
+    let (scopes, step) = registered(rt.alloc()).expect(&rt, "a place");
+    let mut thread = Thread::start(rt, "main", GlobalProfiler::new(rt.alloc()), &scopes).expect(
+        &rt, "a thread",
+    );
+    thread.set_max_bytes(200);
+    {
+        profile!(outer, thread, step);
+        {
+            profile!(inner, outer, step);
+            profile!(_third, inner, step);
+        }
+    }
+    equal(&rt, thread.num_refused(), 1);
+    equal(&rt, thread.reporter().totals().reported, 2);
+}
+
+/// A thread that begins a thousand scopes, one after the other, and a leader that takes no frame.
+#[derive(Drop)]
+struct Untaken {
+    step: Place,
+    settings: Settings,
+}
+
+impl Program for Untaken {
+    fn work<R: Wait, T: Records>(&self, _rt: &R, _number: usize, thread: &mut T) -> io::Result<()> {
+        for _ in 0..1_000 {
+            profile!(_step, thread, self.step);
+        }
+        Ok(())
+    }
+
+    fn lead<R: Wait, T: Records, F: Frames>(&self, _rt: &R, _thread: &mut T, _frames: &mut F) {}
+
+    fn settings(&self) -> Settings {
+        self.settings
+    }
+}
+
+#[test]
+fn a_run_whose_frames_nobody_takes_stays_below_its_limits(rt: HostRuntime) {
+    let (scopes, step) = registered(rt.alloc()).expect(&rt, "a place");
+    let untaken = Untaken {
+        step,
+        settings: Settings {
+            max_thread_bytes: 20 * 31,
+            max_pending_bytes: 100 * 31,
+            ..Settings::default()
+        },
+    };
+    let outcome = profiled(rt, &["a"], &scopes, &untaken).expect(&rt, "the program");
+    let Outcome { threads, .. } = &outcome;
+    let counts = threads.first().copied();
+    equal(
+        &rt,
+        counts,
+        Some(ThreadCounts {
+            reported: 100,
+            unreported: 15,
+            refused: 885,
+        }),
+    );
+}
