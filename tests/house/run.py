@@ -5,8 +5,8 @@
 Clauses have at most 100 columns; crates cite of those below them no proofs but `lemmas`; each wrong body can be applied
 and stands in docs/PROOFS.md, in italics where it is one of the long run, and the gate tries at most twelve of a crate; what
 the rows there cite is there, and leads to the functions that their wrong bodies change; each spec file begins with a line
-that says what it defines, and docs/SPECS.md has these lines as they are; links in the documents lead somewhere. The
-last line is 'N passed, M failed'.
+that says what it defines, and docs/SPECS.md has these lines as they are; each program has a file
+with what it prints; links in the documents lead somewhere. The last line is 'N passed, M failed'.
 """
 
 import re
@@ -140,6 +140,12 @@ def crates_that_are_not_drawn():
         yield "docs/crates.svg is old; run: python3 -m tests.house.drawing --write"
 
 
+def programs_without_what_they_print():
+    for path in sorted(TOP.glob("crates/*/src/main.rt")):
+        if not (path.parent.parent / "stdout").is_file():
+            yield f"{short(path)}: its crate has no file stdout, so the gate takes it that the program prints nothing"
+
+
 def anchors(text):
     """What a document can be linked by: its headings, and what has an `<a id="..">`."""
     heads = re.findall(r"^#+ (.*)$", text, re.M)
@@ -174,6 +180,7 @@ RULES = (
     spec_files_without_a_summary,
     spec_files_that_are_not_listed,
     crates_that_are_not_drawn,
+    programs_without_what_they_print,
     broken_links,
 )
 

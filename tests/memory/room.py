@@ -1,6 +1,8 @@
 """Reports of large files in little memory: one frame's and the report's, and not the file's."""
 
+import os
 import pathlib
+import re
 import resource
 import subprocess
 
@@ -8,9 +10,12 @@ import subprocess
 SCOPES = b"".join(b"begin main %d 1 data\nend main %d\n" % (start, start + 5) for start in range(100, 300, 10)) + b"frame\n"
 MANY = 60_000
 MANY_LINES = b"frames %d\n#1 (data) pieces %d total %d per_frame 100 max 5 start 100\n" % (MANY, 20 * MANY, 100 * MANY)
-# the address space in which it is reported
+# the address space in which it is reported, and the memory that a program touches whose frames nobody takes
 ROOM = 16_000_000
 LYING = 50_000_000
+# the scopes of which nobody takes a frame: their bytes are more than that memory
+UNTAKEN = 1_000_000
+UNTAKEN_LINE = re.compile(rb"^  reported (\d+) unreported (\d+) refused (\d+)$", re.M)
 
 
 def numbered(packet, index):
@@ -34,6 +39,17 @@ def lying_faults(tool, folder):
     pathlib.Path(f"{folder}/lying").write_bytes(frame[:-5] + LYING.to_bytes(4, "little") + details)
     ended = run_within(4 * LYING, [tool, "report", "lying", "100:main"], folder)
     return [] if ended == (1, b"", b"puffin-tool: BadScopes\n") else [f"{ended!r:.300}"]
+
+
+def untaken_faults(runs):
+    """What is wrong with a run whose frames nobody takes: each of its scopes is counted, and those that wait are bounded."""
+    with subprocess.Popen([runs], stdout=subprocess.PIPE) as program:
+        written = program.stdout.read()
+        _, status, used = os.wait4(program.pid, 0)
+        program.returncode = os.waitstatus_to_exitcode(status)
+    counts = [sum(map(int, it)) for it in UNTAKEN_LINE.findall(written)]
+    found = [] if (program.returncode, counts) == (0, [UNTAKEN]) else [f"{program.returncode}: {written!r:.300}"]
+    return found + ([] if used.ru_maxrss * 1024 <= ROOM else [f"{used.ru_maxrss * 1024} bytes of memory"])
 
 
 def many_faults(tool, folder):

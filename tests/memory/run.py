@@ -1,6 +1,6 @@
 """Runs programs once for each of their allocations, which is refused, and looks at how they end.
 
-    python3 -m tests.memory.run CHECK_TRIALS PUFFIN_TOOL
+    python3 -m tests.memory.run CHECK_TRIALS PUFFIN_TOOL CHECK_RUNS
 
 The first program, asked for `memory`, makes each call again that was refused for memory: it has to end with status 0 and to
 print the same whichever allocation it was. The second must do what it does otherwise; or end with status 1 and say that there
@@ -11,7 +11,8 @@ with all parts done, and no more lost than one refused allocation can cost, or w
 compiler is needed: `cc`, or what CC names.
 
 At last the second program reports a file of many frames in little memory, and refuses a packet whose details are fewer than
-their number says, without memory for one of them. The last line is 'N passed, M failed'.
+their number says, without memory for one of them; and the third begins a million scopes of which nobody takes a frame, in
+little memory. The last line is 'N passed, M failed'.
 """
 
 import pathlib
@@ -100,7 +101,7 @@ def cases(trials, tool, folder):
         yield f"report of {frames}", [tool, "report", frames, "100:main"], b"", told
 
 
-def outcomes(trials, tool, folder):
+def outcomes(trials, tool, runs, folder):
     """Each check by its name, what it tried, and its faults."""
     refusing = Refusing(folder)
     lay_files(tool, folder)
@@ -112,6 +113,7 @@ def outcomes(trials, tool, folder):
     count, found = start_faults(refusing, [trials, "threads"])
     yield "threads not started", f"{count} starts refused in turn", found
     yield "of a report of many frames", f"{room.MANY} frames in {room.ROOM // 1_000_000} MB", room.many_faults(tool, folder)
+    yield "of scopes that nobody takes", f"{room.UNTAKEN} scopes in {room.ROOM // 1_000_000} MB", room.untaken_faults(runs)
     yield "of details that lie", f"{room.LYING} bytes in {4 * room.LYING // 1_000_000} MB", room.lying_faults(tool, folder)
 
 
