@@ -5,7 +5,8 @@
 The program writes frames of two scopes until it is killed by a signal. Then it reads the file up to the last whole frame, and
 counts just the frames whose packets are whole: they are found here by the lengths in the file. The same is shown of each
 beginning of a file of three frames, from the first four letters on. A recording into files that replace each other is killed
-too: of what it leaves, each file but the last has all its frames, and lists every name. The last line is 'N passed, M failed'.
+too: of what it leaves, each file but the last has all its frames, and lists every name. One that ends leaves no file without
+frames. The last line is 'N passed, M failed'.
 """
 
 import pathlib
@@ -101,6 +102,14 @@ def rotation_that_is_killed(program, folder):
     yield "the last file is read up to its last whole frame", is_read and whole_packets(data) <= FRAMES_IN_A_FILE
 
 
+def rotation_that_ends(program, folder):
+    """What a recording into files that replace each other has to leave when it ends: no file without frames."""
+    words = [program, "rotate", folder, str(2 * FRAMES_IN_A_FILE), str(FRAMES_IN_A_FILE), str(FILES)]
+    subprocess.run(words, check=True, stdout=subprocess.DEVNULL)
+    frames = [whole_packets(path.read_bytes()) for path in numbered(folder).values()]
+    yield "all files of a rotation that ends are full", frames == 2 * [FRAMES_IN_A_FILE]
+
+
 def cases(program, folder):
     path = folder / "killed.puffin"
     yield "the recording is killed", recording_that_is_killed(program, path)
@@ -120,9 +129,10 @@ def cases(program, folder):
             return
     yield "each beginning is read up to its last whole frame", True
 
-    rotated = folder / "rotated"
-    rotated.mkdir()
-    yield from rotation_that_is_killed(program, rotated)
+    for name, rotation in (("killed", rotation_that_is_killed), ("ended", rotation_that_ends)):
+        rotated = folder / name
+        rotated.mkdir()
+        yield from rotation(program, rotated)
 
 
 def main():

@@ -117,8 +117,8 @@ impl Rounds for Game {
             return true;
         };
         match self.files.lock(rt).write(frame) {
-            Ok(begins_file) => {
-                if begins_file {
+            Ok(is_full) => {
+                if is_full {
                     frames.emit_scope_snapshot();
                 }
                 true

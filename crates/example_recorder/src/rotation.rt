@@ -31,13 +31,13 @@ fn create(rt: &HostRuntime, folder: &str, number: u64) -> Result<FrameWriter<Cou
 }
 
 impl Rotation {
-    /// Makes the first file.
+    /// Makes the first file. Each file has at least one frame.
     pub fn new(rt: HostRuntime, folder: String, every: usize, kept: u64) -> Result<Rotation> {
         let writer = create(&rt, &folder, 0)?;
         Ok(Rotation {
             rt,
             folder,
-            every,
+            every: every.max(1),
             kept,
             files: 1,
             frames: 0,
@@ -45,14 +45,19 @@ impl Rotation {
         })
     }
 
-    /// Writes a frame, and begins a new file if this one is full. Returns whether it did: the next frame has to list every known
-    /// scope then.
+    /// Writes a frame, to a new file if the last one is full. Returns whether the file is full now: the next frame has to list
+    /// every known scope then.
     pub fn write(&mut self, frame: &FrameData) -> Result<bool> {
+        if self.frames >= self.every {
+            self.begin_file()?;
+        }
         self.writer.write(frame)?;
         self.frames = self.frames.saturating_add(1);
-        if self.frames < self.every {
-            return Ok(false);
-        }
+        Ok(self.frames >= self.every)
+    }
+
+    /// Begins a new file, and removes the oldest if there are too many.
+    fn begin_file(&mut self) -> Result<()> {
         self.writer = create(&self.rt, &self.folder, self.files)?;
         if let Some(oldest) = self.files.checked_sub(self.kept) {
             let name = format!(in self.rt.alloc(); "{}/{oldest}.puffin", self.folder)?;
@@ -60,6 +65,6 @@ impl Rotation {
         }
         self.files = self.files.saturating_add(1);
         self.frames = 0;
-        Ok(true)
+        Ok(())
     }
 }
