@@ -3,6 +3,7 @@ use denote.Param.Send.{IsSend, IsSync, struct_send, recorded_send, sendable}
 use denote.Struct.Declared.{shape}
 use Rattle.std.proofs.Crossing.{crosses}
 use Rattle.std.proofs.MapsCrossing as maps
+use Rattle.puffin_data.specs.contracts.data.stream.Stream as Stream
 use Rattle.puffin_frames.specs.contracts.frame_data.frame.FrameData as Frame
 use Rattle.puffin_threads.specs.contracts.scope_details.ids.ScopeIds as Ids
 use Rattle.puffin_threads.specs.contracts.scope_details.collection.ScopeCollection as Collection
@@ -15,11 +16,17 @@ use Rattle.puffin_c.specs.contracts.profiler.Profiler as Profiler
 use Rattle.puffin_c.specs.contracts.profiler.Waiting as Waiting
 use Rattle.puffin_c.specs.contracts.recorder.Recorder as Recorder
 
+stream_send : IsSend Stream.the_row
+stream_send = search (crosses, sendable) depth 60 fits 100000
+
+stream_sync : IsSync Stream.the_row
+stream_sync = search (crosses, sendable) depth 60 fits 100000
+
 pub frame_send : IsSend Frame.the_row
-frame_send = search (maps.crosses, crosses, sendable) depth 60 fits 100000
+frame_send = search (stream_send, maps.crosses, crosses, sendable) depth 60 fits 100000
 
 pub frame_sync : IsSync Frame.the_row
-frame_sync = search (maps.crosses, crosses, sendable) depth 60 fits 100000
+frame_sync = search (stream_sync, maps.crosses, crosses, sendable) depth 60 fits 100000
 
 pub collection_send : IsSend Collection.the_row
 collection_send = search (maps.crosses, crosses, sendable) depth 60 fits 100000
@@ -31,7 +38,7 @@ pub held_send : IsSend Held.the_row
 held_send = search (frame_send, frame_sync, maps.crosses, crosses, sendable) depth 60 fits 100000
 
 pub collector_send : IsSend Collector.the_row
-collector_send = search (maps.crosses, crosses, sendable) depth 60 fits 100000
+collector_send = search (stream_send, stream_sync, maps.crosses, crosses, sendable) depth 60 fits 100000
 
 pub ids_send : IsSend Ids.the_row
 ids_send = search (crosses, sendable) depth 60 fits 100000
