@@ -20,6 +20,7 @@ use Rattle.puffin.specs.contracts.global_profiler.booked.Booked as Booked
 use Rattle.puffin.specs.contracts.global_profiler.shared_profiler.SharedProfiler as Shared
 use Rattle.puffin.specs.contracts.global_profiler.share.Share as Share
 use Rattle.std.proofs.MapsCrossing as maps
+use Rattle.puffin_data.specs.contracts.data.stream.Stream as Stream
 use Rattle.puffin_frames.specs.contracts.frame_data.frame.FrameData as Frame
 use Rattle.puffin_threads.specs.contracts.scope_details.collection.ScopeCollection as Collection
 use Rattle.puffin_view.specs.contracts.profile_view.held_frames.HeldFrames as Held
@@ -27,11 +28,17 @@ use Rattle.puffin_view.specs.contracts.profile_view.frame_view.FrameView as View
 use Rattle.puffin_view.specs.contracts.profile_view.slow_rank.SlowRank as Rank
 use Rattle.puffin_collector.specs.contracts.collector.Collector as Collector
 
+stream_send : IsSend Stream.the_row
+stream_send = search (crosses, sendable) depth 60 fits 100000
+
+stream_sync : IsSync Stream.the_row
+stream_sync = search (crosses, sendable) depth 60 fits 100000
+
 pub frame_send : IsSend Frame.the_row
-frame_send = search (maps.crosses, crosses, sendable) depth 60 fits 100000
+frame_send = search (stream_send, maps.crosses, crosses, sendable) depth 60 fits 100000
 
 pub frame_sync : IsSync Frame.the_row
-frame_sync = search (maps.crosses, crosses, sendable) depth 60 fits 100000
+frame_sync = search (stream_sync, maps.crosses, crosses, sendable) depth 60 fits 100000
 
 pub collection_send : IsSend Collection.the_row
 collection_send = search (maps.crosses, crosses, sendable) depth 60 fits 100000
@@ -46,7 +53,7 @@ pub view_send : IsSend View.the_row
 view_send = search (held_send, rank_send, collection_send, maps.crosses, crosses, sendable) depth 60 fits 100000
 
 pub collector_send : IsSend Collector.the_row
-collector_send = search (maps.crosses, crosses, sendable) depth 60 fits 100000
+collector_send = search (stream_send, stream_sync, maps.crosses, crosses, sendable) depth 60 fits 100000
 
 module _ (D : RattleType) (g : Ghosts D.Denot) (s : Sends (table_of D.Denot g)) (sd : IsSend D) where
   pub sink_send : IsSend (Sink.the_field D g).row
