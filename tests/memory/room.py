@@ -1,8 +1,6 @@
-"""Reports of large files in little memory: one frame's and the report's, and not the file's."""
+"""Reports of large files, and scopes that nobody takes, in little memory: one frame's and the report's, and not the file's."""
 
-import os
 import pathlib
-import re
 import resource
 import subprocess
 
@@ -10,12 +8,12 @@ import subprocess
 SCOPES = b"".join(b"begin main %d 1 data\nend main %d\n" % (start, start + 5) for start in range(100, 300, 10)) + b"frame\n"
 MANY = 60_000
 MANY_LINES = b"frames %d\n#1 (data) pieces %d total %d per_frame 100 max 5 start 100\n" % (MANY, 20 * MANY, 100 * MANY)
-# the address space in which it is reported, and the memory that a program touches whose frames nobody takes
+# the address space in which it is reported
 ROOM = 16_000_000
 LYING = 50_000_000
-# the scopes of which nobody takes a frame: their bytes are more than that memory
+# the scopes of which nobody takes a frame, and the address space of their program: two stacks, and less than the scopes take
 UNTAKEN = 1_000_000
-UNTAKEN_LINE = re.compile(rb"^  reported (\d+) unreported (\d+) refused (\d+)$", re.M)
+UNTAKEN_ROOM = 32_000_000
 
 
 def numbered(packet, index):
@@ -42,14 +40,10 @@ def lying_faults(tool, folder):
 
 
 def untaken_faults(runs):
-    """What is wrong with a run whose frames nobody takes: each of its scopes is counted, and those that wait are bounded."""
-    with subprocess.Popen([runs], stdout=subprocess.PIPE) as program:
-        written = program.stdout.read()
-        _, status, used = os.wait4(program.pid, 0)
-        program.returncode = os.waitstatus_to_exitcode(status)
-    counts = [sum(map(int, it)) for it in UNTAKEN_LINE.findall(written)]
-    found = [] if (program.returncode, counts) == (0, [UNTAKEN]) else [f"{program.returncode}: {written!r:.300}"]
-    return found + ([] if used.ru_maxrss * 1024 <= ROOM else [f"{used.ru_maxrss * 1024} bytes of memory"])
+    """What is wrong with the runs of the third program: its scopes that nobody takes fit this memory only within their limits."""
+    ended = run_within(UNTAKEN_ROOM, [runs], None)
+    wanted = pathlib.Path(runs).parents[1] / "stdout"
+    return [] if ended == (0, wanted.read_bytes(), b"") else [f"{ended!r:.300}"]
 
 
 def many_faults(tool, folder):

@@ -113,7 +113,7 @@ def outcomes(trials, tool, runs, folder):
     count, found = start_faults(refusing, [trials, "threads"])
     yield "threads not started", f"{count} starts refused in turn", found
     yield "of a report of many frames", f"{room.MANY} frames in {room.ROOM // 1_000_000} MB", room.many_faults(tool, folder)
-    yield "of scopes that nobody takes", f"{room.UNTAKEN} scopes in {room.ROOM // 1_000_000} MB", room.untaken_faults(runs)
+    yield "of scopes that nobody takes", f"{room.UNTAKEN} scopes in {room.UNTAKEN_ROOM // 1_000_000} MB", room.untaken_faults(runs)
     yield "of details that lie", f"{room.LYING} bytes in {4 * room.LYING // 1_000_000} MB", room.lying_faults(tool, folder)
 
 
