@@ -14,6 +14,7 @@ LYING = 50_000_000
 # the scopes of which nobody takes a frame, and the address space of their program: two stacks, and less than the scopes take
 UNTAKEN = 1_000_000
 UNTAKEN_ROOM = 32_000_000
+STACK = 8_000_000
 
 
 def numbered(packet, index):
@@ -24,8 +25,14 @@ def numbered(packet, index):
 
 
 def run_within(room, words, folder):
-    """The status and what was written, of a program that may have so many bytes of memory."""
-    limit = lambda: resource.setrlimit(resource.RLIMIT_AS, (room, room))
+    """The status and what was written, of a program that may have so many bytes of memory, each stack of a thread included."""
+    most = resource.getrlimit(resource.RLIMIT_STACK)[1]
+    stack = STACK if most == resource.RLIM_INFINITY else min(STACK, most)
+
+    def limit():
+        resource.setrlimit(resource.RLIMIT_STACK, (stack, most))
+        resource.setrlimit(resource.RLIMIT_AS, (room, room))
+
     ran = subprocess.run(words, capture_output=True, cwd=folder, preexec_fn=limit, timeout=120)
     return ran.returncode, ran.stdout, ran.stderr
 
