@@ -1,4 +1,5 @@
--- Lemmas about definitions alone, which the crates above cite too. Nothing else of these proofs is seen from there.
+-- Lemmas that the crates above cite too: about definitions alone, and on what may be sent to another thread. Nothing else of these
+-- proofs is seen from there.
 pub mod Numbers
 pub mod Lengths
 pub mod Unique
@@ -13,3 +14,4 @@ pub mod ValueReaders
 pub mod Texts
 pub mod Loops
 pub mod Devices
+pub mod Sending

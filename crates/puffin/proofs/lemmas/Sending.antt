@@ -1,6 +1,6 @@
 -- A shared profiler and its shares may be sent to another thread, and so may a closure that captures them.
 use Rattle.std.proofs.Common.{List}
-use denote.Param.Send.{IsSend, IsSync, AllSend, sendable, enum_send, struct_send, recorded_send}
+use denote.Param.Send.{IsSend, AllSend, sendable, enum_send, struct_send, recorded_send}
 use Rattle.std.proofs.Crossing.{crosses, dyn_box_send}
 use mir.Syntax.{Sym}
 use denote.Struct.Tuple.{TupleAt, type_at, field_at}
@@ -20,40 +20,13 @@ use Rattle.puffin.specs.contracts.global_profiler.booked.Booked as Booked
 use Rattle.puffin.specs.contracts.global_profiler.shared_profiler.SharedProfiler as Shared
 use Rattle.puffin.specs.contracts.global_profiler.share.Share as Share
 use Rattle.std.proofs.MapsCrossing as maps
-use Rattle.puffin_data.specs.contracts.data.stream.Stream as Stream
-use Rattle.puffin_frames.specs.contracts.frame_data.frame.FrameData as Frame
-use Rattle.puffin_threads.specs.contracts.scope_details.collection.ScopeCollection as Collection
-use Rattle.puffin_view.specs.contracts.profile_view.held_frames.HeldFrames as Held
+use Rattle.puffin_threads.proofs.lemmas.Sending.{collection_send}
+use Rattle.puffin_view.proofs.lemmas.Sending.{held_send, rank_send}
+use Rattle.puffin_collector.proofs.lemmas.Sending.{collector_send}
 use Rattle.puffin_view.specs.contracts.profile_view.frame_view.FrameView as View
-use Rattle.puffin_view.specs.contracts.profile_view.slow_rank.SlowRank as Rank
-use Rattle.puffin_collector.specs.contracts.collector.Collector as Collector
-
-stream_send : IsSend Stream.the_row
-stream_send = search (crosses, sendable) depth 60 fits 100000
-
-stream_sync : IsSync Stream.the_row
-stream_sync = search (crosses, sendable) depth 60 fits 100000
-
-pub frame_send : IsSend Frame.the_row
-frame_send = search (stream_send, maps.crosses, crosses, sendable) depth 60 fits 100000
-
-pub frame_sync : IsSync Frame.the_row
-frame_sync = search (stream_sync, maps.crosses, crosses, sendable) depth 60 fits 100000
-
-pub collection_send : IsSend Collection.the_row
-collection_send = search (maps.crosses, crosses, sendable) depth 60 fits 100000
-
-pub rank_send : IsSend Rank.the_row
-rank_send = search (maps.crosses, crosses, sendable) depth 60 fits 100000
-
-pub held_send : IsSend Held.the_row
-held_send = search (frame_send, frame_sync, maps.crosses, crosses, sendable) depth 60 fits 100000
 
 pub view_send : IsSend View.the_row
 view_send = search (held_send, rank_send, collection_send, maps.crosses, crosses, sendable) depth 60 fits 100000
-
-pub collector_send : IsSend Collector.the_row
-collector_send = search (stream_send, stream_sync, maps.crosses, crosses, sendable) depth 60 fits 100000
 
 module _ (D : RattleType) (g : Ghosts D.Denot) (s : Sends (table_of D.Denot g)) (sd : IsSend D) where
   pub sink_send : IsSend (Sink.the_field D g).row
