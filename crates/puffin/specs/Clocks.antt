@@ -7,11 +7,6 @@ use Rattle.puffin_threads.specs.Thread.Clock.{clock_start, clock_begun}
 abbrev pub StartsAt : {R : Type 0} → ℤ → ℤ → SystemClock R → Type 0
 StartsAt start begun clock = (clock_start clock ≡ start) × (clock_begun clock ≡ begun)
 
--- the clocks of all of these have one start
-abbrev pub HaveOneStart : {T R : Type 0} → (T → SystemClock R) → List T → Type 0
-HaveOneStart clock_of threads =
-    (start begun : ℤ) × All (λ thread. StartsAt start begun (clock_of thread)) threads
-
 -- these clocks and this one have one start
 abbrev pub AgreeWith : {T R : Type 0} → (T → SystemClock R) → SystemClock R → List T → Type 0
 AgreeWith clock_of clock threads =

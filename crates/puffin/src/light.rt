@@ -15,7 +15,7 @@
 //! | the same, if each thread keeps a state from round to round | [`StatefulRounds`] |
 //! | profile several threads, and take frames when you choose | [`Program`], [`profiled`] |
 //! | profile a server or a pool, each of whose jobs has a name of its own | [`Pool`], [`pooled`] |
-//! | name the leader of several threads, or set what their view keeps | [`Settings`] |
+//! | name the leader of several threads, limit what their scopes may take, or set what their view keeps | [`Settings`] |
 
 mod counted;
 pub mod files;

@@ -1,8 +1,8 @@
 //! Programs whose threads are profiled.
-ghost use Rattle.std.specs.Prelude.{◌≡◌, ◌+◌, ◌<◌, ◌≤◌, IfOk, IfErr, vec_len, length, sum_by, ◌∷◌};
+ghost use Rattle.std.specs.Prelude.{◌≡◌, ◌+◌, ◌<◌, ◌≤◌, IfOk, IfErr, vec_len, length, sum_by};
 ghost use Rattle.puffin.specs.Shares.{SpellsItsScopes};
 ghost use Rattle.puffin.specs.SharedCauses.{IsFrameCause};
-ghost use Rattle.puffin.specs.Clocks.{StartsAt, HaveOneStart};
+ghost use Rattle.puffin.specs.Clocks.{StartsAt, AgreeWith};
 ghost use Rattle.puffin_threads.specs.Thread.Clock.{clock_start, clock_begun};
 
 use crate::global_profiler::{Emitted, GlobalFrameView, Settled};
@@ -157,7 +157,7 @@ fn all_ready<R: AllocGlobal + Clock + Copy>(
 ) -> io::Result<Crew<Ready<SystemClock<R>>, Ready<SystemClock<R>>>>
     ensures threads { IfOk result (λ crew. vec_len crew.threads ≡ length names.now) }
     ensures clocks { IfOk result (λ crew.
-        HaveOneStart (λ thread. thread.clock) (crew.leader ∷ crew.threads.items)) }
+        AgreeWith (λ thread. thread.clock) crew.leader.clock crew.threads.items) }
 {
     let clock = SystemClock::new(rt)?;
     let mut threads = Vec::new(rt.alloc());

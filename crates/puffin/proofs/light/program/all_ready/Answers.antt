@@ -1,7 +1,7 @@
 -- All clocks have the start of the first.
 use Rattle.std.proofs.Common.{rules, sym, subst}
 use Rattle.std.specs.Prelude.{All}
-use Rattle.std.proofs.lemmas.List.Elements.{All-cons, All-push}
+use Rattle.std.proofs.lemmas.List.Elements.{All-push}
 use Rattle.puffin_threads.specs.Thread.Clock.{clock_start, clock_begun}
 use Rattle.puffin.specs.Clocks.{StartsAt}
 use Rattle.puffin.proofs.light.program.all_ready.Goals as goal
@@ -19,5 +19,6 @@ pub returns-clause-clocks : goal.returns-clause-clocks
 returns-clause-clocks g c = (
   clock_start c.in_ok-clock.clock,
   clock_begun c.in_ok-clock.clock,
-  All-cons (λ thread. StartsAt (clock_start c.in_ok-clock.clock) (clock_begun c.in_ok-clock.clock) thread.clock) c.in_ok-leader.leader c.loop-name.threads.items c.in_ok-leader.ensures c.loop-name.invariant.clocks,
+  c.in_ok-leader.ensures,
+  c.loop-name.invariant.clocks,
 )
