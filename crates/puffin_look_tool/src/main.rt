@@ -104,7 +104,7 @@ fn main(rt: HostRuntime) -> ExitCode {
         Ok(()) => ExitCode::from(0),
         Err(LookFault::Words) => {
             let _ = eprintln!(rt;
-                "usage: puffin-look threads FILE | frames FILE [N] | frame FILE INDEX [THREAD] | trace FILE | folded FILE [THREAD]"
+                "usage: puffin-look threads FILE | frames FILE [N] | frame FILE INDEX [START:NAME] | trace FILE | folded FILE [START:NAME]"
             );
             ExitCode::from(2)
         }

@@ -3,7 +3,7 @@
 use crate::equal::equal;
 use puffin::frame_data::FrameData;
 use puffin::global_profiler::Settled;
-use puffin::light::{Frames, Place, Pool, Records, Scopes, ThreadCounts, pooled};
+use puffin::light::{Frames, Place, Pool, Records, Scopes, Settings, ThreadCounts, pooled};
 use puffin::{place, profile};
 use std::alloc::Global;
 use std::io;
@@ -16,6 +16,7 @@ struct Jobs {
     alloc: Global,
     answer: Place,
     foreign: Place,
+    settings: Settings,
     all: usize,
     failing: Option<usize>,
     taken: AtomicUsize,
@@ -38,6 +39,7 @@ impl Jobs {
             alloc,
             answer: place!(scopes, "answer")?,
             foreign,
+            settings: Settings::default(),
             all,
             failing,
             taken: AtomicUsize::new(0),
@@ -79,6 +81,10 @@ impl Pool for Jobs {
     fn lead<R: Wait, T: Records, F: Frames>(&self, rt: &R, _thread: &mut T, frames: &mut F) {
         self.done.wait(rt);
         let _emitted = frames.new_frame();
+    }
+
+    fn settings(&self) -> Settings {
+        self.settings
     }
 }
 
@@ -136,4 +142,13 @@ fn a_job_that_fails_ends_its_thread(rt: HostRuntime) {
     equal(&rt, failed.error.kind(), io::ErrorKind::TimedOut);
     equal(&rt, sum(&outcome.threads), (15, 0, 5));
     equal(&rt, outcome.settled.handed, 15);
+}
+
+#[test]
+fn a_worker_without_room_begins_no_scope(rt: HostRuntime) {
+    let (scopes, jobs) = Jobs::new(rt.alloc(), 10, 2, None).expect(&rt, "the jobs");
+    let mut jobs = jobs;
+    jobs.settings.max_thread_bytes = 0;
+    let outcome = pooled(rt, 2, &scopes, &jobs).expect(&rt, "the threads");
+    equal(&rt, sum(&outcome.threads), (0, 0, 20));
 }
