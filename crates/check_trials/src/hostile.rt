@@ -125,13 +125,13 @@ fn run(alloc: Global, what: &str, cases: u64, files: bool) -> Result<Outcomes> {
 
 /// Checks `cases` random streams and files. Prints how many were accepted and refused, and how many of these had to be.
 fn cases(rt: &impl Print, alloc: Global, cases: u64) -> Result<()> {
-    for (what, files) in [("streams", false), ("files", true)] {
+    for (what, files) in &[("streams", false), ("files", true)] {
         let Outcomes {
             taken,
             unchanged,
             refused,
             cut,
-        } = run(alloc, what, cases, files)?;
+        } = run(alloc, what, cases, *files)?;
         println!(rt; "{what} taken {taken} unchanged {unchanged} refused {refused} cut {cut}")?;
     }
     Ok(())
@@ -175,21 +175,22 @@ fn growth(rt: &HostRuntime) -> Result<()> {
     )
 }
 
-/// Counts a deep and a crafted stream with fewer levels, and prints the counts of the walk.
-fn levels(rt: &impl Print, alloc: Global) -> Result<()> {
-    for (what, bytes) in [
-        ("deep", nested(alloc, LEVELS)?),
-        ("crafted", crafted(alloc, LEVELS)?),
-    ] {
-        match check_stream(alloc, &bytes).map_err(|why| broken(what, LEVELS, why))? {
-            Some(walk) => {
-                let (scopes, depth) = (walk.num_scopes, walk.depth);
-                println!(rt; "{what} scopes {scopes} depth {depth}")?;
-            }
-            None => println!(rt; "{what} refused")?,
+/// Counts a stream with fewer levels, and prints the counts of the walk.
+fn count(rt: &impl Print, alloc: Global, what: &str, bytes: &[u8]) -> Result<()> {
+    match check_stream(alloc, bytes).map_err(|why| broken(what, LEVELS, why))? {
+        Some(walk) => {
+            let (scopes, depth) = (walk.num_scopes, walk.depth);
+            println!(rt; "{what} scopes {scopes} depth {depth}")?;
         }
+        None => println!(rt; "{what} refused")?,
     }
     Ok(())
+}
+
+/// Counts a deep and a crafted stream.
+fn levels(rt: &impl Print, alloc: Global) -> Result<()> {
+    count(rt, alloc, "deep", &nested(alloc, LEVELS)?)?;
+    count(rt, alloc, "crafted", &crafted(alloc, LEVELS)?)
 }
 
 /// Checks random streams and files, and a deep and a crafted stream.

@@ -55,9 +55,9 @@ fn details(alloc: Global) -> Option<Vec<Arc<ScopeDetails>>> {
 /// Makes the streams of two threads, of this length.
 fn streams(alloc: Global, length: u32) -> Option<BTreeMap<ThreadInfo, StreamInfo>> {
     let mut streams = BTreeMap::new(alloc);
-    for (name, start) in [("main", 100), ("other", 150)] {
-        let info = StreamInfo::parse(alloc, stream(alloc, start, length)?).ok()?;
-        streams.insert(thread(alloc, start, name)?, info).ok()?;
+    for (name, start) in &[("main", 100), ("other", 150)] {
+        let info = StreamInfo::parse(alloc, stream(alloc, *start, length)?).ok()?;
+        streams.insert(thread(alloc, *start, name)?, info).ok()?;
     }
     Some(streams)
 }

@@ -214,7 +214,7 @@ fn refusal(
 fn run_out<R: Print + AllocGlobal>(rt: &R, profiler: &mut GlobalProfiler) -> Option<()> {
     let ids = ScopeIds::starting_at(u64::from(u32::MAX) - 1);
     let mut last = None;
-    for name in ["last but one", "last", "one too many"] {
+    for name in &["last but one", "last", "one too many"] {
         let details = [ScopeDetails::from_scope_name(owned(rt.alloc(), name)?)];
         last = refusal(profiler, &ids, &details);
     }

@@ -33,8 +33,8 @@ fn add(alloc: Global, view: &mut FrameView, index: u64, length: u32) -> Option<(
 
 /// Adds three frames.
 fn add_all(alloc: Global, view: &mut FrameView) -> Option<()> {
-    for (index, length) in [(0, 300), (1, 100), (2, 200)] {
-        add(alloc, view, index, length)?;
+    for (index, length) in &[(0, 300), (1, 100), (2, 200)] {
+        add(alloc, view, *index, *length)?;
     }
     Some(())
 }

@@ -126,8 +126,8 @@ fn inserted(alloc: Global, scopes: &mut ScopeCollection, id: &ScopeId, name: &st
 /// Inserts the details of three scopes, two of which have the same id, and prints how many there are.
 fn collected<R: Print + AllocGlobal>(rt: &R) -> Option<()> {
     let mut scopes = ScopeCollection::new(rt.alloc());
-    for (number, name) in [(1, "a"), (2, "b"), (1, "c")] {
-        inserted(rt.alloc(), &mut scopes, &ScopeId::new(number)?, name)?;
+    for (number, name) in &[(1, "a"), (2, "b"), (1, "c")] {
+        inserted(rt.alloc(), &mut scopes, &ScopeId::new(*number)?, name)?;
     }
     let (ids, names) = sizes(&scopes);
     println!(rt; "collected ids {ids} names {names}").ok()
@@ -158,7 +158,7 @@ fn reported(
 fn totalled<R: Print + AllocGlobal>(rt: &R) -> Option<()> {
     let info = forty(rt.alloc())?;
     let mut profiler = GlobalProfiler::new(rt.alloc());
-    for name in ["a", "b", "a", "b"] {
+    for name in &["a", "b", "a", "b"] {
         reported(rt.alloc(), &mut profiler, name, &info)?;
     }
     let totals = profiler.totals();
@@ -174,12 +174,14 @@ fn id_of(alloc: Global, profiler: &mut GlobalProfiler, ids: &ScopeIds, name: &st
 }
 
 /// Makes the details of three scopes.
-fn three(alloc: Global) -> Option<[ScopeDetails; 3]> {
-    Some([
-        ScopeDetails::from_scope_name(owned(alloc, "a")?),
-        ScopeDetails::from_scope_name(owned(alloc, "b")?),
-        ScopeDetails::from_scope_name(owned(alloc, "c")?),
-    ])
+fn three(alloc: Global) -> Option<Vec<ScopeDetails>> {
+    let mut details = Vec::new(alloc);
+    again!(details.reserve(3))?;
+    for name in &["a", "b", "c"] {
+        let named = ScopeDetails::from_scope_name(owned(alloc, name)?);
+        details.push(named).ok()?;
+    }
+    Some(details)
 }
 
 /// Registers three scopes in one call, for which there are two ids. A call that is refused for memory may have spent one of

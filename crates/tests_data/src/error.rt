@@ -3,7 +3,7 @@ use puffin_data::Error;
 
 #[test]
 fn each_error_has_a_number_and_a_name(rt: HostRuntime) {
-    for (error, number, text) in [
+    for (error, number, text) in &[
         (Error::PrematureEnd, 1, "PrematureEnd"),
         (Error::InvalidStream, 2, "InvalidStream"),
         (Error::ScopeNeverEnded, 3, "ScopeNeverEnded"),
@@ -22,12 +22,12 @@ fn each_error_has_a_number_and_a_name(rt: HostRuntime) {
         (Error::Memory, 16, "Memory"),
         (Error::UnlikeForms, 17, "UnlikeForms"),
     ] {
-        equal(&rt, error.number(), number);
-        equal(&rt, error.name(), text);
+        equal(&rt, error.number(), *number);
+        equal(&rt, error.name(), *text);
         equal(
             &rt,
             error.to_string(rt.alloc()).expect(&rt, "memory").as_str(),
-            text,
+            *text,
         );
     }
 }

@@ -3,7 +3,7 @@ use puffin_data::{Error, FileError};
 
 #[test]
 fn each_file_error_has_a_number_and_a_text(rt: HostRuntime) {
-    for (error, number, text) in [
+    for (error, number, text) in &[
         (FileError::Io, 1, "Io"),
         (FileError::NoMagic, 2, "NoMagic"),
         (FileError::Truncated, 3, "Truncated"),
@@ -23,11 +23,11 @@ fn each_file_error_has_a_number_and_a_text(rt: HostRuntime) {
         ),
         (FileError::Memory, 14, "Memory"),
     ] {
-        equal(&rt, error.number(), number);
+        equal(&rt, error.number(), *number);
         equal(
             &rt,
             error.to_string(rt.alloc()).expect(&rt, "memory").as_str(),
-            text,
+            *text,
         );
     }
 }

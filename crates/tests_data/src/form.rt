@@ -5,11 +5,13 @@ use std::alloc::Global;
 use tests_support::streams::{end, id};
 
 /// A scope of id 1 from 100 to 300 whose text is so many letters and then one character, and its offset.
-fn lettered(alloc: Global, form: Form, letters: usize, last: char) -> Result<(usize, Stream)> {
-    let mut text = String::new(alloc);
-    for _ in 0..letters {
-        text.push('a')?;
-    }
+pub(crate) fn lettered(
+    alloc: Global,
+    form: Form,
+    count: usize,
+    last: char,
+) -> Result<(usize, Stream)> {
+    let mut text = "a".repeat(alloc, count)?;
     text.push(last)?;
     let mut stream = Stream::with_form(alloc, form);
     let offset = stream.begin_scope_at(100, id(1)?, text.as_str())?;
@@ -63,9 +65,9 @@ fn a_long_text_is_whole_or_cut_at_16383(rt: HostRuntime) {
 /// What a walk over so many of a stream's bytes comes to, where a text's length is written in these two groups.
 fn walked_with(alloc: Global, stream: &Stream, groups: (u8, u8), size: usize) -> Result<usize> {
     let mut bytes = Vec::from_slice(alloc, stream.bytes())?;
-    for (place, byte) in [(13, groups.0), (14, groups.1)] {
-        if let Some(at) = bytes.get_mut(place) {
-            *at = byte;
+    for (place, byte) in &[(13, groups.0), (14, groups.1)] {
+        if let Some(at) = bytes.get_mut(*place) {
+            *at = *byte;
         }
     }
     bytes.truncate(size);
@@ -75,7 +77,7 @@ fn walked_with(alloc: Global, stream: &Stream, groups: (u8, u8), size: usize) ->
 #[test]
 fn only_the_shortest_length_is_read(rt: HostRuntime) {
     let (_, stream) = lettered(rt.alloc(), Form::Long, 127, 'a').expect(&rt, "memory");
-    for (groups, size, expected) in [
+    for (groups, size, expected) in &[
         ((0x80, 0), 160, Err(Error::InvalidStream)),
         ((0x80, 0x80), 160, Err(Error::InvalidStream)),
         ((0xff, 0x80), 160, Err(Error::InvalidStream)),
@@ -89,8 +91,8 @@ fn only_the_shortest_length_is_read(rt: HostRuntime) {
     ] {
         equal(
             &rt,
-            walked_with(rt.alloc(), &stream, groups, size),
-            expected,
+            walked_with(rt.alloc(), &stream, *groups, *size),
+            *expected,
         );
     }
 }

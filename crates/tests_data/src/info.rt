@@ -5,7 +5,7 @@ use puffin_data::{Error, NanoSecond, Result};
 use std::alloc::Global;
 use std::process::Abort;
 use tests_support::samples::{ONE_SCOPE, THREE_SCOPES};
-use tests_support::streams::stream_of;
+use tests_support::streams::{bytes_of, stream_of};
 
 /// The size of an info's bytes, its counts and its range.
 fn is_info(
@@ -52,9 +52,8 @@ fn a_copy_stays_when_an_info_is_cleared(rt: HostRuntime) {
     info.clear();
     is_info(&rt, &info, (0, 0, 0), NONE);
     is_info(&rt, &copy, (162, 4, 2), (100, 400));
-    let mut both = Vec::from_slice(rt.alloc(), &ONE_SCOPE).expect(&rt, "memory");
-    both.extend_from_slice(&THREE_SCOPES).expect(&rt, "memory");
-    assert!(rt; copy.stream.bytes() == both.as_slice());
+    let both = bytes_of(rt.alloc(), &[&ONE_SCOPE, &THREE_SCOPES]).expect(&rt, "memory");
+    equal(&rt, copy.stream.bytes(), both.as_slice());
 }
 
 /// What extending one scope by itself returns, in a stream that may hold this number of bytes, and the bytes after that.
@@ -68,11 +67,11 @@ fn doubled(alloc: Global, max_bytes: usize) -> Result<(Result<()>, usize)> {
 
 #[test]
 fn an_info_is_not_extended_above_its_limit(rt: HostRuntime) {
-    for (max_bytes, expected) in [(70, (Ok(()), 70)), (69, (Err(Error::Memory), 35))] {
+    for (max_bytes, expected) in &[(70, (Ok(()), 70)), (69, (Err(Error::Memory), 35))] {
         equal(
             &rt,
-            doubled(rt.alloc(), max_bytes).expect(&rt, "scopes"),
-            expected,
+            doubled(rt.alloc(), *max_bytes).expect(&rt, "scopes"),
+            *expected,
         );
     }
 }

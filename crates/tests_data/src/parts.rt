@@ -60,20 +60,12 @@ fn buffered(alloc: Global, end: u8, fails: bool) -> io::Result<Buffered<BufReade
 #[test]
 fn a_part_comes_in_small_reads(rt: HostRuntime) {
     let mut source = source_of(12, false);
-    equal(&rt, read_byte(&mut source).expect(&rt, "a byte"), 0);
-    equal(
-        &rt,
-        read_length(&mut source).expect(&rt, "a length"),
-        0x04030201,
-    );
+    equal(&rt, read_byte(&mut source), Ok(0));
+    equal(&rt, read_length(&mut source), Ok(0x04030201));
     let part = read_part(rt.alloc(), &mut source, 5).expect(&rt, "a part");
     equal(&rt, part.as_slice(), b"\x05\x06\x07\x08\x09".as_slice());
     let mut piece = [9; 4];
-    equal(
-        &rt,
-        read_up_to(&mut source, &mut piece).expect(&rt, "bytes"),
-        2,
-    );
+    equal(&rt, read_up_to(&mut source, &mut piece), Ok(2));
     equal(&rt, piece, [10, 11, 9, 9]);
     equal(&rt, Source::faults(&source), 0);
 }
@@ -118,25 +110,38 @@ fn a_counted_part(rt: HostRuntime) {
     equal(&rt, lies.err(), Some(FileError::Truncated));
 }
 
+/// A reader gives these bytes, and then no other part.
+fn ends_behind<S: Source>(rt: &(impl AllocGlobal + Abort), source: &mut S, bytes: &[u8])
+    requires { S.failures source.old ≡ 0 }
+{
+    let rest = read_to_end(rt.alloc(), source).expect(rt, "bytes");
+    equal(rt, rest.as_slice(), bytes);
+    let none = read_part(rt.alloc(), source, 1).err();
+    equal(rt, none, Some(FileError::Truncated));
+}
+
+/// A reader gives the counted part `data`, and then the byte `b`.
+fn from_memory<S: Source>(rt: &(impl AllocGlobal + Abort), source: &mut S)
+    requires { S.failures source.old ≡ 0 }
+{
+    let part = read_counted_part(rt.alloc(), source).expect(rt, "a part");
+    equal(rt, part.as_slice(), b"data".as_slice());
+    equal(rt, read_byte(source), Ok(b'b'));
+}
+
 #[test]
 fn a_part_from_a_buffer(rt: HostRuntime) {
     let mut source = buffered(rt.alloc(), 12, false).expect(&rt, "memory");
-    equal(&rt, read_byte(&mut source).expect(&rt, "a byte"), 0);
+    equal(&rt, read_byte(&mut source), Ok(0));
     let part = read_part(rt.alloc(), &mut source, 8).expect(&rt, "a part");
     equal(
         &rt,
         part.as_slice(),
         b"\x01\x02\x03\x04\x05\x06\x07\x08".as_slice(),
     );
-    let rest = read_to_end(rt.alloc(), &mut source).expect(&rt, "bytes");
-    equal(&rt, rest.as_slice(), b"\x09\x0a\x0b".as_slice());
-    let none = read_part(rt.alloc(), &mut source, 1);
-    equal(&rt, none.err(), Some(FileError::Truncated));
+    ends_behind(&rt, &mut source, b"\x09\x0a\x0b");
     equal(&rt, Source::faults(&source), 0);
-    let mut memory = Buffered::new(b"\x04\0\0\0datab".as_slice());
-    let part = read_counted_part(rt.alloc(), &mut memory).expect(&rt, "a part");
-    equal(&rt, part.as_slice(), b"data".as_slice());
-    equal(&rt, read_byte(&mut memory).expect(&rt, "a byte"), b'b');
+    from_memory(&rt, &mut Buffered::new(b"\x04\0\0\0datab".as_slice()));
 }
 
 #[test]
@@ -158,5 +163,5 @@ fn a_part_of_more_than_a_piece(rt: HostRuntime) {
     let part = read_part(rt.alloc(), &mut source, 65540).expect(&rt, "a part");
     equal(&rt, part.len(), 65540);
     assert!(rt; part.iter().all(|byte| *byte == 7));
-    equal(&rt, read_byte(&mut source).expect(&rt, "a byte"), 8);
+    equal(&rt, read_byte(&mut source), Ok(8));
 }

@@ -3,7 +3,7 @@ use puffin_data::data::is_valid_range;
 
 #[test]
 fn a_range_is_ordered_and_its_duration_fits(rt: HostRuntime) {
-    for (range, expected) in [
+    for (range, expected) in &[
         ((7, 7), true),
         ((8, 7), false),
         ((0, i64::MAX), true),
@@ -11,6 +11,6 @@ fn a_range_is_ordered_and_its_duration_fits(rt: HostRuntime) {
         ((i64::MIN, -1), true),
         ((i64::MIN, 0), false),
     ] {
-        equal(&rt, is_valid_range(range), expected);
+        equal(&rt, is_valid_range(*range), *expected);
     }
 }

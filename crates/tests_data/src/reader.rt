@@ -109,11 +109,11 @@ fn the_times_of_two_children(rt: HostRuntime) {
     );
     equal(&rt, fault, None);
     equal(&rt, inner.len(), 2);
-    for (scope, start) in inner.iter().zip([200, 300]) {
+    for (scope, start) in inner.iter().zip(&[200, 300]) {
         equal(
             &rt,
             (scope.rec.start_ns, scope.rec.duration_ns),
-            (start, 100),
+            (*start, 100),
         );
     }
 }
@@ -182,10 +182,10 @@ fn a_fault_is_given_once(rt: HostRuntime) {
         (&other_end, Error::InvalidStream),
         (&early, Error::InvalidStream),
     ];
-    for (faulty, want) in cases {
+    for (faulty, want) in &cases {
         let mut bytes = Vec::from_slice(rt.alloc(), &ONE_SCOPE).expect(&rt, "memory");
         bytes.extend_from_slice(faulty).expect(&rt, "memory");
-        gives_fault(&rt, &Stream::from(bytes), want);
+        gives_fault(&rt, &Stream::from(bytes), *want);
     }
 }
 

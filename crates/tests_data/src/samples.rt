@@ -1,8 +1,8 @@
 //! Bytes and helpers that several modules use.
 
-use puffin_data::data::Stream;
 use puffin_data::{Error, NanoSecond, Result};
 use std::alloc::Global;
+use tests_support::streams::bytes_of;
 
 /// The range of a stream without scopes.
 pub(crate) const NONE: (NanoSecond, NanoSecond) = (i64::MAX, i64::MIN);
@@ -14,13 +14,18 @@ pub(crate) fn leaf(
     stop: NanoSecond,
     text: &[u8],
 ) -> Result<Vec<u8>> {
-    let mut bytes = Vec::from_slice(alloc, b"(\x01\0\0\0")?;
-    bytes.extend_from_slice(&start.to_le_bytes())?;
-    bytes.push(u8::try_from(text.len()).ok().ok_or(Error::TooLarge)?)?;
-    bytes.extend_from_slice(text)?;
-    bytes.extend_from_slice(b"\0\0\0\0\0\0\0\0)")?;
-    bytes.extend_from_slice(&stop.to_le_bytes())?;
-    Ok(bytes)
+    let size = u8::try_from(text.len()).ok().ok_or(Error::TooLarge)?;
+    bytes_of(
+        alloc,
+        &[
+            b"(\x01\0\0\0",
+            &start.to_le_bytes(),
+            &[size],
+            text,
+            b"\0\0\0\0\0\0\0\0)",
+            &stop.to_le_bytes(),
+        ],
+    )
 }
 
 /// Makes scopes nested `depth` deep, all from 5 to 7.

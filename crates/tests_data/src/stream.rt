@@ -1,6 +1,7 @@
 use crate::equal::equal;
+use crate::form::lettered;
 use crate::reader::{scope_at, top_scopes};
-use puffin_data::data::{END_SIZE, Reader, Scope, Stream};
+use puffin_data::data::{END_SIZE, Form, Reader, Scope, Stream};
 use puffin_data::{Error, Result};
 use std::process::Abort;
 use tests_support::samples::ONE_SCOPE;
@@ -62,31 +63,26 @@ fn one_scope_is_read_as_it_was_written(rt: HostRuntime) {
     equal(&rt, read, Some((1, 100, 200, 300, "data")));
 }
 
-/// Writes a scope whose text is `letters` letters and then `last`. Returns how many bytes of the text are stored, after
-/// checking that they are read back unchanged.
-fn stored_size(rt: &(impl AllocGlobal + Abort), letters: usize, last: char) -> usize {
-    let mut text = String::new(rt.alloc());
-    for _ in 0..letters {
-        text.push('a').expect(rt, "memory");
-    }
-    text.push(last).expect(rt, "memory");
-    let first = id(1).expect(rt, "an id");
-    let mut stream = Stream::new(rt.alloc());
-    let offset = stream
-        .begin_scope_at(100, first, text.as_str())
-        .expect(rt, "a scope");
-    end(&mut stream, offset, 300).expect(rt, "a scope");
-    let len = stream.len();
+/// Whether the one scope of a stream has a beginning of these bytes as its text, of the length that the stream says.
+fn is_read(stream: &Stream, text: &[u8]) -> bool {
     let said = stream.bytes().get(13).copied().map(usize::from);
-    let is_read = match scope_at(&stream, 0, len) {
+    match scope_at(stream, 0, stream.len()) {
         Ok(Some(scope)) => {
             let read = scope.rec.text.as_bytes();
-            said == Some(read.len()) && text.as_bytes().starts_with(read)
+            said == Some(read.len()) && text.starts_with(read)
         }
         _ => false,
-    };
-    assert!(rt; is_read);
-    len.saturating_sub(31)
+    }
+}
+
+/// Writes a scope whose text is `count` letters and then `last`. Returns how many bytes of the text are stored, after
+/// checking that they are read back unchanged.
+fn stored_size(rt: &(impl AllocGlobal + Abort), count: usize, last: char) -> usize {
+    let (_, stream) = lettered(rt.alloc(), Form::Short, count, last).expect(rt, "a scope");
+    let mut text = "a".repeat(rt.alloc(), count).expect(rt, "memory");
+    text.push(last).expect(rt, "memory");
+    assert!(rt; is_read(&stream, text.as_bytes()));
+    stream.len().saturating_sub(31)
 }
 
 #[test]
@@ -97,17 +93,23 @@ fn long_texts_are_cut_at_a_character(rt: HostRuntime) {
         ('€', [126, 127, 125, 126]),
         ('🦀', [126, 127, 124, 125]),
     ];
-    for (last, want) in cases {
+    for (last, want) in &cases {
         for (size, want) in (126..130).zip(want.iter()) {
-            let letters = usize::saturating_sub(size, last.len_utf8());
-            equal(
-                &rt,
-                (last, size, stored_size(&rt, letters, last)),
-                (last, size, *want),
-            );
+            let count = usize::saturating_sub(size, last.len_utf8());
+            equal(&rt, (size, stored_size(&rt, count, *last)), (size, *want));
         }
     }
     equal(&rt, stored_size(&rt, 126, 'é'), 126);
+}
+
+/// Writes a scope of 35 bytes. So many bytes of room are left at least, and 9 more before it is ended.
+fn writes_leaving(rt: &impl Abort, stream: &mut Stream, left: usize) {
+    let offset = stream
+        .begin_scope_at(100, id(1).expect(rt, "an id"), "data")
+        .expect(rt, "a scope");
+    assert!(rt; left.saturating_add(9) <= stream.room());
+    end(stream, offset, 300).expect(rt, "a scope");
+    assert!(rt; left <= stream.room());
 }
 
 #[test]
@@ -117,13 +119,8 @@ fn within_the_room_nothing_is_refused(rt: HostRuntime) {
     assert!(rt; 35 <= stream.room() && stream.is_empty());
     stream.reserve(35 + 35).expect(&rt, "memory");
     assert!(rt; 70 <= stream.room());
-    for left in [35, 0] {
-        let offset = stream
-            .begin_scope_at(100, id(1).expect(&rt, "an id"), "data")
-            .expect(&rt, "a scope");
-        assert!(rt; left + 9 <= stream.room());
-        end(&mut stream, offset, 300).expect(&rt, "a scope");
-        assert!(rt; left <= stream.room());
+    for left in &[35, 0] {
+        writes_leaving(&rt, &mut stream, *left);
     }
     equal(&rt, stream.len(), 70);
 }
@@ -167,8 +164,8 @@ fn write_nested(stream: &mut Stream) -> Result<()> {
     let outer = stream.begin_scope_at(1092, id(9)?, "")?;
     let middle = stream.begin_scope_at(1152, id(8)?, "mesh")?;
     let inner = stream.begin_scope_at(1169, id(18)?, "mesh")?;
-    for (offset, stop) in [(inner, 1179), (middle, 1218), (outer, 1218)] {
-        end(stream, offset, stop)?;
+    for (offset, stop) in &[(inner, 1179), (middle, 1218), (outer, 1218)] {
+        end(stream, *offset, *stop)?;
     }
     Ok(())
 }

@@ -110,13 +110,13 @@ const TEXT: [u8; 255] = [b'a'; 255];
 
 #[test]
 fn long_texts_and_deep_scopes_are_counted(rt: HostRuntime) {
-    for size in [127, 255] {
-        let bytes = leaf(rt.alloc(), 100, 300, &TEXT[..size]).expect(&rt, "memory");
+    for size in &[127, 255] {
+        let bytes = leaf(rt.alloc(), 100, 300, &TEXT[..*size]).expect(&rt, "memory");
         finds(&rt, rt.alloc(), "long", &bytes, (1, 1, (100, 300))).expect(&rt, "scopes");
     }
-    for depth in [1_000, 100_000] {
-        let levels = depth as usize;
-        let bytes = nest(rt.alloc(), depth).expect(&rt, "memory");
+    for depth in &[1_000, 100_000] {
+        let levels = *depth as usize;
+        let bytes = nest(rt.alloc(), *depth).expect(&rt, "memory");
         finds(&rt, rt.alloc(), "deep", &bytes, (levels, levels, (5, 7))).expect(&rt, "scopes");
     }
 }

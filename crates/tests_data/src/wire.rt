@@ -32,45 +32,43 @@ const DETAILS: &[u8] = b"\x01\x01\x01\x01\x08my-scope\x01a\x04b.rs\x07";
 
 #[test]
 fn numbers_are_written_in_their_shortest_spelling(rt: HostRuntime) {
-    for (n, bytes) in NUMBERS {
+    for (n, bytes) in &NUMBERS {
         let mut out = Vec::new(rt.alloc());
-        put_u64(&mut out, n).expect(&rt, "memory");
-        equal(&rt, (n, out.as_slice()), (n, bytes));
+        put_u64(&mut out, *n).expect(&rt, "memory");
+        equal(&rt, (*n, out.as_slice()), (*n, *bytes));
         let mut cursor = Cursor::new(bytes);
-        equal(&rt, (n, cursor.u64()), (n, Some(n)));
-        equal(&rt, cursor.rest(), 0);
+        equal(&rt, (cursor.u64(), cursor.rest()), (Some(*n), 0));
     }
+}
+
+/// A number of 32 bits is written as these bytes.
+fn is_written(rt: &(impl AllocGlobal + Abort), word: u32, bytes: &[u8]) {
+    let mut out = Vec::new(rt.alloc());
+    put_u32(&mut out, word).expect(rt, "memory");
+    equal(rt, (word, out.as_slice()), (word, bytes));
 }
 
 #[test]
 fn numbers_of_32_bits(rt: HostRuntime) {
-    for (n, bytes) in NUMBERS {
+    for (n, bytes) in &NUMBERS {
+        let word = u32::try_from(*n).ok();
         let mut cursor = Cursor::new(bytes);
-        match u32::try_from(n) {
-            Ok(word) => {
-                let mut out = Vec::new(rt.alloc());
-                put_u32(&mut out, word).expect(&rt, "memory");
-                equal(&rt, (n, out.as_slice()), (n, bytes));
-                equal(&rt, (n, cursor.u32()), (n, Some(word)));
-                equal(&rt, cursor.rest(), 0);
-            }
-            Err(_) => {
-                equal(&rt, (n, cursor.u32()), (n, None));
-                equal(&rt, cursor.rest(), 9);
-            }
+        equal(&rt, (*n, cursor.u32()), (*n, word));
+        equal(&rt, cursor.rest(), if word.is_some() { 0 } else { 9 });
+        if let Some(word) = word {
+            is_written(&rt, word, bytes);
         }
     }
 }
 
 #[test]
 fn signed_numbers(rt: HostRuntime) {
-    for (z, bytes) in SIGNED {
+    for (z, bytes) in &SIGNED {
         let mut out = Vec::new(rt.alloc());
-        put_i64(&mut out, z).expect(&rt, "memory");
-        equal(&rt, (z, out.as_slice()), (z, bytes));
+        put_i64(&mut out, *z).expect(&rt, "memory");
+        equal(&rt, (*z, out.as_slice()), (*z, *bytes));
         let mut cursor = Cursor::new(bytes);
-        equal(&rt, (z, cursor.i64()), (z, Some(z)));
-        equal(&rt, cursor.rest(), 0);
+        equal(&rt, (cursor.i64(), cursor.rest()), (Some(*z), 0));
     }
 }
 
@@ -86,13 +84,11 @@ fn other_spellings_of_a_number_are_refused(rt: HostRuntime) {
         b"\xfe\x00",
         b"\xff\x00",
     ];
-    for bytes in refused {
+    for bytes in &refused {
         let mut cursor = Cursor::new(bytes);
-        equal(&rt, cursor.u64(), None);
-        equal(&rt, cursor.u32(), None);
-        equal(&rt, cursor.i64(), None);
-        assert!(rt; cursor.bytes().is_none());
-        assert!(rt; cursor.text().is_none());
+        let numbers = (cursor.u64(), cursor.u32(), cursor.i64());
+        equal(&rt, numbers, (None, None, None));
+        assert!(rt; cursor.bytes().is_none() && cursor.text().is_none());
         equal(&rt, cursor.rest(), bytes.len());
     }
 }
@@ -111,23 +107,24 @@ fn details(alloc: Global) -> puffin_data::Result<Vec<u8>> {
     Ok(out)
 }
 
+/// The same details are read.
+fn are_read(rt: &impl Abort, cursor: &mut Cursor<'_>) {
+    equal(rt, cursor.rest(), 21);
+    let numbers = (cursor.u64(), cursor.flag(), cursor.u32(), cursor.u8());
+    equal(rt, numbers, (Some(1), Some(true), Some(1), Some(1)));
+    equal(rt, cursor.text(), Some("my-scope"));
+    equal(rt, cursor.bytes(), Some(b"a".as_slice()));
+    equal(rt, cursor.text(), Some("b.rs"));
+    equal(rt, cursor.rest(), 1);
+    let last = (cursor.u64(), cursor.u8(), cursor.flag());
+    equal(rt, last, (Some(7), None, None));
+}
+
 #[test]
 fn the_kinds_one_behind_the_other(rt: HostRuntime) {
     let out = details(rt.alloc()).expect(&rt, "memory");
     equal(&rt, out.as_slice(), DETAILS);
-    let mut cursor = Cursor::new(DETAILS);
-    equal(&rt, cursor.rest(), 21);
-    equal(&rt, cursor.u64(), Some(1));
-    equal(&rt, cursor.flag(), Some(true));
-    equal(&rt, cursor.u32(), Some(1));
-    equal(&rt, cursor.u8(), Some(1));
-    equal(&rt, cursor.text(), Some("my-scope"));
-    equal(&rt, cursor.bytes(), Some(b"a".as_slice()));
-    equal(&rt, cursor.text(), Some("b.rs"));
-    equal(&rt, cursor.rest(), 1);
-    equal(&rt, cursor.u64(), Some(7));
-    equal(&rt, cursor.u8(), None);
-    equal(&rt, cursor.flag(), None);
+    are_read(&rt, &mut Cursor::new(DETAILS));
 }
 
 #[test]

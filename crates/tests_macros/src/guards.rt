@@ -113,11 +113,11 @@ fn a_guard_whose_scope_was_ended_within_ends_nothing(rt: HostRuntime) {
 /// Scopes three deep.
 fn nested(rt: &impl Abort, thread: &mut Thread, profiler: &mut GlobalProfiler) {
     let mut outer = ProfilerScope::open(thread, id(1), "");
-    for offset in [36, 67] {
+    for offset in &[36, 67] {
         let mut middle = ProfilerScope::open(outer.profiler(), id(2), "");
-        equal(rt, middle.offset(), Some(offset));
+        equal(rt, middle.offset(), Some(*offset));
         equal(rt, middle.profiler().depth(), 2);
-        if offset == 67 {
+        if *offset == 67 {
             let inner = ProfilerScope::open(middle.profiler(), id(3), "");
             equal(rt, inner.end(profiler), Ok(Some(Closed::Inner)));
             equal(rt, middle.profiler().depth(), 2);

@@ -53,9 +53,9 @@ fn a_condition_is_evaluated_while_the_switch_is_on(rt: HostRuntime) {
     let mut thread = main_thread(rt.alloc()).expect(&rt, "memory");
     let mut profiler = GlobalProfiler::new(rt.alloc());
     let scopes = Scopes::on();
-    for (on, times) in [(false, 0), (true, 2)] {
-        let asked = evaluated(&rt, &mut thread, &scopes, &mut profiler, on);
-        equal(&rt, asked, Ok(times));
+    for (on, times) in &[(false, 0), (true, 2)] {
+        let asked = evaluated(&rt, &mut thread, &scopes, &mut profiler, *on);
+        equal(&rt, asked, Ok(*times));
     }
     equal(&rt, profiler.totals().pending, 2);
 }
@@ -155,10 +155,10 @@ fn scopes_as_expressions(rt: HostRuntime) {
     let mut thread = main_thread(rt.alloc()).expect(&rt, "memory");
     let mut profiler = GlobalProfiler::new(rt.alloc());
     let scopes = Scopes::on();
-    for (deep, expected) in [(true, (3, 101, 2)), (false, (2, 66, 0))] {
+    for (deep, expected) in &[(true, (3, 101, 2)), (false, (2, 66, 0))] {
         let name = String::from_str(rt.alloc(), "inner").expect(&rt, "memory");
-        let counts = nest_in_frame(&rt, &mut thread, &scopes, &mut profiler, name, deep);
-        equal(&rt, counts, expected);
+        let counts = nest_in_frame(&rt, &mut thread, &scopes, &mut profiler, name, *deep);
+        equal(&rt, counts, *expected);
     }
 }
 

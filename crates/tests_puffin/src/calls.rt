@@ -61,8 +61,8 @@ fn comes_back<R: AllocGlobal + Wait + Abort>(rt: &R, profiler: &mut GlobalProfil
     let second = add_view(rt, profiler, 2);
     let third = add_view(rt, profiler, 3);
     equal(rt, [first.get(), second.get(), third.get()], [1, 2, 3]);
-    for limit in [Some(2), None] {
-        equal(rt, removed(rt, profiler, second), limit);
+    for limit in &[Some(2), None] {
+        equal(rt, removed(rt, profiler, second), *limit);
     }
     equal(rt, add_view(rt, profiler, 4).get(), 4);
 }

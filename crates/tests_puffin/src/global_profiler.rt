@@ -10,6 +10,7 @@ use puffin::thread_profiler::{Reporter, ThreadInfo};
 use puffin::{Error, NanoSecond, Result};
 use std::process::Abort;
 use std::sync::{Arc, Wait};
+use tests_support::streams::bytes_of;
 use tests_support::threads::thread_info;
 
 /// A thread with this name, whose start isn't known.
@@ -26,12 +27,17 @@ pub(crate) fn scope(
 ) -> Result<StreamInfo>
     ensures { IfOk result (λ info. (f : Forest) × IsHonest info f) }
 {
-    let mut bytes = Vec::from_slice(rt.alloc(), b"(")?;
-    bytes.push(id)?;
-    bytes.extend_from_slice(b"\0\0\0")?;
-    bytes.extend_from_slice(&start.to_le_bytes())?;
-    bytes.extend_from_slice(b"\0\0\0\0\0\0\0\0\0)")?;
-    bytes.extend_from_slice(&stop.to_le_bytes())?;
+    let bytes = bytes_of(
+        rt.alloc(),
+        &[
+            b"(",
+            &[id],
+            b"\0\0\0",
+            &start.to_le_bytes(),
+            b"\0\0\0\0\0\0\0\0\0)",
+            &stop.to_le_bytes(),
+        ],
+    )?;
     StreamInfo::parse(rt.alloc(), Stream::from(bytes))
 }
 
@@ -135,7 +141,7 @@ fn refusal_at_0(rt: &impl AllocGlobal, profiler: &mut GlobalProfiler, name: &str
 /// Beside a scope at the earliest time there can be none at 0, under whichever name.
 fn is_too_long<R: AllocGlobal + Wait + Abort>(rt: &R, profiler: &mut GlobalProfiler) {
     report_user(rt, profiler, "u", (NanoSecond::MIN, NanoSecond::MIN)).expect(rt, "a report");
-    for name in ["u", "v"] {
+    for name in &["u", "v"] {
         equal(
             rt,
             refusal_at_0(rt, profiler, name),

@@ -17,10 +17,10 @@ fn takes_two<R: puffin::thread_profiler::Reporter>(
     rt: &(impl AllocGlobal + Abort),
     reporter: &mut R,
 ) {
-    for name in ["a", "b"] {
+    for name in &["a", "b"] {
         report(rt, reporter, name, 1, (100, 200)).expect(rt, "a report");
     }
-    for name in ["a", "c"] {
+    for name in &["a", "c"] {
         equal(
             rt,
             report(rt, reporter, name, 1, (200, 300)),
@@ -43,7 +43,7 @@ fn after_a_frame_there_is_room_again(rt: HostRuntime) {
     profiler.set_max_pending(2 * 31 + 30);
     takes_two(&rt, &mut profiler);
     let frame = emitted(&rt, &mut profiler);
-    for name in ["a", "b"] {
+    for name in &["a", "b"] {
         holds(&rt, &frame, name, Some((31, 1)));
     }
     takes_two(&rt, &mut profiler);

@@ -54,8 +54,8 @@ fn is_reported_once<L: Ledger, M: Ledger, R: Wait + Abort>(
 ) {
     let mut thread = main_thread(alloc, 5).expect(rt, "memory");
     function_waits(&mut thread).expect(rt, "a scope");
-    for waits in [true, false] {
-        equal(rt, reporter.report_closed(&mut thread), Ok(waits));
+    for waits in &[true, false] {
+        equal(rt, reporter.report_closed(&mut thread), Ok(*waits));
     }
 }
 

@@ -55,13 +55,13 @@ fn the_system_clock_counts_from_its_start(rt: HostRuntime) {
     let runtime = clock_reading(Ok(Duration::from_nanos(1000)), Some(7));
     let mut clock = SystemClock::new(&runtime).expect(&rt, "a clock");
     equal(&rt, clock.now_ns(), 1000);
-    for (monotonic, expected) in [
+    for (monotonic, expected) in &[
         (Some(27), 1020),
         (None, 1020),
         (Some(u64::MAX), NanoSecond::MAX),
     ] {
-        runtime.monotonic.set(monotonic);
-        equal(&rt, clock.now_ns(), expected);
+        runtime.monotonic.set(*monotonic);
+        equal(&rt, clock.now_ns(), *expected);
     }
 }
 

@@ -147,12 +147,12 @@ fn sizes(scopes: &ScopeCollection) -> (usize, usize) {
 fn first_by_id_and_last_by_name(rt: HostRuntime) {
     let mut scopes = ScopeCollection::new(rt.alloc());
     equal(&rt, name_of(&scopes, 1), None);
-    for scope in [(1, "a"), (1, "b"), (2, "a")] {
-        is_inserted(&rt, &mut scopes, rt.alloc(), scope, "a");
+    for scope in &[(1, "a"), (1, "b"), (2, "a")] {
+        is_inserted(&rt, &mut scopes, rt.alloc(), *scope, "a");
     }
     equal(&rt, name_of(&scopes, 1), Some("a"));
-    for (name, number) in [("a", Some(2)), ("b", Some(1)), ("c", None)] {
-        equal(&rt, number_of(&scopes, name), number);
+    for (name, number) in &[("a", Some(2)), ("b", Some(1)), ("c", None)] {
+        equal(&rt, number_of(&scopes, name), *number);
     }
     equal(&rt, sizes(&scopes), (2, 2));
 }

@@ -115,8 +115,8 @@ fn a_clock_that_falls_twice_stands_still_twice(rt: HostRuntime) {
     rig.set(150);
     rig.ends(&rt, 14, Ok(Closed::Reported));
     let bytes = rig.bytes(0).expect(&rt, "bytes");
-    for (place, time) in [(5, 100), (27, 100), (45, 200), (54, 200)] {
-        equal(&rt, bytes.get(place).copied(), Some(time));
+    for (place, time) in &[(5, 100), (27, 100), (45, 200), (54, 200)] {
+        equal(&rt, bytes.get(*place).copied(), Some(*time));
     }
     is_report(&rt, &rig.recorder, 0, 100, (2, 2, (100, 200)));
 }
@@ -125,8 +125,8 @@ fn a_clock_that_falls_twice_stands_still_twice(rt: HostRuntime) {
 fn two_scopes(rt: &impl Abort, rig: &mut Rig) {
     rig.begins(rt, (1, ""), 14);
     rig.begins(rt, (2, ""), 36);
-    for wrong in [14, 15] {
-        rig.ends(rt, wrong, Err(Error::MismatchedEnd));
+    for wrong in &[14, 15] {
+        rig.ends(rt, *wrong, Err(Error::MismatchedEnd));
     }
     rig.has(rt, (2, 0, 0));
     rig.ends(rt, 36, Ok(Closed::Inner));
@@ -200,10 +200,7 @@ fn closed_scopes_are_reported_on_demand(rt: HostRuntime) {
 
 /// A text of 126 letters and one of two bytes.
 fn long_text(alloc: Global) -> Result<String> {
-    let mut text = String::new(alloc);
-    for _ in 0..126 {
-        text.push('a')?;
-    }
+    let mut text = "a".repeat(alloc, 126)?;
     text.push('é')?;
     Ok(text)
 }
