@@ -1,6 +1,6 @@
 use crate::count::{NEVER, device};
 use crate::equal::equal;
-use crate::run::run;
+use crate::run::{Written, run};
 use crate::steps::Step::{Begin, End, NewFrame, Report};
 use crate::steps::{Step, commands, texts};
 use puffin_data::FileError;
@@ -16,30 +16,39 @@ const ONE: &[Step] = &[Begin(0, 100, 1, "data"), End(0, 300), NewFrame];
 /// One scope with the id 1 and no text, from the least time to the least time.
 const EARLIEST: &[u8] = b"(\x01\0\0\0\0\0\0\0\0\0\0\x80\0\0\0\0\0\0\0\0\0)\0\0\0\0\0\0\0\x80";
 
-/// A script of one thread, with a step in each line.
-fn script(rt: &impl AllocGlobal, name: &str, steps: &[Step]) -> puffin_data::Result<Script> {
-    let mut lines = Vec::new(rt.alloc());
-    for number in 0..steps.len() {
-        lines.push(number as u64 + 1)?;
+/// The number of each line of a script that has so many.
+fn numbers(rt: &(impl AllocGlobal + Abort), lines: usize) -> Vec<u64> {
+    let mut numbers = Vec::new(rt.alloc());
+    for number in 0..lines {
+        numbers.push(number as u64 + 1).expect(rt, "memory");
     }
-    Ok(Script {
-        names: texts(rt.alloc(), &[name])?,
-        forms: Vec::new(rt.alloc()),
-        commands: commands(rt.alloc(), steps)?,
-        lines,
-    })
+    numbers
 }
 
-/// The script of these steps of a thread with this name writes this file and these lines.
-fn writes(rt: &(impl AllocGlobal + Abort), name: &str, steps: &[Step], file: &[u8], lines: &[u8]) {
-    let script = script(rt, name, steps).expect(rt, "a script");
-    let run = run(rt, &script, (7, NEVER), (1, NEVER));
+/// A script of one thread, with a step in each line.
+fn script(rt: &(impl AllocGlobal + Abort), name: &str, steps: &[Step]) -> Script {
+    Script {
+        names: texts(rt.alloc(), &[name]).expect(rt, "memory"),
+        forms: Vec::new(rt.alloc()),
+        commands: commands(rt.alloc(), steps).expect(rt, "commands"),
+        lines: numbers(rt, steps.len()),
+    }
+}
+
+/// A run wrote this file and these lines.
+fn is_written(rt: &impl Abort, run: &Written, file: &[u8], lines: &[u8]) {
     equal(rt, run.answer, Ok(()));
     equal(
         rt,
         (run.file.as_slice(), run.lines.as_slice()),
         (file, lines),
     );
+}
+
+/// The script of these steps of a thread with this name writes this file and these lines.
+fn writes(rt: &(impl AllocGlobal + Abort), name: &str, steps: &[Step], file: &[u8], lines: &[u8]) {
+    let script = script(rt, name, steps);
+    is_written(rt, &run(rt, &script, (7, NEVER), (1, NEVER)), file, lines);
 }
 
 #[test]
@@ -104,7 +113,7 @@ fn is_whole(rt: &(impl AllocGlobal + Abort), script: &Script, call: u64) -> bool
 
 #[test]
 fn a_file_that_is_not_written_whole_is_told(rt: HostRuntime) {
-    let script = script(&rt, "main", ONE).expect(&rt, "a script");
+    let script = script(&rt, "main", ONE);
     let mut whole = false;
     for call in 0..60u64 {
         whole = is_whole(&rt, &script, call);
@@ -114,7 +123,7 @@ fn a_file_that_is_not_written_whole_is_told(rt: HostRuntime) {
 
 #[test]
 fn lines_that_are_not_written_are_told(rt: HostRuntime) {
-    let script = script(&rt, "main", ONE).expect(&rt, "a script");
+    let script = script(&rt, "main", ONE);
     let run = run(&rt, &script, (1000, NEVER), (5, 1));
     equal(&rt, run.answer, Err(FileError::Io));
     equal(&rt, run.file.as_slice(), &FILE[..ONE_FRAME]);

@@ -1,6 +1,6 @@
 use crate::equal::equal;
 use crate::steps::Step::{Begin, End, NewFrame};
-use crate::steps::{Step, commands, texts};
+use crate::steps::{Step, commands, texts, threads};
 use puffin_data::NanoSecond;
 use puffin_data::data::Form;
 use puffin_frames::frame_data::{FrameData, UnpackedFrameData};
@@ -26,13 +26,6 @@ const THREE_FRAMES: &[Step] = &[
     NewFrame,
 ];
 
-/// The name of the thread, whose texts are short.
-fn main_thread(rt: &impl AllocGlobal) -> puffin_data::Result<Vec<(String, Form)>> {
-    let mut threads = Vec::new(rt.alloc());
-    threads.push((String::from_str(rt.alloc(), "main")?, Form::Short))?;
-    Ok(threads)
-}
-
 /// What is recorded of these and read again, of the last and the slowest so many frames.
 fn recorded(
     rt: &(impl AllocGlobal + Abort),
@@ -48,7 +41,7 @@ fn recorded(
     let commands = commands(rt.alloc(), THREE_FRAMES).expect(rt, "commands");
     let recording = record_and_read(
         rt.alloc(),
-        main_thread(rt).expect(rt, "memory"),
+        threads(rt, &[("main", Form::Short)]),
         &commands,
         limits,
     )
@@ -81,8 +74,11 @@ fn reads(rt: &impl Abort, recording: &Recording, frames: &[(u64, (NanoSecond, Na
 fn holds(rt: &impl Abort, frame: &UnpackedFrameData, bytes: &[u8]) {
     equal(rt, frame.thread_streams.len(), 1);
     for (thread, info) in &frame.thread_streams {
-        equal(rt, thread.start_time_ns, Some(100));
-        equal(rt, thread.name.as_str(), "main");
+        equal(
+            rt,
+            (thread.start_time_ns, thread.name.as_str()),
+            (Some(100), "main"),
+        );
         equal(rt, info.stream.bytes(), bytes);
     }
 }
@@ -104,13 +100,16 @@ fn holds_longest(rt: &impl Abort, recording: &Recording) {
     holds(rt, &unpacked, LONGEST);
 }
 
+/// The last frame and the slowest one are read, and that holds the longest scope.
+fn reads_last_and_slowest(rt: &impl Abort, recording: &Recording) {
+    reads(rt, recording, &[(0, (100, 300)), (2, (500, 600))]);
+    holds_longest(rt, recording);
+}
+
 #[test]
 fn the_last_and_the_slowest_frames_are_read_again(rt: HostRuntime) {
-    for packs in [true, false] {
-        let recording = recorded(&rt, 1, 1, packs);
-        reads(&rt, &recording, &[(0, (100, 300)), (2, (500, 600))]);
-        holds_longest(&rt, &recording);
-    }
+    reads_last_and_slowest(&rt, &recorded(&rt, 1, 1, true));
+    reads_last_and_slowest(&rt, &recorded(&rt, 1, 1, false));
 }
 
 /// Where the last and the slowest so many frames are kept, just these are read, also where frames
@@ -121,9 +120,8 @@ fn keeps(
     max_slow: usize,
     frames: &[(u64, (NanoSecond, NanoSecond))],
 ) {
-    for packs in [true, false] {
-        reads(rt, &recorded(rt, max_recent, max_slow, packs), frames);
-    }
+    reads(rt, &recorded(rt, max_recent, max_slow, true), frames);
+    reads(rt, &recorded(rt, max_recent, max_slow, false), frames);
 }
 
 #[test]

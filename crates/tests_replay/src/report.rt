@@ -78,9 +78,9 @@ fn reports(rt: &(impl AllocGlobal + Abort), file: &[u8], lines: &[u8]) {
 
 #[test]
 fn the_file_that_a_script_writes_is_reported(rt: HostRuntime) {
-    for (script, lines, report) in SCRIPTS {
+    for (script, lines, report) in &SCRIPTS {
         let run = run(&rt, script);
-        equal(&rt, run.lines.as_slice(), lines);
+        equal(&rt, run.lines.as_slice(), *lines);
         reports(&rt, &run.file, report);
     }
 }

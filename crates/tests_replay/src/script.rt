@@ -16,8 +16,8 @@ fn refuses(rt: &(impl AllocGlobal + Abort), bytes: &[u8], line: u64) {
     equal(rt, script(rt, bytes).err(), Some(ToolFault::Line(line)));
 }
 
-/// Whether a command begins such a scope.
-fn is_begin(command: Option<&Command>, number: usize, time: i64, scope: u32, what: &str) -> bool {
+/// The scope that a command begins: its thread, its time, its number and its text.
+fn begun(command: Option<&Command>) -> Option<(usize, i64, u32, &str)> {
     match command {
         Some(
             Command::Begin {
@@ -26,8 +26,8 @@ fn is_begin(command: Option<&Command>, number: usize, time: i64, scope: u32, wha
                 id,
                 text,
             },
-        ) => *thread == number && *at == time && id.get() == scope && text.as_str() == what,
-        _ => false,
+        ) => Some((*thread, *at, id.get(), text.as_str())),
+        _ => None,
     }
 }
 
@@ -38,35 +38,24 @@ fn is_end(command: Option<&Command>, number: usize, time: i64) -> bool {
     }
 }
 
-/// Whether a command registers such details.
-fn is_register(
-    command: Option<&Command>,
-    number: usize,
-    scope: Option<&str>,
-    code: (&str, &str, u32),
-) -> bool {
-    let Some(
-        Command::Register {
-            thread,
-            name,
-            function,
-            file,
-            line,
-        },
-    ) = command
-    else {
-        return false;
-    };
-    let same_name = match (name, scope) {
-        (Some(name), Some(scope)) => name.as_str() == scope,
-        (None, None) => true,
-        _ => false,
-    };
-    *thread == number
-        && same_name
-        && function.as_str() == code.0
-        && file.as_str() == code.1
-        && *line == code.2
+/// The thread of details that a command registers, the scope's name if there is one, and the function, its file and line.
+fn registered(command: Option<&Command>) -> Option<(usize, Option<&str>, (&str, &str, u32))> {
+    match command {
+        Some(
+            Command::Register {
+                thread,
+                name,
+                function,
+                file,
+                line,
+            },
+        ) => Some((
+            *thread,
+            name.as_deref(),
+            (function.as_str(), file.as_str(), *line),
+        )),
+        _ => None,
+    }
 }
 
 fn is_user(command: Option<&Command>, scope: &str) -> bool {
@@ -85,25 +74,37 @@ const FORMS: &str =
 
 /// The first commands of that script begin and end scopes.
 fn has_scopes(rt: &impl Abort, commands: &[Command]) {
-    assert!(rt; is_begin(commands.get(0), 0, 100, 1, ""));
-    assert!(rt; is_begin(commands.get(1), 0, 200, 4294967295, "a  text "));
-    assert!(rt; is_begin(commands.get(2), 0, i64::MAX, 7, ""));
-    assert!(rt; is_end(commands.get(3), 1, 300));
+    equal(rt, begun(commands.get(0)), Some((0, 100, 1, "")));
+    equal(
+        rt,
+        begun(commands.get(1)),
+        Some((0, 200, 4294967295, "a  text ")),
+    );
+    equal(rt, begun(commands.get(2)), Some((0, i64::MAX, 7, "")));
+    equal(rt, is_end(commands.get(3), 1, 300), true);
 }
 
 /// The next ones register details.
 fn has_details(rt: &impl Abort, commands: &[Command]) {
-    assert!(rt; is_register(commands.get(4), 0, None, ("load", "a.rs", 0)));
+    equal(
+        rt,
+        registered(commands.get(4)),
+        Some((0, None, ("load", "a.rs", 0))),
+    );
     let code = ("load", "a.rs", 4294967295);
-    assert!(rt; is_register(commands.get(5), 1, Some("part"), code));
-    assert!(rt; is_user(commands.get(6), "u"));
+    equal(
+        rt,
+        registered(commands.get(5)),
+        Some((1, Some("part"), code)),
+    );
+    equal(rt, is_user(commands.get(6), "u"), true);
 }
 
 /// The last ones are a snapshot and a frame.
 fn has_frames(rt: &impl Abort, commands: &[Command]) {
     equal(rt, commands.len(), 9);
-    assert!(rt; matches!(commands.get(7), Some(Command::Snapshot)));
-    assert!(rt; matches!(commands.get(8), Some(Command::NewFrame)));
+    equal(rt, matches!(commands.get(7), Some(Command::Snapshot)), true);
+    equal(rt, matches!(commands.get(8), Some(Command::NewFrame)), true);
 }
 
 /// These are two texts.
@@ -122,23 +123,31 @@ fn each_form_of_line_is_a_command(rt: HostRuntime) {
     has_frames(&rt, &script.commands);
     let lines = [1, 4, 5, 6, 7, 8, 9, 10, 11];
     equal(&rt, script.lines.as_slice(), lines.as_slice());
-    assert!(rt; are_two(&script.names, "main", "other"));
+    equal(&rt, are_two(&script.names, "main", "other"), true);
 }
 
 /// The first of the commands end scopes of these threads at these times.
 fn are_ends(rt: &impl Abort, commands: &[Command], ends: &[(usize, i64)]) {
     for (place, (number, time)) in ends.iter().enumerate() {
-        assert!(rt; is_end(commands.get(place), *number, *time));
+        equal(rt, is_end(commands.get(place), *number, *time), true);
     }
+}
+
+/// The ends of three threads, and a function of a fourth.
+fn are_of_four(rt: &impl Abort, commands: &[Command]) {
+    are_ends(rt, commands, &[(0, 1), (1, 1), (2, 1), (1, 2), (0, 2)]);
+    equal(
+        rt,
+        registered(commands.get(5)),
+        Some((3, None, ("f", "g", 1))),
+    );
 }
 
 #[test]
 fn threads_are_numbered_as_they_appear(rt: HostRuntime) {
     let text = "end c 1\nend a 1\nend b 1\nend a 2\nend c 2\nfunction d f g 1\n";
     let script = script(&rt, text.as_bytes()).expect(&rt, "a script");
-    let ends = [(0, 1), (1, 1), (2, 1), (1, 2), (0, 2)];
-    are_ends(&rt, &script.commands, &ends);
-    assert!(rt; is_register(script.commands.get(5), 3, None, ("f", "g", 1)));
+    are_of_four(&rt, &script.commands);
     equal(&rt, script.names.len(), 4);
 }
 

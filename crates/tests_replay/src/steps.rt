@@ -3,7 +3,8 @@
 use puffin_data::data::Form;
 use puffin_data::{NanoSecond, Result};
 use puffin_replay::replay::{Command, Reply, Session};
-use std::alloc::Global;
+use std::alloc::{AllocGlobal, Global};
+use std::process::Abort;
 use tests_support::streams::{id, stream_of};
 use tests_support::threads::thread_info;
 
@@ -101,12 +102,17 @@ pub(crate) fn session(alloc: Global, names: &[&str]) -> Result<Session> {
     Session::new(alloc, texts(alloc, names)?)
 }
 
-/// A session of two threads named `t`, the first of which is short and the second long.
-fn two_forms(alloc: Global) -> Result<Session> {
-    let mut threads = Vec::new(alloc);
-    threads.push((text(alloc, "t")?, Form::Short))?;
-    threads.push((text(alloc, "t")?, Form::Long))?;
-    Session::with_forms(alloc, threads)
+/// Threads with these names and forms, as a session or a recording takes them.
+pub(crate) fn threads(
+    rt: &(impl AllocGlobal + Abort),
+    threads: &[(&str, Form)],
+) -> Vec<(String, Form)> {
+    let mut owned = Vec::new(rt.alloc());
+    for (name, form) in threads {
+        let name = String::from_str(rt.alloc(), name).expect(rt, "memory");
+        owned.push((name, *form)).expect(rt, "memory");
+    }
+    owned
 }
 
 /// What a session replies to these commands.
@@ -125,6 +131,8 @@ pub(crate) fn replies(alloc: Global, names: &[&str], steps: &[Step]) -> Result<V
 }
 
 /// What a new session of two threads named `t` replies, the first of which is short and the second long.
-pub(crate) fn replies_in_two_forms(alloc: Global, steps: &[Step]) -> Result<Vec<Reply>> {
-    replies_of(alloc, &mut two_forms(alloc)?, steps)
+pub(crate) fn replies_in_two_forms(rt: &(impl AllocGlobal + Abort), steps: &[Step]) -> Vec<Reply> {
+    let threads = threads(rt, &[("t", Form::Short), ("t", Form::Long)]);
+    let mut session = Session::with_forms(rt.alloc(), threads).expect(rt, "a session");
+    replies_of(rt.alloc(), &mut session, steps).expect(rt, "replies")
 }

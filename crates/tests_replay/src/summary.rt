@@ -19,18 +19,21 @@ fn summed(
 
 /// The scope `data` of id 1, from 100 to 300, is all that was merged of the one frame.
 fn has_data_alone(rt: &impl Abort, summary: &Summary) {
-    equal(rt, summary.frames, 1);
-    assert!(rt; summary.scopes.scopes_by_id().is_empty());
-    equal(rt, summary.merged.len(), 1);
+    equal(rt, (summary.frames, summary.merged.len()), (1, 1));
+    equal(rt, summary.scopes.scopes_by_id().len(), 0);
     for scope in &summary.merged {
-        equal(rt, scope.id.get(), 1);
-        equal(rt, scope.text.as_str(), "data");
-        equal(rt, scope.relative_start_ns, 100);
-        equal(rt, scope.total_duration_ns, 200);
-        equal(rt, scope.duration_per_frame_ns, 200);
-        equal(rt, scope.max_duration_ns, 200);
-        equal(rt, scope.num_pieces, 1);
-        assert!(rt; scope.children.is_empty());
+        equal(rt, (scope.id.get(), scope.text.as_str()), (1, "data"));
+        equal(
+            rt,
+            (scope.relative_start_ns, scope.total_duration_ns),
+            (100, 200),
+        );
+        equal(
+            rt,
+            (scope.duration_per_frame_ns, scope.max_duration_ns),
+            (200, 200),
+        );
+        equal(rt, (scope.num_pieces, scope.children.len()), (1, 0));
     }
 }
 
@@ -45,8 +48,7 @@ fn a_thread_s_scopes_are_merged(rt: HostRuntime) {
 #[test]
 fn another_thread_has_no_scopes(rt: HostRuntime) {
     let summary = summed(&rt, &FILE[..ONE_FRAME], None).expect(&rt, "a summary");
-    equal(&rt, summary.frames, 1);
-    assert!(rt; summary.merged.is_empty());
+    equal(&rt, (summary.frames, summary.merged.len()), (1, 0));
 }
 
 /// A file isn't summed up, for this cause.
