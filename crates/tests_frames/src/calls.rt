@@ -42,10 +42,10 @@ fn streams(alloc: Global) -> Result<ThreadStreams> {
 /// Streams are unlike a long one under the packet's thread, and under no other.
 fn is_unlike_long(rt: &impl Abort, alloc: Global, streams: &ThreadStreams) {
     let mut thread = packet_thread(alloc).expect(rt, "memory");
-    for (form, expected) in [(Form::Short, false), (Form::Long, true)] {
-        let info = packet_info(alloc, form).expect(rt, "memory");
+    for (form, expected) in &[(Form::Short, false), (Form::Long, true)] {
+        let info = packet_info(alloc, *form).expect(rt, "memory");
         let times = info.as_stream_into_ref();
-        equal(rt, are_unlike(streams, &thread, &times), expected);
+        equal(rt, are_unlike(streams, &thread, &times), *expected);
     }
     thread.start_time_ns = None;
     let long = packet_info(alloc, Form::Long).expect(rt, "memory");

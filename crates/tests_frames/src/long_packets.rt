@@ -73,9 +73,9 @@ fn mixed_packet(alloc: Global) -> Result<Vec<u8>> {
 /// The frame of [`mixed_packet`].
 fn mixed_frame(alloc: Global) -> Result<FrameData> {
     let mut streams = BTreeMap::new(alloc);
-    for (name, form) in [("main", Form::Short), ("next", Form::Long)] {
+    for (name, form) in &[("main", Form::Short), ("next", Form::Long)] {
         let thread = thread_info(alloc, Some(100), name)?;
-        let _ = streams.insert(thread, packet_info(alloc, form)?)?;
+        let _ = streams.insert(thread, packet_info(alloc, *form)?)?;
     }
     FrameData::new(alloc, 0, streams, Vec::new(alloc), false)
 }

@@ -258,7 +258,7 @@ fn no_frames_and_no_stream(rt: HostRuntime) {
 fn texts_and_ids_tell_siblings_apart(rt: HostRuntime) {
     let alloc = rt.alloc();
     let mut stream = Stream::new(alloc);
-    for text in ["b", "a", "b"] {
+    for text in &["b", "a", "b"] {
         let offset = begin(&mut stream, 1, 3, text).expect(&rt, "a scope");
         end(&mut stream, offset, 4).expect(&rt, "a scope");
     }

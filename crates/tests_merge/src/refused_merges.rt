@@ -43,8 +43,8 @@ fn tries_of_refused_merges(rt: HostRuntime) {
         .push(one_scope(alloc, 1, 0, 10).expect(&rt, "a frame"))
         .expect(&rt, "memory");
     let mut stream = Stream::new(alloc);
-    for stop in [1, 2, i64::MAX, 3] {
-        leaf(&mut stream, 1, 0, stop).expect(&rt, "a scope");
+    for stop in &[1, 2, i64::MAX, 3] {
+        leaf(&mut stream, 1, 0, *stop).expect(&rt, "a scope");
     }
     frames
         .push(frame(alloc, stream).expect(&rt, "a frame"))
@@ -101,8 +101,8 @@ fn heights(rt: HostRuntime) {
     let alloc = rt.alloc();
     let fit = one_frame(alloc, nested(alloc, 1024).expect(&rt, "a stream")).expect(&rt, "a frame");
     equal(&rt, merged(alloc, &fit).expect(&rt, "scopes").len(), 1);
-    for height in [1025, 100_000] {
-        let too_deep = one_frame(alloc, nested(alloc, height).expect(&rt, "a stream")).expect(
+    for height in &[1025, 100_000] {
+        let too_deep = one_frame(alloc, nested(alloc, *height).expect(&rt, "a stream")).expect(
             &rt, "a frame",
         );
         assert!(rt; matches!(merged(alloc, &too_deep), Err(Error::TooDeep)));

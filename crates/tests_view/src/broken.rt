@@ -81,11 +81,11 @@ fn a_cut_file_comes_byte_by_byte(rt: HostRuntime) {
 
 #[test]
 fn a_reader_that_fails_gives_no_view(rt: HostRuntime) {
-    for failure in [ErrorKind::Other, ErrorKind::Interrupted] {
+    for failure in &[ErrorKind::Other, ErrorKind::Interrupted] {
         for calls in 0..CALLS {
-            assert!(rt; has_failed(&rt, calls, failure));
+            assert!(rt; has_failed(&rt, calls, *failure));
         }
-        is_read(&rt, &FILE[..ONE_FRAME], failure);
+        is_read(&rt, &FILE[..ONE_FRAME], *failure);
     }
 }
 
@@ -154,16 +154,16 @@ fn has_whole(
 #[test]
 fn a_writer_that_is_full_has_a_beginning(rt: HostRuntime) {
     let view = view(&rt, &FILE[..ONE_FRAME]);
-    for (step, failure) in [
+    for (step, failure) in &[
         (1, None),
         (5, None),
         (5, Some(ErrorKind::Other)),
         (5, Some(ErrorKind::Interrupted)),
     ] {
         for room in 0..ONE_FRAME {
-            assert!(rt; has_beginning(&rt, &view, (step, room), failure));
+            assert!(rt; has_beginning(&rt, &view, (*step, room), *failure));
         }
         // The view is as it was.
-        assert!(rt; has_whole(&rt, &view, failure));
+        assert!(rt; has_whole(&rt, &view, *failure));
     }
 }

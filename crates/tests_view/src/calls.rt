@@ -29,10 +29,10 @@ fn counts_with(
 #[test]
 fn the_newest_frame_is_packed_where_packing_is_on(rt: HostRuntime) {
     let mut view = FrameView::new(rt.alloc());
-    for (index, expected) in [(0, (1, 1)), (1, (2, 2)), (2, (3, 2))] {
-        view.set_pack_frames(index == 2);
-        let found = counts_with(&rt, &mut view, index);
-        assert!(rt; found == [expected, expected]);
+    for (index, expected) in &[(0, (1, 1)), (1, (2, 2)), (2, (3, 2))] {
+        view.set_pack_frames(*index == 2);
+        let found = counts_with(&rt, &mut view, *index);
+        assert!(rt; found == [*expected, *expected]);
     }
 }
 
@@ -88,8 +88,8 @@ fn is_at_fault(rt: &(impl AllocGlobal + Abort), (end, bytes, begin, fault): Chan
 
 #[test]
 fn each_fault_of_a_packet_is_the_file_s(rt: HostRuntime) {
-    for changed in CHANGED {
-        is_at_fault(&rt, changed);
+    for changed in &CHANGED {
+        is_at_fault(&rt, *changed);
     }
 }
 

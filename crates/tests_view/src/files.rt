@@ -96,9 +96,9 @@ pub(crate) fn has_fault(
 
 #[test]
 fn files_of_the_rust_crate_are_read_and_written_back(rt: HostRuntime) {
-    for len in [4, 79, 155] {
-        let view = view(&rt, &FILE[..len]);
-        is_written(&rt, &view, &FILE[..len]);
+    for len in &[4, 79, 155] {
+        let view = view(&rt, &FILE[..*len]);
+        is_written(&rt, &view, &FILE[..*len]);
     }
 }
 
@@ -198,8 +198,8 @@ fn details_without_an_id_are_refused_behind_their_packet(rt: HostRuntime) {
 
 #[test]
 fn files_begin_with_their_letters(rt: HostRuntime) {
-    for letters in [b"".as_slice(), b"P", b"PUF", b"PUF1", b"PFD4", &FILE[1..]] {
-        has_fault(&rt, &[letters], Some(FileError::NoMagic));
+    for letters in &[b"".as_slice(), b"P", b"PUF", b"PUF1", b"PFD4", &FILE[1..]] {
+        has_fault(&rt, &[*letters], Some(FileError::NoMagic));
     }
 }
 

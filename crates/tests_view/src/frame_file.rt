@@ -90,8 +90,8 @@ fn frames_are_read_without_a_reader(rt: HostRuntime) {
 
 #[test]
 fn a_reader_begins_with_the_letters_of_a_file(rt: HostRuntime) {
-    for letters in [b"".as_slice(), b"PUF", b"PUF1", &FILE[4..]] {
-        let refused = FrameReader::new(rt.alloc(), Counted::new(letters)).err();
+    for letters in &[b"".as_slice(), b"PUF", b"PUF1", &FILE[4..]] {
+        let refused = FrameReader::new(rt.alloc(), Counted::new(*letters)).err();
         assert!(rt; refused == Some(FileError::NoMagic));
     }
 }

@@ -142,14 +142,14 @@ fn ties_stay_with_the_earlier(rt: HostRuntime) {
 #[test]
 fn an_index_that_does_not_rise_empties_the_view(rt: HostRuntime) {
     let mut frames = FrameView::new(rt.alloc());
-    for index in [5, 6, 6] {
-        add(&rt, &mut frames, index, 1);
+    for index in &[5, 6, 6] {
+        add(&rt, &mut frames, *index, 1);
     }
     are_all(&rt, &frames, &[6]);
     // The index of a frame that emptied the view is the last one taken.
-    for index in [3, 2] {
-        add(&rt, &mut frames, index, 1);
-        are_all(&rt, &frames, &[index]);
+    for index in &[3, 2] {
+        add(&rt, &mut frames, *index, 1);
+        are_all(&rt, &frames, &[*index]);
     }
 }
 
@@ -249,9 +249,9 @@ fn cleared_statistics_are_zeros(rt: HostRuntime) {
 #[test]
 fn selections_are_by_index(rt: HostRuntime) {
     let mut frames = Vec::new(rt.alloc());
-    for (index, duration) in [(0, 5), (1, 9), (2, 7), (3, 9)] {
+    for (index, duration) in &[(0, 5), (1, 9), (2, 7), (3, 9)] {
         frames
-            .push(frame(&rt, index, duration))
+            .push(frame(&rt, *index, *duration))
             .expect(&rt, "memory");
     }
     let chosen = select_slowest(rt.alloc(), &frames, 3).expect(&rt, "a frame");
@@ -332,10 +332,10 @@ fn has_one_frame_and_no_scope(rt: &(impl AllocGlobal + Abort), frames: &FrameVie
 fn details_without_an_id_change_nothing(rt: HostRuntime) {
     let mut frames = view(&rt, 1000, 256, &[1]);
     let mut details = two_details(&rt);
-    for index in [0, 1] {
+    for index in &[0, 1] {
         let refused = frames.add_frame(telling_frame(
             &rt,
-            index,
+            *index,
             1,
             details.clone().expect(&rt, "memory"),
         ));
