@@ -132,7 +132,7 @@ fn from_memory<S: Source>(rt: &(impl AllocGlobal + Abort), source: &mut S)
 #[test]
 fn a_part_from_a_buffer(rt: HostRuntime) {
     let mut source = buffered(rt.alloc(), 12, false).expect(&rt, "memory");
-    equal(&rt, read_byte(&mut source), Ok(0));
+    equal(&rt, read_byte(&mut source).expect(&rt, "a byte"), 0);
     let part = read_part(rt.alloc(), &mut source, 8).expect(&rt, "a part");
     equal(
         &rt,
