@@ -44,6 +44,21 @@ fn taken<L: Ledger, M: Ledger, R: Wait>(
     Ok(())
 }
 
+/// Takes the frames of a run, and returns the nanoseconds that this takes.
+fn timed<L: Ledger, M: Ledger, R: Wait + Clock>(
+    rt: &R,
+    alloc: Global,
+    profiler: &SharedProfiler<L, M>,
+    share: &mut Share<L, M>,
+    info: &StreamInfo,
+) -> Result<u128>
+    requires { (f : Forest) × IsHonest info.now f }
+{
+    let begun = Instant::now(rt)?;
+    taken(rt, alloc, profiler, share, info)?;
+    Ok(begun.elapsed(rt)?.as_nanos())
+}
+
 /// Fills the attached view, and then takes frames in `runs` more runs. Returns the nanoseconds of the fastest.
 fn fastest<L: Ledger, M: Ledger, R: Wait + Clock>(
     rt: &R,
@@ -53,14 +68,12 @@ fn fastest<L: Ledger, M: Ledger, R: Wait + Clock>(
     share: &mut Share<L, M>,
 ) -> Result<u128> {
     let info = StreamInfo::parse(alloc, two_scopes(alloc)?)?;
-    for _ in 0..FILLING {
-        taken(rt, alloc, profiler, share, &info)?;
-    }
     let mut best = u128::MAX;
-    for _ in 0..runs {
-        let begun = Instant::now(rt)?;
-        taken(rt, alloc, profiler, share, &info)?;
-        best = best.min(begun.elapsed(rt)?.as_nanos());
+    for run in 0..runs.saturating_add(FILLING) {
+        let time = timed(rt, alloc, profiler, share, &info)?;
+        if run >= FILLING {
+            best = best.min(time);
+        }
     }
     Ok(best)
 }

@@ -64,6 +64,24 @@ fn reported<L: Ledger, M: Ledger, R: Wait>(
 }
 
 /// Waits until the lock is free, and then makes all reports of a thread.
+fn lap<L: Ledger, M: Ledger, R: Wait + Clock>(
+    rt: &R,
+    alloc: Global,
+    profiler: &SharedProfiler<L, M>,
+    share: &mut Share<L, M>,
+    name: &str,
+    info: &StreamInfo,
+) -> Option<Lap>
+    requires { (f : Forest) × IsHonest info.now f }
+{
+    let _totals = profiler.totals(rt, share);
+    let begun = rt.monotonic().ok()?;
+    reported(rt, alloc, profiler, share, name, info).ok()?;
+    let ended = rt.monotonic().ok()?;
+    Some(Lap { begun, ended })
+}
+
+/// Makes an info of two scopes, and then all reports of a thread.
 fn report_all<L: Ledger, M: Ledger, R: Wait + Clock>(
     rt: &R,
     alloc: Global,
@@ -73,11 +91,7 @@ fn report_all<L: Ledger, M: Ledger, R: Wait + Clock>(
 ) -> Option<Lap> {
     let name = *NAMES.get(worker)?;
     let info = StreamInfo::parse(alloc, two_scopes(alloc).ok()?).ok()?;
-    let _totals = profiler.totals(rt, share);
-    let begun = rt.monotonic().ok()?;
-    reported(rt, alloc, profiler, share, name, &info).ok()?;
-    let ended = rt.monotonic().ok()?;
-    Some(Lap { begun, ended })
+    lap(rt, alloc, profiler, share, name, &info)
 }
 
 /// Does the work of a thread.
@@ -138,6 +152,24 @@ fn whole(laps: &[Lap]) -> u128 {
     ended.saturating_sub(begun).as_nanos()
 }
 
+/// Starts a thread for each share.
+fn start_each<
+    L: Ledger + Send + Sync + 'static,
+    M: Ledger + Send + Sync + 'static,
+    R: Threads + Wait + Clock + Copy + Send + Sync + 'static,
+>(
+    rt: R,
+    alloc: Global,
+    profiler: &SharedProfiler<L, M>,
+    shares: Vec<Share<L, M>>,
+) -> Result<Vec<JoinHandle<Option<Lap>>>> {
+    let mut workers = Vec::new(alloc);
+    for (worker, share) in shares.into_iter().enumerate() {
+        workers.push(start(rt, alloc, profiler.clone()?, share, worker)?)?;
+    }
+    Ok(workers)
+}
+
 /// Starts a thread for each share. All begin when the lock is free.
 fn start_all<
     L: Ledger + Send + Sync + 'static,
@@ -149,11 +181,8 @@ fn start_all<
     profiler: &SharedProfiler<L, M>,
     shares: Vec<Share<L, M>>,
 ) -> Result<Vec<JoinHandle<Option<Lap>>>> {
-    let mut workers = Vec::new(alloc);
     let _gate = profiler.lock(&rt);
-    for (worker, share) in shares.into_iter().enumerate() {
-        workers.push(start(rt, alloc, profiler.clone()?, share, worker)?)?;
-    }
+    let workers = start_each(rt, alloc, profiler, shares)?;
     thread::sleep(&rt, Duration::from_micros(GATHERING));
     Ok(workers)
 }

@@ -159,6 +159,23 @@ fn added(view: &mut FrameView, frames: Vec<Arc<FrameData>>) -> Result<usize> {
     Ok(count)
 }
 
+/// Adds frames to a view. Returns the nanoseconds that this takes, and the number of frames.
+fn timed(
+    rt: &impl Clock,
+    view: &mut FrameView,
+    frames: Vec<Arc<FrameData>>,
+) -> anyhow::Result<(u128, usize)> {
+    let begun = Instant::now(rt)?;
+    let count = added(view, frames)?;
+    Ok((begun.elapsed(rt)?.as_nanos(), count))
+}
+
+/// Fills a view, and adds frames to it. Returns the nanoseconds that this takes, and the number of frames.
+fn round<R: AllocGlobal + Clock>(rt: &R, work: &ViewWork) -> anyhow::Result<(u128, usize)> {
+    let mut view = work.full(rt.alloc())?;
+    timed(rt, &mut view, work.frames(rt.alloc())?)
+}
+
 /// Counts or times frames that are added to a full view; the unit is a frame.
 pub fn run_view<R: AllocGlobal + Clock + Print>(
     rt: &R,
@@ -168,11 +185,9 @@ pub fn run_view<R: AllocGlobal + Clock + Print>(
     let mut best = u128::MAX;
     let mut count = 0;
     for _ in 0..mode.pick(1, ROUNDS) {
-        let mut view = work.full(rt.alloc())?;
-        let frames = work.frames(rt.alloc())?;
-        let begun = Instant::now(rt)?;
-        count = added(&mut view, frames)?;
-        best = best.min(begun.elapsed(rt)?.as_nanos());
+        let (time, added) = round(rt, work)?;
+        best = best.min(time);
+        count = added;
     }
     print(rt, mode, work.name, best, count)
 }

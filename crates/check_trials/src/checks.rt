@@ -98,31 +98,37 @@ fn reported(alloc: Global, bytes: &[u8], thread: &ThreadInfo, slowly: bool) -> P
 }
 
 /// Returns the file of a view.
-fn written(alloc: Global, view: &FrameView) -> Result<Vec<u8>, FileError> {
+pub(crate) fn written(alloc: Global, view: &FrameView) -> Result<Vec<u8>, FileError> {
     let mut bytes = Vec::new(alloc);
     view.write(&mut Counted::new(&mut bytes))?;
     Ok(bytes)
 }
 
+/// Returns whether a file that was written is written again with the same bytes, once it is read.
+fn is_written_again(alloc: Global, file: &[u8]) -> Result<bool, FileError> {
+    let view = FrameView::read(alloc, &mut Buffered::new(file))?;
+    Ok(written(alloc, &view)?.as_slice() == file)
+}
+
 /// Writes a view that was read, reads that file and writes it again. The bytes must be the same.
 fn check_again(alloc: Global, view: &FrameView) -> Result<(), Broken> {
-    let Ok(first) = written(alloc, view) else {
-        return Err(Broken::Again);
+    let is_same = match written(alloc, view) {
+        Ok(file) => is_written_again(alloc, &file) == Ok(true),
+        Err(_) => false,
     };
-    let Ok(again) = FrameView::read(alloc, &mut Buffered::new(first.as_slice())) else {
-        return Err(Broken::Again);
-    };
-    match written(alloc, &again) {
-        Ok(second) if second == first => Ok(()),
-        _ => Err(Broken::Again),
-    }
+    if is_same { Ok(()) } else { Err(Broken::Again) }
+}
+
+/// Returns whether the report on a file is the same if each call of the reader returns one byte.
+fn is_reported_alike(alloc: Global, bytes: &[u8], thread: &ThreadInfo) -> bool {
+    let first = reported(alloc, bytes, thread, false);
+    let second = reported(alloc, bytes, thread, true);
+    first.lines == second.lines && first.fault == second.fault
 }
 
 /// Reads, reports and writes a file. Returns whether it can be read.
 pub(crate) fn check_file(alloc: Global, bytes: &[u8], thread: &ThreadInfo) -> Result<bool, Broken> {
-    let first = reported(alloc, bytes, thread, false);
-    let second = reported(alloc, bytes, thread, true);
-    if first.lines != second.lines || first.fault != second.fault {
+    if !is_reported_alike(alloc, bytes, thread) {
         return Err(Broken::OneByteACall);
     }
     let slowly = FrameView::read(alloc, &mut Counted::new(OneByte { left: bytes })).err();

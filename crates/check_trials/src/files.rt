@@ -1,8 +1,9 @@
 //! Random files of frames.
 
+use crate::checks::written;
 use crate::random::Random;
 use crate::streams::forest;
-use puffin_data::data::{Counted, ScopeId, StreamInfo};
+use puffin_data::data::{ScopeId, StreamInfo};
 use puffin_data::{Error, Result};
 use puffin_frames::frame_data::FrameData;
 use puffin_threads::scope_details::ScopeDetails;
@@ -56,28 +57,37 @@ fn details(alloc: Global, random: &mut Random) -> Result<Vec<Arc<ScopeDetails>>>
     Ok(all)
 }
 
+/// Makes a random frame.
+fn frame(alloc: Global, random: &mut Random, index: u64) -> Result<Arc<FrameData>> {
+    let streams = streams(alloc, random)?;
+    let details = details(alloc, random)?;
+    let frame = FrameData::new(alloc, index, streams, details, random.below(2) == 0)?;
+    match Arc::new(alloc, frame) {
+        Ok(frame) => Ok(frame),
+        Err(_) => Err(Error::Memory),
+    }
+}
+
+/// Adds random frames to a view. It refuses a frame that has details without an id, and a frame without scopes can't be made.
+fn fill(alloc: Global, random: &mut Random, view: &mut FrameView, frames: u64) -> Result<()> {
+    for index in 0..frames {
+        match frame(alloc, random, index) {
+            Ok(frame) => {
+                let _taken = view.add_frame(frame);
+            }
+            Err(Error::Empty) => {}
+            Err(cause) => return Err(cause),
+        }
+    }
+    Ok(())
+}
+
 /// Makes a random file of at most `frames` frames.
 pub(crate) fn file(alloc: Global, random: &mut Random, frames: u64) -> Result<Vec<u8>> {
     let mut view = FrameView::new(alloc);
-    for index in 0..frames {
-        let made = FrameData::new(
-            alloc,
-            index,
-            streams(alloc, random)?,
-            details(alloc, random)?,
-            random.below(2) == 0,
-        );
-        if let Ok(frame) = made {
-            let Ok(frame) = Arc::new(alloc, frame) else {
-                return Err(Error::Memory);
-            };
-            // A frame that has details without an id is refused.
-            let _taken = view.add_frame(frame);
-        }
-    }
-    let mut bytes = Vec::new(alloc);
-    match view.write(&mut Counted::new(&mut bytes)) {
-        Ok(()) => Ok(bytes),
+    fill(alloc, random, &mut view, frames)?;
+    match written(alloc, &view) {
+        Ok(bytes) => Ok(bytes),
         Err(_) => Err(Error::Memory),
     }
 }

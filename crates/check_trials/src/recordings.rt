@@ -51,20 +51,24 @@ fn is_whole(reply: &Reply) -> bool {
     }
 }
 
-/// Records the commands once. Returns whether all of them succeeded, and the file.
-fn recorded(alloc: Global, commands: &[Command]) -> Result<(bool, Vec<u8>), FileError> {
+/// Records the commands once. Returns whether all of them succeeded.
+fn record_into(
+    alloc: Global,
+    commands: &[Command],
+    bytes: &mut Vec<u8>,
+) -> Result<bool, FileError> {
     let mut names = Vec::new(alloc);
     names.push(String::from_str(alloc, "main")?)?;
+    let mut view = FrameView::new(alloc);
+    let replies = record(alloc, names, commands, &mut view, &mut Counted::new(bytes))?;
+    Ok(replies.len() == 3 && replies.iter().all(is_whole))
+}
+
+/// Records the commands once. Returns whether all of them succeeded, and the file.
+fn recorded(alloc: Global, commands: &[Command]) -> Result<(bool, Vec<u8>), FileError> {
     let mut bytes = Vec::new(alloc);
-    let mut drain = Counted::new(&mut bytes);
-    let replies = record(
-        alloc,
-        names,
-        commands,
-        &mut FrameView::new(alloc),
-        &mut drain,
-    )?;
-    Ok((replies.len() == 3 && replies.iter().all(is_whole), bytes))
+    let is_whole = record_into(alloc, commands, &mut bytes)?;
+    Ok((is_whole, bytes))
 }
 
 /// Returns whether a recording is as documented: the file has the frame if all commands succeeded, and no frame if one was

@@ -21,7 +21,7 @@ pub(crate) fn owned(alloc: Global, text: &str) -> Option<CowStr<'static>> {
 }
 
 /// Makes a thread profiler.
-fn thread(alloc: Global, name: &str) -> Option<Thread> {
+pub(crate) fn recorder(alloc: Global, name: &str) -> Option<Thread> {
     let name = again!(String::from_str(alloc, name))?;
     Some(ThreadProfiler::new(alloc, name, ScriptClock::new(0)))
 }
@@ -193,8 +193,8 @@ fn steps<R: Print + AllocGlobal + Wait>(
 
 /// Lets two threads report to a profiler.
 fn threads<R: Print + AllocGlobal + Wait>(rt: &R, profiler: &mut GlobalProfiler) -> Option<()> {
-    let mut main = thread(rt.alloc(), "main")?;
-    let mut other = thread(rt.alloc(), "other")?;
+    let mut main = recorder(rt.alloc(), "main")?;
+    let mut other = recorder(rt.alloc(), "other")?;
     steps(rt, profiler, &mut main, &mut other)
 }
 

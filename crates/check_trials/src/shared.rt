@@ -17,6 +17,7 @@ use puffin::thread_profiler::ThreadInfo;
 use puffin_data::data::{ScopeId, Stream, StreamInfo};
 use puffin_data::{Error, Result};
 use std::alloc::Global;
+use std::borrow::CowStr;
 use std::marker::Brand;
 use std::sync::ledger::{Blank, Ledger};
 use std::sync::{Arc, Mutex, Wait};
@@ -68,11 +69,10 @@ fn attach<L: Ledger, M: Ledger>(
 /// Registers one scope of the caller's own.
 fn register<L: Ledger, M: Ledger>(
     rt: &impl Wait,
-    alloc: Global,
     profiler: &SharedProfiler<L, M>,
     ids: &ScopeIds,
 ) -> Option<ScopeId> {
-    let details = [ScopeDetails::from_scope_name(owned(alloc, "user")?)];
+    let details = [ScopeDetails::from_scope_name(CowStr::Borrowed("user"))];
     let ids = again!(profiler.register_user_scopes(rt, ids, &details))?;
     ids.first().copied()
 }
@@ -98,8 +98,8 @@ fn handed<L: Ledger, M: Ledger>(
     rt: &impl Wait,
     profiler: &SharedProfiler<L, M>,
     frame: &Arc<FrameData>,
-) -> Option<Result<usize>> {
-    Some(profiler.add_frame(rt, again!(Arc::try_clone(frame))?))
+) -> Result<usize> {
+    profiler.add_frame(rt, Arc::try_clone(frame)?)
 }
 
 /// Prints a frame. If a sink had no memory for it, hands it to the sinks once more.
@@ -110,7 +110,7 @@ fn print_emitted<L: Ledger, M: Ledger, R: Print + Wait>(
 ) -> Option<()> {
     let frame = emitted.frame.as_ref()?;
     if emitted.refused > 0 {
-        let _refused = again!(handed(rt, profiler, frame)?)?;
+        let _refused = again!(handed(rt, profiler, frame))?;
     }
     print_frame(rt, frame)
 }
@@ -169,7 +169,7 @@ fn reported<L: Ledger, M: Ledger, R: Print + Wait>(
     ids: &ScopeIds,
 ) -> Option<FrameSinkId> {
     let other = add(rt, profiler, view(alloc)?)?;
-    let id = register(rt, alloc, profiler, ids)?;
+    let id = register(rt, profiler, ids)?;
     again!(report(rt, alloc, profiler, share, id))?;
     frame(rt, profiler, share)?;
     Some(other)

@@ -1,11 +1,12 @@
 //! Frames that are added to a view, written to a file, read and summed up.
 
 use crate::again;
+use crate::checks::written;
 use crate::packets::{frame, thread};
 use puffin::merge::MergeScope;
 use puffin::profile_view::FrameView;
 use puffin_data::FileError;
-use puffin_data::data::{Buffered, Counted};
+use puffin_data::data::Buffered;
 use puffin_frames::frame_data::FrameData;
 use puffin_replay::replay::{Summary, summarize};
 use puffin_threads::thread_profiler::ThreadInfo;
@@ -48,14 +49,6 @@ fn view(alloc: Global) -> Option<FrameView> {
     Some(view)
 }
 
-/// Returns the file of a view.
-fn file(alloc: Global, view: &FrameView) -> Result<Vec<u8>, FileError> {
-    let mut bytes = Vec::new(alloc);
-    let mut drain = Counted::new(&mut bytes);
-    view.write(&mut drain)?;
-    Ok(bytes)
-}
-
 /// Sums up a file for a thread.
 fn summary(alloc: Global, file: &[u8], thread: &ThreadInfo) -> Result<Summary, FileError> {
     let mut source = Buffered::new(file);
@@ -75,7 +68,7 @@ fn print(rt: &HostRuntime, scope: &MergeScope) -> Option<()> {
 /// Returns the file of a copy of a view.
 fn copied(alloc: Global, view: &FrameView) -> Option<Vec<u8>> {
     let copy = again!(view.clone())?;
-    again!(file(alloc, &copy))
+    again!(written(alloc, &copy))
 }
 
 /// Makes a view, and returns its file.

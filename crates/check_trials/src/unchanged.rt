@@ -6,7 +6,7 @@ ghost use Rattle.puffin_data.specs.Honesty.{IsHonest};
 
 use crate::again;
 use crate::packets::thread;
-use crate::registrations::owned;
+use crate::registrations::{owned, recorder};
 use crate::streams::nested;
 use puffin::global_profiler::GlobalProfiler;
 use puffin_data::Error;
@@ -80,16 +80,20 @@ fn begun(thread: &mut ThreadProfiler<ScriptClock>, id: ScopeId) -> Option<usize>
     }
 }
 
-/// Begins three scopes, each within the one before, and prints their offsets.
-fn opened<R: Print + AllocGlobal>(rt: &R) -> Option<()> {
-    let name = owned(rt.alloc(), "main")?.into_owned(rt.alloc());
-    let mut thread = ThreadProfiler::new(rt.alloc(), name.ok()?, ScriptClock::new(0));
+/// Begins three scopes of a thread, each within the one before, and prints their offsets.
+fn open_three(rt: &impl Print, thread: &mut ThreadProfiler<ScriptClock>) -> Option<()> {
     print!(rt; "opened at").ok()?;
     for number in 1..4 {
-        let offset = begun(&mut thread, ScopeId::new(number)?)?;
+        let offset = begun(thread, ScopeId::new(number)?)?;
         print!(rt; " {offset}").ok()?;
     }
     println!(rt).ok()
+}
+
+/// Begins scopes of a new thread.
+fn opened<R: Print + AllocGlobal>(rt: &R) -> Option<()> {
+    let mut thread = recorder(rt.alloc(), "main")?;
+    open_three(rt, &mut thread)
 }
 
 /// Returns how many details a collection has by id and by name.
@@ -154,13 +158,21 @@ fn reported(
     }
 }
 
+/// Reports scopes under each of two names, twice.
+fn report_twice(alloc: Global, profiler: &mut GlobalProfiler, info: &StreamInfo) -> Option<()>
+    requires { (f : Forest) × IsHonest info.now f }
+{
+    for name in &["a", "b", "a", "b"] {
+        reported(alloc, profiler, name, info)?;
+    }
+    Some(())
+}
+
 /// Reports forty scopes under each of two names, twice, and prints the totals.
 fn totalled<R: Print + AllocGlobal>(rt: &R) -> Option<()> {
     let info = forty(rt.alloc())?;
     let mut profiler = GlobalProfiler::new(rt.alloc());
-    for name in &["a", "b", "a", "b"] {
-        reported(rt.alloc(), &mut profiler, name, &info)?;
-    }
+    report_twice(rt.alloc(), &mut profiler, &info)?;
     let totals = profiler.totals();
     let (reported, pending) = (totals.reported, totals.pending);
     println!(rt; "reported {reported} pending {pending}").ok()
@@ -202,20 +214,25 @@ fn runs_out(alloc: Global, profiler: &mut GlobalProfiler, ids: &ScopeIds) -> Opt
     }
 }
 
-/// Registers three scopes for which there are two ids. The first two are known then, or one of them if memory was refused.
+/// Registers three scopes for which there are two ids. Returns whether the first two are known then, or one of them if memory
+/// was refused.
+fn knows_first(alloc: Global, profiler: &mut GlobalProfiler, ids: &ScopeIds) -> Option<bool> {
+    let is_refused = runs_out(alloc, profiler, ids)?;
+    let first = id_of(alloc, profiler, ids, "a")?;
+    match id_of(alloc, profiler, ids, "b") {
+        Some(second) => Some((first, second) == (4_294_967_294, 4_294_967_295)),
+        None => Some(is_refused && first >= 4_294_967_294),
+    }
+}
+
+/// Registers scopes until no id is left.
 fn run_out<R: Print + AllocGlobal>(rt: &R) -> Option<()> {
     let ids = ScopeIds::starting_at(4_294_967_294);
-    let mut profiler = GlobalProfiler::new(rt.alloc());
-    let is_refused = runs_out(rt.alloc(), &mut profiler, &ids)?;
-    let first = id_of(rt.alloc(), &mut profiler, &ids, "a")?;
-    let known = match id_of(rt.alloc(), &mut profiler, &ids, "b") {
-        Some(second) => (first, second) == (4_294_967_294, 4_294_967_295),
-        None => is_refused && first >= 4_294_967_294,
-    };
-    if !known {
-        return None;
+    if knows_first(rt.alloc(), &mut GlobalProfiler::new(rt.alloc()), &ids)? {
+        println!(rt; "ids run out behind the first").ok()
+    } else {
+        None
     }
-    println!(rt; "ids run out behind the first").ok()
 }
 
 /// Makes each of these calls.

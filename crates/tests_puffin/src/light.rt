@@ -8,15 +8,16 @@ use puffin::light::{
     StatefulRounds, Thread, in_rounds, profiled, save,
 };
 use puffin::profile_view::FrameView;
+use puffin::thread_profiler::NsSource;
 use puffin::{place, profile};
 use std::alloc::Global;
-use std::fs::File;
+use std::fs::{File, Files};
 use std::process::Abort;
 use std::sync::Wait;
 use std::{fs, io};
 
 /// The places of a function and of a part of it.
-#[derive(Drop)]
+#[derive(Clone, Copy)]
 struct Places {
     whole: Place,
     part: Place,
@@ -44,32 +45,47 @@ fn both<T: Records>(thread: &mut T, places: &Places) {
     profile!(_part, whole, places.part, "text");
 }
 
+/// Makes a scope with a child, of which nothing is reported before both have ended.
+fn nested<C: NsSource>(rt: &impl Abort, thread: &mut Thread<C, GlobalProfiler>, places: Places) {
+    profile!(whole, thread, places.whole, "text");
+    {
+        profile!(_part, whole, places.part);
+    }
+    equal(rt, whole.thread().reporter().totals().reported, 0);
+}
+
+/// Takes the frame of what was reported. Checks that nothing is left then.
+fn framed_once<R: Wait + Abort, C: NsSource>(rt: &R, thread: &mut Thread<C, GlobalProfiler>) {
+    let first = thread.new_frame(rt).expect(rt, "a frame").is_some();
+    let second = thread.new_frame(rt).expect(rt, "a frame").is_some();
+    equal(rt, (first, second), (true, false));
+    equal(rt, thread.report_closed(), Ok(false));
+}
+
 #[test]
 fn an_inner_scope_is_reported_with_the_outermost(rt: HostRuntime) {
     let (scopes, places) = registered(rt.alloc()).expect(&rt, "the places");
     let mut thread = Thread::start(rt, "main", GlobalProfiler::new(rt.alloc()), &scopes).expect(
         &rt, "a thread",
     );
-    {
-        profile!(whole, thread, places.whole, "text");
-        {
-            profile!(_part, whole, places.part);
-        }
-        equal(&rt, whole.thread().reporter().totals().reported, 0);
-    }
+    nested(&rt, &mut thread, places);
     equal(&rt, thread.reporter().totals().reported, 2);
-    equal(
-        &rt,
-        thread.new_frame(&rt).expect(&rt, "a frame").is_some(),
-        true,
-    );
-    equal(
-        &rt,
-        thread.new_frame(&rt).expect(&rt, "a frame").is_some(),
-        false,
-    );
-    equal(&rt, thread.report_closed().expect(&rt, "a report"), false);
+    framed_once(&rt, &mut thread);
     equal(&rt, thread.into_reporter().totals().emitted, 2);
+}
+
+/// Makes a scope and one with a child, and checks that none of them began.
+fn none_begins<C: NsSource>(
+    rt: &impl Abort,
+    thread: &mut Thread<C, GlobalProfiler>,
+    places: Places,
+) {
+    {
+        let guard = thread.scope(&places.whole);
+        equal(rt, guard.state(), GuardState::Off);
+    }
+    both(thread, &places);
+    equal(rt, thread.reporter().totals().reported, 0);
 }
 
 #[test]
@@ -79,15 +95,17 @@ fn scopes_that_are_off_are_not_begun(rt: HostRuntime) {
         &rt, "a thread",
     );
     thread.switch().set_scopes_on(false);
-    {
-        let guard = thread.scope(&places.whole);
-        equal(&rt, guard.state(), GuardState::Off);
-    }
-    both(&mut thread, &places);
-    equal(&rt, thread.reporter().totals().reported, 0);
+    none_begins(&rt, &mut thread, places);
     scopes.set_on(true);
     both(&mut thread, &places);
     equal(&rt, thread.reporter().totals().reported, 2);
+}
+
+/// Returns how many frames a file has.
+fn frames_in(rt: &(impl Files + AllocGlobal + Abort), name: &str) -> usize {
+    let file = File::open(rt, name).expect(rt, "a file");
+    let view = FrameView::read(rt.alloc(), &mut Counted::new(file)).expect(rt, "a view");
+    view.stats().frames()
 }
 
 #[test]
@@ -97,12 +115,7 @@ fn a_view_is_saved_and_replaced(rt: HostRuntime) {
     let (scopes, places) = registered(rt.alloc()).expect(&rt, "the places");
     let outcome = in_rounds(rt, &["a", "b"], &scopes, 1, &places).expect(&rt, "the rounds");
     save(&rt, name, &outcome.view.lock(&rt)).expect(&rt, "a saved view");
-    let view = FrameView::read(
-        rt.alloc(),
-        &mut Counted::new(File::open(&rt, name).expect(&rt, "a file")),
-    )
-    .expect(&rt, "a view");
-    equal(&rt, view.stats().frames(), 1);
+    equal(&rt, frames_in(&rt, name), 1);
     equal(
         &rt,
         fs::exists(&rt, "light.puffin.part").expect(&rt, "a folder"),
@@ -185,7 +198,7 @@ fn one_thread_two_and_64(rt: HostRuntime) {
 }
 
 /// Thread `number` makes `number` scopes, each with a child. One frame is taken.
-#[derive(Drop)]
+#[derive(Clone, Copy)]
 struct Uneven {
     places: Places,
 }
@@ -216,7 +229,7 @@ fn all_that_threads_report_is_handed_out_or_pending(rt: HostRuntime) {
 
 /// In round `n`, counted from 1, thread `number` makes `n` scopes, each with a child. After `number` rounds it makes
 /// none.
-#[derive(Drop)]
+#[derive(Clone, Copy)]
 struct Rising {
     places: Places,
 }

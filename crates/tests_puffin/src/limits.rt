@@ -56,6 +56,13 @@ fn registered(alloc: Global) -> puffin::Result<(Scopes, Place)> {
     Ok((scopes, step))
 }
 
+/// Makes a scope with a child, which has a child too.
+fn three_deep<T: Records>(thread: &mut T, step: Place) {
+    profile!(outer, thread, step);
+    profile!(inner, outer, step);
+    profile!(_third, inner, step);
+}
+
 #[test]
 fn a_scope_above_a_thread_s_limit_is_counted(rt: HostRuntime) {
     let (scopes, step) = registered(rt.alloc()).expect(&rt, "a place");
@@ -63,13 +70,7 @@ fn a_scope_above_a_thread_s_limit_is_counted(rt: HostRuntime) {
         &rt, "a thread",
     );
     thread.set_max_bytes(200);
-    {
-        profile!(outer, thread, step);
-        {
-            profile!(inner, outer, step);
-            profile!(_third, inner, step);
-        }
-    }
+    three_deep(&mut thread, step);
     equal(&rt, thread.num_refused(), 1);
     equal(&rt, thread.reporter().totals().reported, 2);
 }

@@ -2,11 +2,12 @@
 
 use crate::equal::equal;
 use puffin::frame_data::FrameData;
-use puffin::global_profiler::Settled;
+use puffin::global_profiler::{GlobalFrameView, Settled};
 use puffin::light::{Frames, Place, Pool, Records, Scopes, Settings, ThreadCounts, pooled};
 use puffin::{place, profile};
 use std::alloc::Global;
 use std::io;
+use std::process::Abort;
 use std::sync::atomic::{AtomicUsize, Ordering};
 use std::sync::{Barrier, Wait};
 
@@ -109,6 +110,17 @@ fn sum(threads: &[ThreadCounts]) -> (u64, u64, u64) {
     sums
 }
 
+/// Checks that the latest frame of a view has the scopes of a hundred jobs, each under its name.
+fn has_a_hundred<R: AllocGlobal + Wait + Abort>(rt: &R, view: &GlobalFrameView) {
+    let view = view.lock(rt);
+    let frame = view.latest_frame().expect(rt, "a frame");
+    for number in 0..100 {
+        let name = format!(in rt.alloc(); "job {number}").expect(rt, "memory");
+        let wanted = if number % 2 == 0 { 2 } else { 1 };
+        equal(rt, num_scopes(frame, &name), Some(wanted));
+    }
+}
+
 #[test]
 fn a_hundred_jobs_of_four_threads_have_their_own_names(rt: HostRuntime) {
     let (scopes, jobs) = Jobs::new(rt.alloc(), 100, 4, None).expect(&rt, "the jobs");
@@ -122,16 +134,7 @@ fn a_hundred_jobs_of_four_threads_have_their_own_names(rt: HostRuntime) {
     };
     equal(&rt, outcome.settled, settled);
     equal(&rt, outcome.failed.is_none(), true);
-    let view = outcome.view.lock(&rt);
-    let frame = view.latest_frame().expect(&rt, "a frame");
-    for number in 0..100 {
-        let name = format!(in rt.alloc(); "job {number}").expect(&rt, "memory");
-        equal(
-            &rt,
-            num_scopes(frame, &name),
-            Some(if number % 2 == 0 { 2 } else { 1 }),
-        );
-    }
+    has_a_hundred(&rt, &outcome.view);
 }
 
 #[test]

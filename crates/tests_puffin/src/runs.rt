@@ -1,7 +1,7 @@
 //! What a run of several threads is set to, and threads that fail.
 
 use crate::equal::equal;
-use puffin::global_profiler::{Emitted, Settled};
+use puffin::global_profiler::{Emitted, GlobalFrameView, Settled};
 use puffin::light::{
     Failed, Frames, Place, Program, Records, Rounds, Scopes, Settings, StatefulRounds, in_rounds,
     profiled,
@@ -10,6 +10,7 @@ use puffin::profile_view::FrameView;
 use puffin::{Result, place, profile};
 use std::alloc::Global;
 use std::io;
+use std::process::Abort;
 use std::sync::Wait;
 use std::sync::atomic::{AtomicUsize, Ordering};
 
@@ -146,6 +147,16 @@ impl Rounds for Short {
     }
 }
 
+/// Checks that a view has two recent frames, one of them slow, and that none is packed.
+fn keeps_two<R: Wait + Abort>(rt: &R, view: &GlobalFrameView) {
+    let view = view.lock(rt);
+    let recent = view.recent_frames().count();
+    let slow = view.slowest_frames_chronological().count();
+    equal(rt, (recent, slow), (2, 1));
+    let mut frames = view.recent_frames();
+    equal(rt, frames.all(|frame| frame.as_unpacked().is_some()), true);
+}
+
 #[test]
 fn a_view_keeps_as_many_frames_as_it_is_set_to(rt: HostRuntime) {
     let (scopes, step) = registered(rt.alloc()).expect(&rt, "a place");
@@ -154,21 +165,7 @@ fn a_view_keeps_as_many_frames_as_it_is_set_to(rt: HostRuntime) {
         listed: AtomicUsize::new(0),
     };
     let outcome = in_rounds(rt, &["a"], &scopes, 5, &short).expect(&rt, "the rounds");
-    let view = outcome.view.lock(&rt);
-    let (mut recent, mut slow) = (0_usize, 0_usize);
-    for _frame in view.recent_frames() {
-        recent = recent.saturating_add(1);
-    }
-    for _frame in view.slowest_frames_chronological() {
-        slow = slow.saturating_add(1);
-    }
-    equal(&rt, (recent, slow), (2, 1));
-    equal(
-        &rt,
-        view.recent_frames()
-            .all(|frame| frame.as_unpacked().is_some()),
-        true,
-    );
+    keeps_two(&rt, &outcome.view);
     equal(&rt, short.listed.load(Ordering::SeqCst), 5);
 }
 

@@ -110,14 +110,19 @@ fn none_is_called<R: Wait + Abort>(rt: &R, profiler: &mut GlobalProfiler, handed
     equal(rt, notes(rt, handed).len(), 2);
 }
 
+/// Removes the second sink.
+fn remove_second(rt: &impl Abort, profiler: &mut GlobalProfiler, ids: &[FrameSinkId]) {
+    let second = *ids.get(1).expect(rt, "a second sink");
+    assert!(rt; profiler.remove_sink(second).is_some());
+}
+
 #[test]
 fn a_sink_that_refuses_is_counted_and_the_next_is_called(rt: HostRuntime) {
     let handed = nothing_handed(&rt);
     let sinks = sinks_named!(rt, &handed, 3u64, 1u64);
     let mut profiler = GlobalProfiler::new(rt.alloc());
     let ids = all_added(&rt, &mut profiler, sinks);
-    let second = *ids.get(1).expect(&rt, "a second sink");
-    assert!(rt; profiler.remove_sink(second).is_some());
+    remove_second(&rt, &mut profiler, &ids);
     one_refuses(&rt, &mut profiler, &handed);
     none_is_called(&rt, &mut profiler, &handed);
 }

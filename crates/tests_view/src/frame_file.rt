@@ -56,6 +56,14 @@ fn are_given(
     assert!(rt; found.as_slice() == indices && end == refusal);
 }
 
+/// A reader gives one frame, and then its end as often as it is asked.
+fn has_one_frame<S: Source>(rt: &impl Abort, reader: &mut FrameReader<S>) {
+    for expected in &[Some(0), None, None] {
+        let index = next_index(reader).expect(rt, "a frame");
+        assert!(rt; index == *expected);
+    }
+}
+
 #[test]
 fn a_file_is_read_one_frame_at_a_time(rt: HostRuntime) {
     let bytes = bytes_of(rt.alloc(), &[&FILE[..ONE_FRAME], &[0, 0, 0, 0], b"more"]).expect(
@@ -64,16 +72,10 @@ fn a_file_is_read_one_frame_at_a_time(rt: HostRuntime) {
     let mut reader = FrameReader::new(rt.alloc(), Counted::new(bytes.as_slice())).expect(
         &rt, "a file",
     );
-    let first = reader.next().expect(&rt, "a frame");
-    assert!(rt; index_of(&first) == Some(0));
-    let end = reader.next().expect(&rt, "a frame");
-    assert!(rt; end.is_none());
-    let behind = reader.next().expect(&rt, "a frame");
-    assert!(rt; behind.is_none());
+    has_one_frame(&rt, &mut reader);
     // What stands behind the end is left.
-    let mut source = reader.into_source();
     let mut left = [0; 6];
-    let count = source.read(&mut left).expect(&rt, "bytes");
+    let count = reader.into_source().read(&mut left).expect(&rt, "bytes");
     assert!(rt; (count, left) == (4, *b"more\0\0"));
 }
 
@@ -127,6 +129,16 @@ fn a_file_that_is_cut_gives_its_whole_frames(rt: HostRuntime) {
     }
 }
 
+/// A reader gives frame 0, and then a fault, before which it counts one frame.
+fn has_a_newer_frame<S: Source>(rt: &impl Abort, reader: &mut FrameReader<S>) {
+    assert!(rt; reader.num_frames() == 0);
+    let first = next_index(reader).expect(rt, "a frame");
+    assert!(rt; first == Some(0));
+    let fault = next_index(reader).err();
+    assert!(rt; fault == Some(FileError::Newer));
+    assert!(rt; reader.num_frames() == 1);
+}
+
 #[test]
 fn a_fault_has_its_frame_and_its_place(rt: HostRuntime) {
     let newer = bytes_of(rt.alloc(), &[&FILE[..ONE_FRAME], b"PFD9", &FILE[83..]]).expect(
@@ -135,13 +147,8 @@ fn a_fault_has_its_frame_and_its_place(rt: HostRuntime) {
     let mut reader = FrameReader::new(rt.alloc(), Counted::new(newer.as_slice())).expect(
         &rt, "a file",
     );
-    assert!(rt; reader.num_frames() == 0);
-    let first = reader.next().expect(&rt, "a frame");
-    assert!(rt; index_of(&first) == Some(0));
-    let fault = reader.next().err();
-    assert!(rt; fault == Some(FileError::Newer));
-    // One frame was read, so the fault is in the second, whose letters are the last bytes that were read.
-    assert!(rt; reader.num_frames() == 1);
+    has_a_newer_frame(&rt, &mut reader);
+    // The letters of the second frame are the last bytes that were read.
     let left = reader.into_source().into_inner();
     assert!(rt; newer.len() - left.len() == ONE_FRAME + 4);
 }

@@ -227,15 +227,18 @@ fn are_latest(view: &FrameView, count: usize, indices: &[FrameIndex]) -> bool {
     rest.next().is_none()
 }
 
-#[test]
-fn the_latest_frames_are_the_last_ones(rt: HostRuntime) {
-    let frames = view(&rt, 1000, 256, &[1, 1, 1]);
-    assert!(rt; are_latest(&frames, 0, &[]));
-    assert!(rt; are_latest(&frames, 1, &[2]));
-    assert!(rt; are_latest(&frames, 2, &[1, 2]));
-    assert!(rt; are_latest(&frames, 4, &[0, 1, 2]));
+/// A view of three frames gives no, one, two or all of them as the latest. It packs frames, and knows no scope.
+fn has_three(rt: &impl Abort, frames: &FrameView) {
+    for (count, indices) in &[(0, [].as_slice()), (1, &[2]), (2, &[1, 2]), (4, &[0, 1, 2])] {
+        assert!(rt; are_latest(frames, *count, indices));
+    }
     assert!(rt; frames.pack_frames() && !frames.is_empty());
     assert!(rt; frames.scope_collection().scopes_by_id().is_empty());
+}
+
+#[test]
+fn the_latest_frames_are_the_last_ones(rt: HostRuntime) {
+    has_three(&rt, &view(&rt, 1000, 256, &[1, 1, 1]));
 }
 
 #[test]
@@ -246,21 +249,35 @@ fn cleared_statistics_are_zeros(rt: HostRuntime) {
     assert!(rt; numbers(stats) == (0, 0, 0));
 }
 
+/// Frames of these durations, from index 0 on.
+fn frames_of(rt: &(impl AllocGlobal + Abort), durations: &[NanoSecond]) -> Vec<Arc<FrameData>> {
+    let mut frames = Vec::new(rt.alloc());
+    for index in 0..durations.len() {
+        let frame = frame(rt, index as u64, durations[index]);
+        frames.push(frame).expect(rt, "memory");
+    }
+    frames
+}
+
+/// The slowest of these frames, `count` at most, have these indices.
+fn are_selected(
+    rt: &(impl AllocGlobal + Abort),
+    frames: &[Arc<FrameData>],
+    count: usize,
+    indices: &[FrameIndex],
+) {
+    let chosen = select_slowest(rt.alloc(), frames, count).expect(rt, "memory");
+    assert!(rt; chosen.len() == indices.len());
+    for place in 0..indices.len() {
+        assert!(rt; chosen[place].frame_index() == indices[place]);
+    }
+}
+
 #[test]
 fn selections_are_by_index(rt: HostRuntime) {
-    let mut frames = Vec::new(rt.alloc());
-    for (index, duration) in &[(0, 5), (1, 9), (2, 7), (3, 9)] {
-        frames
-            .push(frame(&rt, *index, *duration))
-            .expect(&rt, "memory");
-    }
-    let chosen = select_slowest(rt.alloc(), &frames, 3).expect(&rt, "a frame");
-    assert!(rt; chosen.len() == 3);
-    for place in 0..3 {
-        assert!(rt; chosen[place].frame_index() == place as u64 + 1);
-    }
-    let none = select_slowest(rt.alloc(), &frames, 0).expect(&rt, "a frame");
-    assert!(rt; none.is_empty());
+    let frames = frames_of(&rt, &[5, 9, 7, 9]);
+    are_selected(&rt, &frames, 3, &[1, 2, 3]);
+    are_selected(&rt, &frames, 0, &[]);
 }
 
 /// Two recent frames, the first of which lists a scope, and a slow one. All three are unpacked.
@@ -295,18 +312,26 @@ fn is_telling(view: &FrameView) -> bool {
         && numbers(view.stats()) == numbers(view.stats_full())
 }
 
+/// A copy knows how slow its slowest frame is.
+fn knows_its_slowest(rt: &(impl AllocGlobal + Abort), copy: &mut FrameView) {
+    are_recent(rt, copy, &[3, 4]);
+    are_slowest(rt, copy, &[0]);
+    add(rt, copy, 5, 8);
+    are_all(rt, copy, &[0, 4, 5]);
+}
+
+/// A copy knows which index it took last.
+fn knows_its_last(rt: &(impl AllocGlobal + Abort), copy: &mut FrameView) {
+    add(rt, copy, 4, 1);
+    are_all(rt, copy, &[4]);
+}
+
 #[test]
 fn copies_of_views(rt: HostRuntime) {
     let mut copy = copied(&rt);
     assert!(rt; is_telling(&copy) && copy.stats().frames() == 3);
-    are_recent(&rt, &copy, &[3, 4]);
-    are_slowest(&rt, &copy, &[0]);
-    // The copy knows how slow its slowest frame is, and which index it took last.
-    add(&rt, &mut copy, 5, 8);
-    are_all(&rt, &copy, &[0, 4, 5]);
-    let mut other = copied(&rt);
-    add(&rt, &mut other, 4, 1);
-    are_all(&rt, &other, &[4]);
+    knows_its_slowest(&rt, &mut copy);
+    knows_its_last(&rt, &mut copied(&rt));
 }
 
 /// Details with the id 7, and details without an id.
@@ -328,23 +353,31 @@ fn has_one_frame_and_no_scope(rt: &(impl AllocGlobal + Abort), frames: &FrameVie
     assert!(rt; empty && numbers(frames.stats()) == (1, 1, 31));
 }
 
+/// A frame with this index that lists these details, one of which has no id, is refused.
+fn is_refused(
+    rt: &(impl AllocGlobal + Abort),
+    frames: &mut FrameView,
+    index: FrameIndex,
+    details: Vec<Arc<ScopeDetails>>,
+) {
+    let refused = frames.add_frame(telling_frame(rt, index, 1, details)).err();
+    assert!(rt; refused == Some(Error::MissingId));
+    has_one_frame_and_no_scope(rt, frames);
+}
+
+/// A frame that lists the details with an id alone is taken.
+fn is_taken(rt: &(impl AllocGlobal + Abort), frames: &mut FrameView) {
+    let mut details = two_details(rt);
+    let _no_id = details.pop();
+    let frame = telling_frame(rt, 1, 1, details);
+    frames.add_frame(frame).expect(rt, "a frame");
+    assert!(rt; frames.scope_collection().scopes_by_id().len() == 1);
+}
+
 #[test]
 fn details_without_an_id_change_nothing(rt: HostRuntime) {
     let mut frames = view(&rt, 1000, 256, &[1]);
-    let mut details = two_details(&rt);
-    for index in &[0, 1] {
-        let refused = frames.add_frame(telling_frame(
-            &rt,
-            *index,
-            1,
-            details.clone().expect(&rt, "memory"),
-        ));
-        assert!(rt; refused.err() == Some(Error::MissingId));
-        has_one_frame_and_no_scope(&rt, &frames);
-    }
-    let _no_id = details.pop();
-    frames
-        .add_frame(telling_frame(&rt, 1, 1, details))
-        .expect(&rt, "a frame");
-    assert!(rt; frames.scope_collection().scopes_by_id().len() == 1);
+    is_refused(&rt, &mut frames, 0, two_details(&rt));
+    is_refused(&rt, &mut frames, 1, two_details(&rt));
+    is_taken(&rt, &mut frames);
 }
