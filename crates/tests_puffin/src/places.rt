@@ -115,7 +115,7 @@ struct Foreign {
 }
 
 /// Registers a place in new scopes, and one in others.
-fn foreign(alloc: Global) -> puffin::Result<(Scopes, Foreign)> {
+fn own_and_other(alloc: Global) -> puffin::Result<(Scopes, Foreign)> {
     let (_others, places) = registered(alloc)?;
     let mut scopes = Scopes::new(alloc)?;
     let own = place!(scopes, "own")?;
@@ -136,7 +136,7 @@ impl Rounds for Foreign {
 
 #[test]
 fn a_program_counts_the_scopes_that_are_refused(rt: HostRuntime) {
-    let (scopes, foreign) = foreign(rt.alloc()).expect(&rt, "the places");
+    let (scopes, foreign) = own_and_other(rt.alloc()).expect(&rt, "the places");
     let outcome = in_rounds(rt, &["a", "b"], &scopes, 3, &foreign).expect(&rt, "the rounds");
     let refused = ThreadCounts {
         reported: 0,
