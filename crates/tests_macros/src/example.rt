@@ -69,23 +69,24 @@ fn has_both(rt: &impl Abort, profiler: &mut GlobalProfiler, index: u64, told: us
     equal(rt, counts(&frame), (2, 62, told));
 }
 
+/// Loads a file while the switch is off, and then twice while it is on, each time with a frame of its own.
+fn loads(
+    rt: &impl Abort,
+    thread: &mut ThreadProfiler<ScriptClock>,
+    scopes: &Scopes,
+    profiler: &mut GlobalProfiler,
+) {
+    equal(rt, reports(rt, thread, scopes, profiler), Ok(false));
+    scopes.switch.set_scopes_on(true);
+    for (index, told) in &[(0, 2), (1, 0)] {
+        equal(rt, reports(rt, thread, scopes, profiler), Ok(true));
+        has_both(rt, profiler, *index, *told);
+    }
+}
+
 #[test]
 fn a_function_and_a_scope_in_it(rt: HostRuntime) {
     let mut profiler = GlobalProfiler::new(rt.alloc());
     let mut thread = main_thread(rt.alloc()).expect(&rt, "memory");
-    let scopes = Scopes::new();
-    equal(
-        &rt,
-        reports(&rt, &mut thread, &scopes, &mut profiler),
-        Ok(false),
-    );
-    scopes.switch.set_scopes_on(true);
-    for (index, told) in [(0, 2), (1, 0)] {
-        equal(
-            &rt,
-            reports(&rt, &mut thread, &scopes, &mut profiler),
-            Ok(true),
-        );
-        has_both(&rt, &mut profiler, index, told);
-    }
+    loads(&rt, &mut thread, &Scopes::new(), &mut profiler);
 }

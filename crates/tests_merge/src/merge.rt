@@ -1,12 +1,13 @@
 use crate::equal::equal;
 use puffin_data::data::{Counted, Stream, StreamInfo};
 use puffin_data::{FileError, NanoSecond, Result};
-use puffin_frames::frame_data::UnpackedFrameData;
+use puffin_frames::frame_data::{FrameData, UnpackedFrameData};
 use puffin_merge::merge::{MergeScope, merge_scopes_counted, merge_scopes_for_thread};
 use puffin_threads::scope_details::ScopeCollection;
 use puffin_threads::thread_profiler::ThreadInfo;
 use puffin_view::profile_view::FrameView;
 use std::alloc::Global;
+use std::process::Abort;
 use std::sync::Arc;
 use tests_support::frames::{one_stream, packet_thread};
 use tests_support::streams::{end, id};
@@ -86,7 +87,7 @@ fn numbers(scope: &MergeScope) -> Numbers {
 }
 
 /// The numbers of three levels, parents before children.
-pub(crate) fn all_numbers(alloc: Global, merged: &[MergeScope]) -> Result<Vec<Numbers>> {
+fn all_numbers(alloc: Global, merged: &[MergeScope]) -> Result<Vec<Numbers>> {
     let mut seen = Vec::new(alloc);
     for top in merged {
         seen.push(numbers(top))?;
@@ -100,33 +101,45 @@ pub(crate) fn all_numbers(alloc: Global, merged: &[MergeScope]) -> Result<Vec<Nu
     Ok(seen)
 }
 
+/// The merged scopes have these numbers.
+pub(crate) fn have_numbers(
+    rt: &(impl AllocGlobal + Abort),
+    merged: &[MergeScope],
+    numbers: &[Numbers],
+) {
+    let found = all_numbers(rt.alloc(), merged).expect(rt, "memory");
+    equal(rt, found.as_slice(), numbers);
+}
+
+/// Appends a scope, and one with two children, of which the second has a child.
+fn append(stream: &mut Stream, n: NanoSecond) -> Result<()> {
+    leaf(stream, 1, n + 100, n + 200)?;
+    let two = begin(stream, 2, n + 200, "")?;
+    leaf(stream, 3, n + 400, n + 600)?;
+    let four = begin(stream, 4, n + 600, "")?;
+    leaf(stream, 5, n + 600, n + 700)?;
+    end(stream, four, n + 800)?;
+    end(stream, two, n + 900)
+}
+
 #[test]
 fn scopes_within_scopes(rt: HostRuntime) {
     let alloc = rt.alloc();
     let mut stream = Stream::new(alloc);
-    for n in [0, 1000] {
-        leaf(&mut stream, 1, n + 100, n + 200).expect(&rt, "a scope");
-        let two = begin(&mut stream, 2, n + 200, "").expect(&rt, "a scope");
-        leaf(&mut stream, 3, n + 400, n + 600).expect(&rt, "a scope");
-        let four = begin(&mut stream, 4, n + 600, "").expect(&rt, "a scope");
-        leaf(&mut stream, 5, n + 600, n + 700).expect(&rt, "a scope");
-        end(&mut stream, four, n + 800).expect(&rt, "a scope");
-        end(&mut stream, two, n + 900).expect(&rt, "a scope");
-    }
+    append(&mut stream, 0).expect(&rt, "scopes");
+    append(&mut stream, 1000).expect(&rt, "scopes");
     let frames = one_frame(alloc, stream).expect(&rt, "a frame");
     let merged = merged(alloc, &frames).expect(&rt, "scopes");
-    equal(
+    have_numbers(
         &rt,
-        all_numbers(alloc, merged.as_slice())
-            .expect(&rt, "memory")
-            .as_slice(),
+        &merged,
         &[
             (1, 100, 200, 200, 100, 2),
             (2, 300, 1400, 1400, 700, 2),
             (3, 200, 400, 400, 200, 2),
             (4, 600, 400, 400, 200, 2),
             (5, 0, 200, 200, 100, 2),
-        ][..],
+        ],
     );
 }
 
@@ -180,12 +193,10 @@ fn a_child_that_starts_before_its_parent(rt: HostRuntime) {
     end(&mut stream, parent, 200).expect(&rt, "a scope");
     let frames = one_frame(alloc, stream).expect(&rt, "a frame");
     let merged = merged(alloc, &frames).expect(&rt, "scopes");
-    equal(
+    have_numbers(
         &rt,
-        all_numbers(alloc, merged.as_slice())
-            .expect(&rt, "memory")
-            .as_slice(),
-        &[(1, 100, 100, 100, 100, 1), (2, 0, 55, 55, 55, 1)][..],
+        &merged,
+        &[(1, 100, 100, 100, 100, 1), (2, 0, 55, 55, 55, 1)],
     );
 }
 
@@ -200,13 +211,7 @@ fn a_scope_of_one_of_two_frames(rt: HostRuntime) {
         .push(one_scope(alloc, 2, 100, 101).expect(&rt, "a frame"))
         .expect(&rt, "memory");
     let merged = merged(alloc, &frames).expect(&rt, "scopes");
-    equal(
-        &rt,
-        all_numbers(alloc, merged.as_slice())
-            .expect(&rt, "memory")
-            .as_slice(),
-        &[(1, 10, 5, 2, 5, 1), (2, 12, 1, 0, 1, 1)][..],
-    );
+    have_numbers(&rt, &merged, &[(1, 10, 5, 2, 5, 1), (2, 12, 1, 0, 1, 1)]);
 }
 
 #[test]
@@ -223,13 +228,7 @@ fn a_frame_without_the_thread_counts(rt: HostRuntime) {
         .push(frame_of(alloc, other, stream).expect(&rt, "a frame"))
         .expect(&rt, "memory");
     let merged = merged(alloc, &frames).expect(&rt, "scopes");
-    equal(
-        &rt,
-        all_numbers(alloc, merged.as_slice())
-            .expect(&rt, "memory")
-            .as_slice(),
-        &[(1, 10, 5, 2, 5, 1)][..],
-    );
+    have_numbers(&rt, &merged, &[(1, 10, 5, 2, 5, 1)]);
 }
 
 #[test]
@@ -254,6 +253,15 @@ fn no_frames_and_no_stream(rt: HostRuntime) {
     equal(&rt, tries, 0);
 }
 
+/// Two merged scopes, the second of two pieces, are told apart by their texts.
+fn are_apart(rt: &impl Abort, merged: &[MergeScope]) {
+    equal(rt, merged.len(), 2);
+    let first = merged.first().expect(rt, "a scope");
+    let second = merged.last().expect(rt, "a scope");
+    equal(rt, (first.text.as_str(), second.text.as_str()), ("a", "b"));
+    equal(rt, numbers(second), (1, 4, 2, 2, 1, 2));
+}
+
 #[test]
 fn texts_and_ids_tell_siblings_apart(rt: HostRuntime) {
     let alloc = rt.alloc();
@@ -263,39 +271,38 @@ fn texts_and_ids_tell_siblings_apart(rt: HostRuntime) {
         end(&mut stream, offset, 4).expect(&rt, "a scope");
     }
     let frames = one_frame(alloc, stream).expect(&rt, "a frame");
-    let merged = merged(alloc, &frames).expect(&rt, "scopes");
-    equal(&rt, merged.len(), 2);
-    let first = merged.first().expect(&rt, "a scope");
-    let second = merged.last().expect(&rt, "a scope");
-    equal(&rt, first.text.as_str(), "a");
-    equal(&rt, second.text.as_str(), "b");
-    equal(&rt, numbers(second), (1, 4, 2, 2, 1, 2));
+    are_apart(&rt, &merged(alloc, &frames).expect(&rt, "scopes"));
+}
+
+/// Three frames of one scope each.
+fn three(alloc: Global) -> Result<Frames> {
+    let mut frames = Vec::new(alloc);
+    for _ in 0..3 {
+        frames.push(one_scope(alloc, 1, 100, 300)?)?;
+    }
+    Ok(frames)
 }
 
 #[test]
 fn tries_are_counted(rt: HostRuntime) {
     let alloc = rt.alloc();
-    let mut frames = Vec::new(alloc);
-    for _ in 0..3 {
-        let mut stream = Stream::new(alloc);
-        let offset = begin(&mut stream, 1, 100, "data").expect(&rt, "a scope");
-        end(&mut stream, offset, 300).expect(&rt, "a scope");
-        frames
-            .push(frame(alloc, stream).expect(&rt, "a frame"))
-            .expect(&rt, "memory");
-    }
+    let frames = three(alloc).expect(&rt, "frames");
+    let thread = thread(alloc).expect(&rt, "memory");
     let collection = ScopeCollection::new(alloc);
     let mut tries = 0;
-    let merged = merge_scopes_counted(
-        alloc,
-        &collection,
-        frames.as_slice(),
-        &thread(alloc).expect(&rt, "memory"),
-        &mut tries,
-    )
-    .expect(&rt, "scopes");
-    equal(&rt, merged.len(), 1);
+    let merged = merge_scopes_counted(alloc, &collection, &frames, &thread, &mut tries);
+    equal(&rt, merged.expect(&rt, "scopes").len(), 1);
     equal(&rt, tries, 3);
+}
+
+/// A scope's copy is equal to it, and so is what it owns of its texts.
+fn is_copied(rt: &(impl AllocGlobal + Abort), scope: MergeScope) {
+    let copy = scope.clone().expect(rt, "memory");
+    equal(rt, &copy, &scope);
+    let owned = scope.into_owned(rt.alloc()).expect(rt, "memory");
+    equal(rt, owned.text.as_str(), "outer");
+    equal(rt, numbers(&owned), numbers(&copy));
+    equal(rt, owned.children.len(), 1);
 }
 
 #[test]
@@ -309,12 +316,7 @@ fn copies(rt: HostRuntime) {
     let merged = merged(alloc, &frames).expect(&rt, "scopes");
     equal(&rt, merged.len(), 1);
     for scope in merged {
-        let copy = scope.clone().expect(&rt, "memory");
-        equal(&rt, &copy, &scope);
-        let owned = scope.into_owned(alloc).expect(&rt, "memory");
-        equal(&rt, owned.text.as_str(), "outer");
-        equal(&rt, numbers(&owned), numbers(&copy));
-        equal(&rt, owned.children.len(), 1);
+        is_copied(&rt, scope);
     }
 }
 
@@ -340,17 +342,36 @@ const FILE: [u8; 477] = [
     0, 41, 2, 8, 0, 0, 0, 0, 0, 0, 3, 2, 251, 160, 15, 251, 4, 16, 1, 0, 0, 0, 0,
 ];
 
+/// The streams of a frame, unpacked.
+fn unpacked(frame: &FrameData) -> std::result::Result<Arc<UnpackedFrameData>, FileError> {
+    match frame.packed_copy() {
+        Ok(mut copy) => copy.unpacked(),
+        Err(_) => Err(FileError::Memory),
+    }
+}
+
+/// The frames of a view, unpacked.
+fn frames_of(alloc: Global, view: &FrameView) -> std::result::Result<Frames, FileError> {
+    let mut frames = Vec::new(alloc);
+    for frame in view.all_uniq() {
+        frames.push(unpacked(frame)?)?;
+    }
+    Ok(frames)
+}
+
 /// The frames of the file.
 fn frames_of_file(alloc: Global) -> std::result::Result<Frames, FileError> {
     let view = FrameView::read(alloc, &mut Counted::new(&FILE[..]))?;
-    let mut frames = Vec::new(alloc);
-    for frame in view.all_uniq() {
-        match frame.packed_copy() {
-            Ok(mut copy) => frames.push(copy.unpacked()?)?,
-            Err(_) => return Err(FileError::Memory),
-        }
-    }
-    Ok(frames)
+    frames_of(alloc, &view)
+}
+
+/// The first scope has two children, with the texts `a` and `b`.
+fn has_two_children(rt: &impl Abort, merged: &[MergeScope]) {
+    let children = &merged.first().expect(rt, "a scope").children;
+    let first = children.first().expect(rt, "a child");
+    let second = children.last().expect(rt, "a child");
+    equal(rt, children.len(), 2);
+    equal(rt, (first.text.as_str(), second.text.as_str()), ("a", "b"));
 }
 
 #[test]
@@ -362,23 +383,16 @@ fn a_file_of_the_rust_crate(rt: HostRuntime) {
     let merged = merge_scopes_for_thread(alloc, &collection, frames.as_slice(), &info).expect(
         &rt, "scopes",
     );
-    equal(
+    have_numbers(
         &rt,
-        all_numbers(alloc, merged.as_slice())
-            .expect(&rt, "memory")
-            .as_slice(),
+        &merged,
         &[
             (1, 100, 240, 80, 100, 3),
             (2, 10, 41, 13, 40, 2),
             (2, 23, 41, 13, 21, 2),
             (4, 5, 5, 1, 5, 1),
             (3, 180, 81, 27, 41, 3),
-        ][..],
+        ],
     );
-    let top = merged.first().expect(&rt, "a scope");
-    let first = top.children.first().expect(&rt, "a child");
-    let second = top.children.last().expect(&rt, "a child");
-    equal(&rt, top.children.len(), 2);
-    equal(&rt, first.text.as_str(), "a");
-    equal(&rt, second.text.as_str(), "b");
+    has_two_children(&rt, &merged);
 }

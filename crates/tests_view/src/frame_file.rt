@@ -204,12 +204,12 @@ fn written_frames(
 
 #[test]
 fn a_file_is_written_one_frame_at_a_time(rt: HostRuntime) {
-    for len in [4, ONE_FRAME, FILE.len()] {
-        let (bytes, faults) = written_frames(rt.alloc(), &view(&rt, &FILE[..len])).expect(
+    for len in &[4, ONE_FRAME, FILE.len()] {
+        let (bytes, faults) = written_frames(rt.alloc(), &view(&rt, &FILE[..*len])).expect(
             &rt, "frames",
         );
         assert!(rt; faults == 0);
-        assert!(rt; Some(bytes.as_slice()) == FILE.get(..len));
+        assert!(rt; Some(bytes.as_slice()) == FILE.get(..*len));
     }
 }
 
