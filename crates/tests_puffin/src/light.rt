@@ -54,14 +54,6 @@ fn nested<C: NsSource>(rt: &impl Abort, thread: &mut Thread<C, GlobalProfiler>, 
     equal(rt, whole.thread().reporter().totals().reported, 0);
 }
 
-/// Takes the frame of what was reported. Checks that nothing is left then.
-fn framed_once<R: Wait + Abort, C: NsSource>(rt: &R, thread: &mut Thread<C, GlobalProfiler>) {
-    let first = thread.new_frame(rt).expect(rt, "a frame").is_some();
-    let second = thread.new_frame(rt).expect(rt, "a frame").is_some();
-    equal(rt, (first, second), (true, false));
-    equal(rt, thread.report_closed(), Ok(false));
-}
-
 #[test]
 fn an_inner_scope_is_reported_with_the_outermost(rt: HostRuntime) {
     let (scopes, places) = registered(rt.alloc()).expect(&rt, "the places");
@@ -70,7 +62,10 @@ fn an_inner_scope_is_reported_with_the_outermost(rt: HostRuntime) {
     );
     nested(&rt, &mut thread, places);
     equal(&rt, thread.reporter().totals().reported, 2);
-    framed_once(&rt, &mut thread);
+    let first = thread.new_frame(&rt).expect(&rt, "a frame").is_some();
+    let second = thread.new_frame(&rt).expect(&rt, "a frame").is_some();
+    equal(&rt, (first, second), (true, false));
+    equal(&rt, thread.report_closed(), Ok(false));
     equal(&rt, thread.into_reporter().totals().emitted, 2);
 }
 

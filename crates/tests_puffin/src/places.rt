@@ -3,12 +3,12 @@
 use crate::equal::equal;
 use crate::sinks::added;
 use puffin::data::StreamInfoRef;
-use puffin::frame_data::{FrameData, FrameIndex};
+use puffin::frame_data::FrameIndex;
 use puffin::global_profiler::{GlobalProfiler, Sink};
 use puffin::light::{GuardState, Place, Records, Rounds, Scopes, Thread, ThreadCounts, in_rounds};
 use puffin::profile_view::FrameView;
 use puffin::scope_details::ScopeDetails;
-use puffin::thread_profiler::{NsSource, Reporter, ScriptClock, ThreadInfo, ThreadProfiler};
+use puffin::thread_profiler::{Reporter, ScriptClock, ThreadInfo, ThreadProfiler};
 use puffin::{Error, place, profile};
 use std::alloc::Global;
 use std::io;
@@ -34,7 +34,7 @@ fn registered(alloc: Global) -> puffin::Result<(Scopes, Places)> {
 }
 
 /// Checks the numbers of the places, and the details of their scopes.
-fn are_numbered(rt: &impl Abort, scopes: &Scopes, places: Places) {
+fn are_numbered(rt: &impl Abort, scopes: &Scopes, places: &Places) {
     equal(
         rt,
         (places.load.id().get(), places.paint.id().get()),
@@ -47,29 +47,20 @@ fn are_numbered(rt: &impl Abort, scopes: &Scopes, places: Places) {
     equal(rt, paint.function_name.as_str(), "paint");
 }
 
-/// Makes a scope at a place, and takes the frame that has it.
-fn framed<R: Wait + Abort, C: NsSource>(
-    rt: &R,
-    thread: &mut Thread<C, GlobalProfiler>,
-    place: Place,
-) -> Arc<FrameData> {
-    {
-        profile!(_scope, thread, place);
-    }
-    thread
-        .new_frame(rt)
-        .expect(rt, "memory")
-        .expect(rt, "a frame")
-}
-
 #[test]
 fn a_first_frame_lists_the_places_by_number_and_name(rt: HostRuntime) {
     let (scopes, places) = registered(rt.alloc()).expect(&rt, "the places");
-    are_numbered(&rt, &scopes, places);
+    are_numbered(&rt, &scopes, &places);
     let mut thread = Thread::start(rt, "main", GlobalProfiler::new(rt.alloc()), &scopes).expect(
         &rt, "a thread",
     );
-    let frame = framed(&rt, &mut thread, places.paint);
+    {
+        profile!(_paint, thread, places.paint);
+    }
+    let frame = thread
+        .new_frame(&rt)
+        .expect(&rt, "memory")
+        .expect(&rt, "a frame");
     equal(&rt, lists(&frame, &[(1, "load"), (2, "pixels")]), true);
 }
 
@@ -211,6 +202,12 @@ fn a_thread_s_frame_reaches_the_profiler_s_sinks(rt: HostRuntime) {
     let mut profiler = GlobalProfiler::new(rt.alloc());
     let _id = added(&rt, &mut profiler, sink);
     let mut thread = Thread::start(rt, "main", profiler, &scopes).expect(&rt, "a thread");
-    let index = framed(&rt, &mut thread, places.load).frame_index();
-    has_latest(&rt, &view, index);
+    {
+        profile!(_load, thread, places.load);
+    }
+    let frame = thread
+        .new_frame(&rt)
+        .expect(&rt, "memory")
+        .expect(&rt, "a frame");
+    has_latest(&rt, &view, frame.frame_index());
 }
