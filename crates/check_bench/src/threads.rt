@@ -64,7 +64,7 @@ fn reported<L: Ledger, M: Ledger, R: Wait>(
 }
 
 /// Waits until the lock is free, and then makes all reports of a thread.
-fn lap<L: Ledger, M: Ledger, R: Wait + Clock>(
+fn timed_reports<L: Ledger, M: Ledger, R: Wait + Clock>(
     rt: &R,
     alloc: Global,
     profiler: &SharedProfiler<L, M>,
@@ -91,7 +91,7 @@ fn report_all<L: Ledger, M: Ledger, R: Wait + Clock>(
 ) -> Option<Lap> {
     let name = *NAMES.get(worker)?;
     let info = StreamInfo::parse(alloc, two_scopes(alloc).ok()?).ok()?;
-    lap(rt, alloc, profiler, share, name, &info)
+    timed_reports(rt, alloc, profiler, share, name, &info)
 }
 
 /// Does the work of a thread.
