@@ -111,8 +111,9 @@ pub(crate) fn have_numbers(
     equal(rt, found.as_slice(), numbers);
 }
 
-/// Appends a scope, and one with two children, of which the second has a child.
-fn append(stream: &mut Stream, n: NanoSecond) -> Result<()> {
+/// Appends a scope that begins at `n + 100`, and one with two children, of which the second has a child.
+fn append(stream: &mut Stream, n: u32) -> Result<()> {
+    let n = NanoSecond::from(n);
     leaf(stream, 1, n + 100, n + 200)?;
     let two = begin(stream, 2, n + 200, "")?;
     leaf(stream, 3, n + 400, n + 600)?;
