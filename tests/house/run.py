@@ -2,11 +2,11 @@
 
     python3 -m tests.house.run
 
-Clauses have at most 100 columns; crates cite of those below them no proofs but `lemmas`; each wrong body can be applied
-and stands in docs/PROOFS.md, in italics where it is one of the long run, and the gate tries at most twelve of a crate; what
-the rows there cite is there, and leads to the functions that their wrong bodies change; each spec file begins with a line
-that says what it defines, and docs/SPECS.md has these lines as they are; each program has a file
-with what it prints; links in the documents lead somewhere. The last line is 'N passed, M failed'.
+Clauses have at most 100 columns; crates cite of those below them no proofs but `lemmas`; each wrong body, and each edit that a
+runner has to notice, can be applied; each wrong body stands in docs/PROOFS.md, in italics where it is one of the long run, and
+the gate tries at most twelve of a crate; what the rows there cite is there, and leads to the functions that their wrong bodies
+change; each spec file begins with a line that says what it defines, and docs/SPECS.md has these lines as they are; each program
+has a file with what it prints; links in the documents lead somewhere. The last line is 'N passed, M failed'.
 """
 
 import re
@@ -94,10 +94,15 @@ def edits():
     return [path for path in promises.edits().values() if path.is_file()]
 
 
+# The words before an edit's changes, by the name of its folder.
+HEADS = {"runners": ("runner", "fails", "gone"), "wrong": ("function", "proved")}
+
+
 def edits_that_do_not_apply():
-    for path in edits():
+    """Wrong bodies, and edits that the runners have to notice."""
+    for path in [*edits(), *sorted(TOP.glob("tests/runners/*.edit"))]:
         of_tests = path.is_relative_to(TOP / "tests")
-        words = ("test",) if of_tests else ("function", "proved") if path.parent.name == "wrong" else ()
+        words = HEADS.get(path.parent.name, ("test",) if of_tests else ())
         folder = TOP if of_tests else path.parents[1]
         try:
             common.edited(common.parsed(path, words).changes, lambda file: (folder / file).read_text())
