@@ -127,7 +127,8 @@ def words_over(name, kit, root=ROOT):
     """How a crate and its libraries are named to `rattle check` and `rattle build`. The libraries are those that `rt ci` left
     under `root` in crates/NAME/out/rlib. A command over these has no need of `rt lib`, which would prove them all once more."""
     own, line = crates(), crate(name)
-    words = ["--crate-name", name, "src/lib.rt", *(["--crate-type", "staticlib"] if "staticlib" in line.kinds else [])]
+    top = "src/main.rt" if (line.folder() / "src/main.rt").is_file() else "src/lib.rt"
+    words = ["--crate-name", name, top, *(["--crate-type", "staticlib"] if "staticlib" in line.kinds else [])]
     for it in ["std", *line.used]:
         folder = own[it].folder(root) / "out" / "rlib" if it in own else kit / "rlibs"
         words += ["--extern", f"{it}={folder / it}.rlib"]
