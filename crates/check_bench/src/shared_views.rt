@@ -6,7 +6,9 @@ ghost use Rattle.puffin_data.specs.Honesty.{IsHonest};
 
 use crate::reports::two_scopes;
 use anyhow::{Context, Result};
-use puffin::global_profiler::{GlobalFrameView, GlobalProfiler, Share, SharedProfiler};
+use puffin::global_profiler::{
+    Event, GlobalFrameView, GlobalProfiler, History, NewLog, Share, SharedProfiler,
+};
 use puffin::thread_profiler::ThreadInfo;
 use puffin_data::data::StreamInfo;
 use std::alloc::{AllocError, Global};
@@ -23,7 +25,7 @@ const FILLING: u32 = 2;
 
 /// Reports an honest info and takes a frame, for each frame of a run.
 #[inline(never)]
-fn taken<L: Ledger, M: Ledger, R: Wait>(
+fn taken<L: Ledger + History, M: Ledger, R: Wait>(
     rt: &R,
     alloc: Global,
     profiler: &SharedProfiler<L, M>,
@@ -45,7 +47,7 @@ fn taken<L: Ledger, M: Ledger, R: Wait>(
 }
 
 /// Takes the frames of a run, and returns the nanoseconds that this takes.
-fn timed<L: Ledger, M: Ledger, R: Wait + Clock>(
+fn timed<L: Ledger + History, M: Ledger, R: Wait + Clock>(
     rt: &R,
     alloc: Global,
     profiler: &SharedProfiler<L, M>,
@@ -60,7 +62,7 @@ fn timed<L: Ledger, M: Ledger, R: Wait + Clock>(
 }
 
 /// Fills the attached view, and then takes frames in `runs` more runs. Returns the nanoseconds of the fastest.
-fn fastest<L: Ledger, M: Ledger, R: Wait + Clock>(
+fn fastest<L: Ledger + History, M: Ledger, R: Wait + Clock>(
     rt: &R,
     alloc: Global,
     runs: u32,
@@ -79,7 +81,7 @@ fn fastest<L: Ledger, M: Ledger, R: Wait + Clock>(
 }
 
 /// Attaches a view, fills it, and takes frames with the one share in `runs` more runs. Returns the nanoseconds of the fastest.
-fn attached<L: Ledger, M: Ledger, R: Wait + Clock>(
+fn attached<L: Ledger + History, M: Ledger, R: Wait + Clock>(
     rt: &R,
     alloc: Global,
     runs: u32,
@@ -95,20 +97,22 @@ fn attached<L: Ledger, M: Ledger, R: Wait + Clock>(
 }
 
 /// Shares a profiler with one share, and takes frames of it with a view attached. Returns the nanoseconds of the fastest run.
-fn viewed<L: Ledger, M: Ledger, R: Wait + Clock>(
+fn viewed<L: Ledger + History, M: Ledger, R: Wait + Clock>(
     rt: &R,
     alloc: Global,
     runs: u32,
     reported: Blank,
     handed: Blank,
+    log: NewLog<Event>,
 ) -> Result<u128>
     requires reported { (reported.name ≡ L.name)
         × (reported.parts ≡ L.parts)
         × (reported.parts ≡ 1) }
     requires handed { (handed.name ≡ M.name) × (handed.parts ≡ M.parts) × (handed.parts ≡ 1) }
+    requires log { log.name ≡ L.history }
 {
     let profiler = GlobalProfiler::new(alloc);
-    match SharedProfiler::<L, M>::open(alloc, profiler, 1, reported, handed) {
+    match SharedProfiler::<L, M>::open(alloc, profiler, 1, reported, handed, log) {
         Ok((profiler, shares)) => attached(rt, alloc, runs, &profiler, shares),
         Err(_) => Err(AllocError.into()),
     }
@@ -116,5 +120,5 @@ fn viewed<L: Ledger, M: Ledger, R: Wait + Clock>(
 
 /// Takes frames of a profiler that one view is attached to, in `runs` runs. Returns the nanoseconds of the fastest.
 pub fn run<R: Wait + Clock>(rt: &R, alloc: Global, runs: u32) -> Result<u128> {
-    viewed::<Brand, Brand, R>(rt, alloc, runs, Blank::new(1), Blank::new(1))
+    viewed::<Brand, Brand, R>(rt, alloc, runs, Blank::new(1), Blank::new(1), NewLog::new())
 }

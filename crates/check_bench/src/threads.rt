@@ -6,7 +6,7 @@ ghost use Rattle.puffin_data.specs.Honesty.{IsHonest};
 
 use crate::reports::two_scopes;
 use anyhow::{Context, Result};
-use puffin::global_profiler::{GlobalProfiler, Share, SharedProfiler};
+use puffin::global_profiler::{Event, GlobalProfiler, History, NewLog, Share, SharedProfiler};
 use puffin::thread_profiler::ThreadInfo;
 use puffin_data::data::StreamInfo;
 use std::alloc::{AllocError, Global};
@@ -42,7 +42,7 @@ struct Lap {
 
 /// Reports an honest info a number of times.
 #[inline(never)]
-fn reported<L: Ledger, M: Ledger, R: Wait>(
+fn reported<L: Ledger + History, M: Ledger, R: Wait>(
     rt: &R,
     alloc: Global,
     profiler: &SharedProfiler<L, M>,
@@ -64,7 +64,7 @@ fn reported<L: Ledger, M: Ledger, R: Wait>(
 }
 
 /// Waits until the lock is free, and then makes all reports of a thread.
-fn timed_reports<L: Ledger, M: Ledger, R: Wait + Clock>(
+fn timed_reports<L: Ledger + History, M: Ledger, R: Wait + Clock>(
     rt: &R,
     alloc: Global,
     profiler: &SharedProfiler<L, M>,
@@ -82,7 +82,7 @@ fn timed_reports<L: Ledger, M: Ledger, R: Wait + Clock>(
 }
 
 /// Makes an info of two scopes, and then all reports of a thread.
-fn report_all<L: Ledger, M: Ledger, R: Wait + Clock>(
+fn report_all<L: Ledger + History, M: Ledger, R: Wait + Clock>(
     rt: &R,
     alloc: Global,
     profiler: &SharedProfiler<L, M>,
@@ -95,7 +95,7 @@ fn report_all<L: Ledger, M: Ledger, R: Wait + Clock>(
 }
 
 /// Does the work of a thread.
-fn work<L: Ledger, M: Ledger, R: Wait + Clock>(
+fn work<L: Ledger + History, M: Ledger, R: Wait + Clock>(
     rt: &R,
     alloc: Global,
     profiler: SharedProfiler<L, M>,
@@ -108,7 +108,7 @@ fn work<L: Ledger, M: Ledger, R: Wait + Clock>(
 
 /// Starts a worker on a thread of its own.
 fn start<
-    L: Ledger + Send + 'static,
+    L: Ledger + History + Send + 'static,
     M: Ledger + Send + 'static,
     R: Threads + Wait + Clock + Copy + Send + 'static,
 >(
@@ -122,7 +122,7 @@ fn start<
 }
 
 /// Takes frames until `scopes` scopes were handed out.
-fn take_frames<L: Ledger, M: Ledger, R: Wait + Clock>(
+fn take_frames<L: Ledger + History, M: Ledger, R: Wait + Clock>(
     rt: &R,
     profiler: &SharedProfiler<L, M>,
     share: &mut Share<L, M>,
@@ -154,7 +154,7 @@ fn whole(laps: &[Lap]) -> u128 {
 
 /// Starts a thread for each share.
 fn start_each<
-    L: Ledger + Send + Sync + 'static,
+    L: Ledger + History + Send + Sync + 'static,
     M: Ledger + Send + Sync + 'static,
     R: Threads + Wait + Clock + Copy + Send + Sync + 'static,
 >(
@@ -172,7 +172,7 @@ fn start_each<
 
 /// Starts a thread for each share. All begin when the lock is free.
 fn start_all<
-    L: Ledger + Send + Sync + 'static,
+    L: Ledger + History + Send + Sync + 'static,
     M: Ledger + Send + Sync + 'static,
     R: Threads + Wait + Clock + Copy + Send + Sync + 'static,
 >(
@@ -202,7 +202,7 @@ fn joined<R: Threads + Wait>(
 
 /// Starts a thread for each share, and takes frames with the share `own`.
 fn beside<
-    L: Ledger + Send + Sync + 'static,
+    L: Ledger + History + Send + Sync + 'static,
     M: Ledger + Send + Sync + 'static,
     R: Threads + Wait + Clock + Copy + Send + Sync + 'static,
 >(
@@ -220,7 +220,7 @@ fn beside<
 
 /// Starts a thread for each share but one, and takes frames with that one.
 fn shared<
-    L: Ledger + Send + Sync + 'static,
+    L: Ledger + History + Send + Sync + 'static,
     M: Ledger + Send + Sync + 'static,
     R: Threads + Wait + Clock + Copy + Send + Sync + 'static,
 >(rt: R, alloc: Global, profiler: &SharedProfiler<L, M>, shares: Vec<Share<L, M>>) -> Result<u128> {
@@ -231,10 +231,17 @@ fn shared<
 
 /// Shares a profiler, and lets all threads but one report while that one takes frames.
 fn round<
-    L: Ledger + Send + Sync + 'static,
+    L: Ledger + History + Send + Sync + 'static,
     M: Ledger + Send + Sync + 'static,
     R: Threads + Wait + Clock + Copy + Send + Sync + 'static,
->(rt: R, alloc: Global, parts: usize, reported: Blank, handed: Blank) -> Result<u128>
+>(
+    rt: R,
+    alloc: Global,
+    parts: usize,
+    reported: Blank,
+    handed: Blank,
+    log: NewLog<Event>,
+) -> Result<u128>
     requires some { 0 < parts }
     requires reported { (reported.name ≡ L.name)
         × (reported.parts ≡ L.parts)
@@ -242,9 +249,10 @@ fn round<
     requires handed { (handed.name ≡ M.name)
         × (handed.parts ≡ M.parts)
         × (handed.parts ≡ parts) }
+    requires log { log.name ≡ L.history }
 {
     let profiler = GlobalProfiler::new(alloc);
-    match SharedProfiler::<L, M>::open(alloc, profiler, parts, reported, handed) {
+    match SharedProfiler::<L, M>::open(alloc, profiler, parts, reported, handed, log) {
         Ok((profiler, shares)) => shared(rt, alloc, &profiler, shares),
         Err(_) => Err(AllocError.into()),
     }
@@ -264,5 +272,6 @@ pub fn run<R: Threads + Wait + Clock + Copy + Send + Sync + 'static>(
         parts,
         Blank::new(parts as u64),
         Blank::new(parts as u64),
+        NewLog::new(),
     )
 }

@@ -2,6 +2,7 @@
 ghost use Rattle.std.specs.Prelude.{◌≡◌, IfOk, IfSome};
 ghost use Rattle.puffin_data.specs.Forest.{Forest};
 ghost use Rattle.puffin_data.specs.Honesty.{IsHonest};
+ghost use Rattle.std.specs.FinMap as map;
 ghost use Rattle.puffin.specs.Profiler.{collected_of};
 
 use crate::refusal::only;
@@ -9,7 +10,8 @@ use crate::registrations::{owned, print_frame};
 use crate::{again, registrations};
 use puffin::frame_data::FrameData;
 use puffin::global_profiler::{
-    Emitted, FrameSinkId, GlobalFrameView, GlobalProfiler, Settled, Share, SharedProfiler, Sink,
+    Emitted, Event, FrameSinkId, GlobalFrameView, GlobalProfiler, History, NewLog, Settled, Share,
+    SharedProfiler, Sink,
 };
 use puffin::profile_view::FrameView;
 use puffin::scope_details::{ScopeDetails, ScopeIds};
@@ -42,7 +44,7 @@ fn view(alloc: Global) -> Option<Sink> {
 }
 
 /// Adds a sink.
-fn add<L: Ledger, M: Ledger>(
+fn add<L: Ledger + History, M: Ledger>(
     rt: &impl Wait,
     profiler: &SharedProfiler<L, M>,
     sink: Sink,
@@ -58,7 +60,7 @@ fn add<L: Ledger, M: Ledger>(
 }
 
 /// Attaches a view.
-fn attach<L: Ledger, M: Ledger>(
+fn attach<L: Ledger + History, M: Ledger>(
     rt: &impl Wait,
     alloc: Global,
     profiler: &SharedProfiler<L, M>,
@@ -67,7 +69,7 @@ fn attach<L: Ledger, M: Ledger>(
 }
 
 /// Registers one scope of the caller's own.
-fn register<L: Ledger, M: Ledger>(
+fn register<L: Ledger + History, M: Ledger>(
     rt: &impl Wait,
     profiler: &SharedProfiler<L, M>,
     ids: &ScopeIds,
@@ -78,7 +80,7 @@ fn register<L: Ledger, M: Ledger>(
 }
 
 /// Reports one scope of the caller's own.
-fn report<L: Ledger, M: Ledger>(
+fn report<L: Ledger + History, M: Ledger>(
     rt: &impl Wait,
     alloc: Global,
     profiler: &SharedProfiler<L, M>,
@@ -94,7 +96,7 @@ fn report<L: Ledger, M: Ledger>(
 }
 
 /// Hands a frame to the sinks once more.
-fn handed<L: Ledger, M: Ledger>(
+fn handed<L: Ledger + History, M: Ledger>(
     rt: &impl Wait,
     profiler: &SharedProfiler<L, M>,
     frame: &Arc<FrameData>,
@@ -103,7 +105,7 @@ fn handed<L: Ledger, M: Ledger>(
 }
 
 /// Prints a frame. If a sink had no memory for it, hands it to the sinks once more.
-fn print_emitted<L: Ledger, M: Ledger, R: Print + Wait>(
+fn print_emitted<L: Ledger + History, M: Ledger, R: Print + Wait>(
     rt: &R,
     profiler: &SharedProfiler<L, M>,
     emitted: &Emitted,
@@ -116,7 +118,7 @@ fn print_emitted<L: Ledger, M: Ledger, R: Print + Wait>(
 }
 
 /// Takes a frame, and prints it.
-fn frame<L: Ledger, M: Ledger, R: Print + Wait>(
+fn frame<L: Ledger + History, M: Ledger, R: Print + Wait>(
     rt: &R,
     profiler: &SharedProfiler<L, M>,
     share: &mut Share<L, M>,
@@ -132,7 +134,7 @@ fn knows_early(rt: &impl Wait, view: &GlobalFrameView) -> bool {
 }
 
 /// Prints the numbers of the sinks and what the view holds, and detaches the view.
-fn close<L: Ledger, M: Ledger, R: Print + Wait>(
+fn close<L: Ledger + History, M: Ledger, R: Print + Wait>(
     rt: &R,
     profiler: &SharedProfiler<L, M>,
     view: GlobalFrameView,
@@ -146,7 +148,7 @@ fn close<L: Ledger, M: Ledger, R: Print + Wait>(
 }
 
 /// Settles the one share, and prints the counts.
-fn settle<L: Ledger, M: Ledger, R: Print + Wait>(
+fn settle<L: Ledger + History, M: Ledger, R: Print + Wait>(
     rt: &R,
     alloc: Global,
     profiler: &SharedProfiler<L, M>,
@@ -161,7 +163,7 @@ fn settle<L: Ledger, M: Ledger, R: Print + Wait>(
 }
 
 /// Adds a second sink, reports a scope and takes a frame. Returns the number of the sink.
-fn reported<L: Ledger, M: Ledger, R: Print + Wait>(
+fn reported<L: Ledger + History, M: Ledger, R: Print + Wait>(
     rt: &R,
     alloc: Global,
     profiler: &SharedProfiler<L, M>,
@@ -176,7 +178,7 @@ fn reported<L: Ledger, M: Ledger, R: Print + Wait>(
 }
 
 /// Attaches a view, reports a scope, takes a frame, and detaches the view.
-fn viewed<L: Ledger, M: Ledger, R: Print + Wait>(
+fn viewed<L: Ledger + History, M: Ledger, R: Print + Wait>(
     rt: &R,
     alloc: Global,
     profiler: &SharedProfiler<L, M>,
@@ -189,7 +191,7 @@ fn viewed<L: Ledger, M: Ledger, R: Print + Wait>(
 }
 
 /// Does everything with a shared profiler, and settles its share.
-fn shared<L: Ledger, M: Ledger, R: Print + Wait>(
+fn shared<L: Ledger + History, M: Ledger, R: Print + Wait>(
     rt: &R,
     alloc: Global,
     profiler: &SharedProfiler<L, M>,
@@ -202,7 +204,7 @@ fn shared<L: Ledger, M: Ledger, R: Print + Wait>(
 }
 
 /// Does everything with another handle to a shared profiler.
-fn cloned<L: Ledger, M: Ledger, R: Print + Wait>(
+fn cloned<L: Ledger + History, M: Ledger, R: Print + Wait>(
     rt: &R,
     alloc: Global,
     profiler: &SharedProfiler<L, M>,
@@ -214,22 +216,25 @@ fn cloned<L: Ledger, M: Ledger, R: Print + Wait>(
 }
 
 /// Opens a profiler, and does everything with it. Returns the profiler if it was refused.
-fn opened<L: Ledger, M: Ledger, R: Print + Wait>(
+fn opened<L: Ledger + History, M: Ledger, R: Print + Wait>(
     rt: &R,
     profiler: GlobalProfiler,
     ids: &ScopeIds,
     alloc: Global,
     reported: Blank,
     handed: Blank,
+    log: NewLog<Event>,
 ) -> Option<Option<GlobalProfiler>>
     requires fresh { ((collected_of profiler).reported ≡ 0)
-        × ((collected_of profiler).emitted ≡ 0) }
+        × ((collected_of profiler).emitted ≡ 0)
+        × ((collected_of profiler).streams ≡ map.empty) }
     requires reported { (reported.name ≡ L.name)
         × (reported.parts ≡ L.parts)
         × (reported.parts ≡ 1) }
     requires handed { (handed.name ≡ M.name) × (handed.parts ≡ M.parts) × (handed.parts ≡ 1) }
+    requires log { log.name ≡ L.history }
 {
-    match SharedProfiler::<L, M>::open(alloc, profiler, 1, reported, handed) {
+    match SharedProfiler::<L, M>::open(alloc, profiler, 1, reported, handed, log) {
         Ok((profiler, shares)) => {
             let mut shares = shares;
             cloned(rt, alloc, &profiler, shares.pop()?, ids)?;
@@ -256,11 +261,20 @@ fn once<R: Print + AllocGlobal + Wait>(
     profiler: GlobalProfiler,
 ) -> Option<Option<GlobalProfiler>>
     requires fresh { ((collected_of profiler).reported ≡ 0)
-        × ((collected_of profiler).emitted ≡ 0) }
+        × ((collected_of profiler).emitted ≡ 0)
+        × ((collected_of profiler).streams ≡ map.empty) }
 {
     let (ids, mut profiler) = (ScopeIds::new(), profiler);
     prepare(rt.alloc(), &ids, &mut profiler)?;
-    opened::<Brand, Brand, R>(rt, profiler, &ids, rt.alloc(), Blank::new(1), Blank::new(1))
+    opened::<Brand, Brand, R>(
+        rt,
+        profiler,
+        &ids,
+        rt.alloc(),
+        Blank::new(1),
+        Blank::new(1),
+        NewLog::new(),
+    )
 }
 
 /// Reports one scope of the caller's own to a profiler without a lock.

@@ -17,8 +17,8 @@ use Rattle.puffin_threads.specs.Details.{Details}
 use Rattle.puffin_threads.specs.declared.thread_profiler.reporter.Closed.{Closed}
 use Rattle.puffin_threads.specs.declared.thread_profiler.reporter.Closed.TheVariants.{Inner, Reported, Kept}
 use Rattle.puffin_data.specs.declared.error.Error.{Error}
-use Rattle.puffin_history.specs.Happenings.{Happening, reported}
-use Rattle.puffin_history.specs.Members.{Member, Told}
+use Rattle.puffin.specs.Happenings.{Happening, reported}
+use Rattle.puffin.specs.Members.{Member, Told}
 use Rattle.example_threads.specs.Recorded.{span_of, AreReports}
 use Rattle.example_threads.proofs.Showing.{more_reports}
 

@@ -24,10 +24,10 @@ use Rattle.puffin_threads.proofs.lemmas.ThreadKeys.{has_same_key-one, has_same_k
 use Rattle.puffin_frames.specs.declared.frame_data.frame.FrameData.{FrameData}
 use Rattle.puffin_frames.specs.Frame.Contents.{Streams}
 use Rattle.puffin_frames.specs.Frame.Holding.{Holding}
-use Rattle.puffin_history.specs.Happenings.{Happening, reported, History, pending_of, framed, frame_of, frames_in, report_under, reports_under}
-use Rattle.puffin_history.specs.Members.{Member, IsNewMember, account_of, unpacked_in, TakesFrame}
-use Rattle.puffin_history.specs.Recounted.{SpellInTurn, streams_under, ReportsAlone, TakesAlone, Recounts}
-use Rattle.puffin_history.specs.Leaving.{accounts_of}
+use Rattle.puffin.specs.Happenings.{Happening, reported, History, pending_of, framed, frame_of, frames_in, report_under, reports_under}
+use Rattle.puffin.specs.Members.{Member, IsNewMember, account_of, unpacked_in, TakesFrame}
+use Rattle.puffin.specs.Recounted.{SpellInTurn, streams_under, ReportsAlone, TakesAlone, Recounts}
+use Rattle.puffin.specs.Leaving.{accounts_of}
 use Rattle.puffin_frames.specs.Frame.Sums.{total_scopes}
 use Rattle.history.specs.Entries.{events}
 use Rattle.example_threads.specs.declared.record.Job.{Job}
@@ -96,9 +96,13 @@ pub taken_none : (frames : List (Arc FrameData Global)) (old new : Member) → H
 taken_none frames old new taken None none takes = subst (HasTaken frames) (sym takes) taken
 taken_none frames old new taken (Some frame) none takes = absurd (none frame refl)
 
+none_in : {A : Type 0} (xs : List A) → length xs ≡ 0 → xs ≡ []
+none_in [] none = refl
+none_in (x ∷ xs) none = absurd (omega arith)
+
 -- a share through which nothing happened was handed no frame
 pub none_taken : (share : Member) → IsNewMember share → HasTaken [] share
-none_taken share new = record { frames_are = sym (ap frames_in new.own); no_reports = λ i. ap (reports_under i) new.own }
+none_taken share new = record { frames_are = sym (ap frames_in (none_in share.own new.own)); no_reports = λ i. ap (reports_under i) (none_in share.own new.own) }
 
 -- the last of shares through which nothing happened
 pub last_new : (all front : List Member) (last : Member) → All IsNewMember all → all ≡ front ++ last ∷ [] → All IsNewMember front × IsNewMember last

@@ -12,9 +12,9 @@ use Rattle.puffin_threads.specs.Thread.ThreadKey.{ThreadKey}
 use Rattle.puffin_frames.specs.declared.frame_data.frame.FrameData.{FrameData}
 use Rattle.puffin_frames.specs.Frame.Contents.{Streams}
 use Rattle.puffin_frames.specs.Frame.Sums.{total_scopes}
-use Rattle.puffin_history.specs.Happenings.{reported, frames_in, reports_under}
-use Rattle.puffin_history.specs.Members.{Member, unpacked_in}
-use Rattle.puffin_history.specs.Recounted.{SpellInTurn, streams_under}
+use Rattle.puffin.specs.Happenings.{reported, frames_in, reports_under}
+use Rattle.puffin.specs.Members.{Member, unpacked_in}
+use Rattle.puffin.specs.Recounted.{SpellInTurn, streams_under}
 use Rattle.example_threads.specs.declared.record.Job.{Job}
 use Rattle.example_threads.specs.declared.record.Recorded.{Recorded}
 

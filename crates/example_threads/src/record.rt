@@ -1,15 +1,16 @@
 //! Three threads that report, and a fourth that takes frames.
 ghost use Rattle.std.specs.Prelude.{◌≡◌, IfOk};
-ghost use Rattle.puffin_history.specs.Members.{IsNewMember};
+ghost use Rattle.puffin.specs.Members.{IsNewMember};
 ghost use Rattle.example_threads.specs.Recorded.{AreApart, HasDone, HasTaken, Show};
 
 use history::{History, NewLog};
 use puffin::data::ScopeId;
 use puffin::frame_data::FrameData;
-use puffin::global_profiler::{GlobalProfiler, Settled};
+use puffin::global_profiler::{
+    Event, GlobalProfiler, Settled, Share, SharedProfiler, SharedReporter,
+};
 use puffin::thread_profiler::{Closed, ScriptClock, ThreadProfiler};
 use puffin_data::{Error, Result};
-use puffin_history::{Event, HistoryProfiler, HistoryReporter, HistoryShare};
 use std::alloc::Global;
 use std::snapshot::Snapshot;
 use std::sync::ledger::{Blank, Ledger};
@@ -35,17 +36,17 @@ pub struct Recorded {
 fn report<L: Ledger + History, M: Ledger, R: Wait + Drop>(
     rt: R,
     alloc: Global,
-    profiler: HistoryProfiler<L, M>,
-    share: HistoryShare<L, M>,
+    profiler: SharedProfiler<L, M>,
+    share: Share<L, M>,
     job: &Job,
-) -> Result<HistoryShare<L, M>>
+) -> Result<Share<L, M>>
     requires { IsNewMember share }
     ensures { IfOk result (HasDone job.now) }
 {
     let Some(id) = ScopeId::new(7) else {
         return Err(Error::MissingId);
     };
-    let mut reporter = HistoryReporter::new(rt, profiler, share);
+    let mut reporter = SharedReporter::new(rt, profiler, share);
     let mut thread = ThreadProfiler::new(alloc, job.name.clone()?, ScriptClock::new(0));
     for text in &job.texts {
         let scope = thread.begin_scope(id, text.as_str())?;
@@ -59,11 +60,11 @@ fn report<L: Ledger + History, M: Ledger, R: Wait + Drop>(
 /// Takes a frame this many times. Gives the share back, with the frames that there were.
 fn take<L: Ledger + History, M: Ledger>(
     rt: &impl Wait,
-    profiler: &HistoryProfiler<L, M>,
-    share: HistoryShare<L, M>,
+    profiler: &SharedProfiler<L, M>,
+    share: Share<L, M>,
     frames: Vec<Arc<FrameData>>,
     times: u32,
-) -> Result<(HistoryShare<L, M>, Vec<Arc<FrameData>>)>
+) -> Result<(Share<L, M>, Vec<Arc<FrameData>>)>
     requires { HasTaken frames.items share }
     ensures { IfOk result (λ taken. HasTaken taken.1.items taken.0) }
 {
@@ -83,7 +84,7 @@ struct Does {
     job: Snapshot<Job>,
 }
 
-impl<L: Ledger + History, M: Ledger> Promise<Result<HistoryShare<L, M>>> for Does {
+impl<L: Ledger + History, M: Ledger> Promise<Result<Share<L, M>>> for Does {
     ghost use Rattle.std.specs.Prelude.{IfOk};
     ghost use Rattle.example_threads.specs.Recorded.{HasDone};
 
@@ -98,10 +99,10 @@ fn start<
 >(
     rt: R,
     alloc: Global,
-    profiler: HistoryProfiler<L, M>,
-    share: HistoryShare<L, M>,
+    profiler: SharedProfiler<L, M>,
+    share: Share<L, M>,
     job: Job,
-) -> Result<PromisedHandle<Result<HistoryShare<L, M>>, Does>>
+) -> Result<PromisedHandle<Result<Share<L, M>>, Does>>
     requires { IsNewMember share }
     ensures { IfOk result (λ handle. handle.promise.job.value ≡ job) }
 {
@@ -111,7 +112,7 @@ fn start<
     let started = thread::spawn_with(
         &rt,
         does,
-        move || -> Result<HistoryShare<L, M>>
+        move || -> Result<Share<L, M>>
             requires { IsNewMember share }
             ensures { IfOk result (HasDone job) }
         { report(rt, alloc, profiler, share, &job) },
@@ -144,7 +145,7 @@ pub fn record<
 {
     let alloc = rt.alloc();
     let none = GlobalProfiler::new(alloc);
-    let opened = HistoryProfiler::<L, M>::open(alloc, none, 4, reported, handed, log);
+    let opened = SharedProfiler::<L, M>::open(alloc, none, 4, reported, handed, log);
     let (profiler, mut shares) = match opened {
         Ok(opened) => opened,
         Err((e, _)) => return Err(e),

@@ -2,6 +2,12 @@ pub mod lemmas
 mod HandingOn
 mod Numbering
 mod HandedOut
+mod Growing
+mod KeptStreams
+mod TellingShares
+mod SpelledThreads
+mod LeavingShares
+mod SettledShares
 mod SharedRefusals
 mod CountedShares
 mod EndedScopes

@@ -3,6 +3,7 @@ use Rattle.puffin_collector.specs.Collector.State.{Collected}
 use Rattle.puffin.specs.declared.global_profiler.booked.Booked.{Booked}
 use Rattle.puffin.specs.declared.global_profiler.profiler.GlobalProfiler.{GlobalProfiler}
 use Rattle.puffin.specs.Profiler.{collected_of}
+use Rattle.puffin.specs.Happenings.{History}
 
 module _ {L M I : Type 0} {F : I → Type 0} where
   abbrev pub profiler_of : Booked L M I F → GlobalProfiler I F
@@ -11,3 +12,7 @@ module _ {L M I : Type 0} {F : I → Type 0} where
   -- what its profiler collects
   abbrev pub collected_in : Booked L M I F → Collected
   collected_in booked = collected_of (profiler_of booked)
+
+  -- what happened so far
+  abbrev pub entries_of : Booked L M I F → History
+  entries_of booked = booked.log.entries

@@ -3,6 +3,10 @@ pub mod Booked
 pub mod Reporters
 pub mod Sinks
 pub mod Shares
+pub mod Happenings
+pub mod Members
+pub mod Recounted
+pub mod Leaving
 pub mod SharedCauses
 pub mod Taking
 pub mod Clocks

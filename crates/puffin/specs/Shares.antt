@@ -1,5 +1,5 @@
 -- What a share of a profiler counts.
-use Rattle.std.specs.Prelude.{◌≡◌, ℕ, ◌+◌, ◌<◌, List, Option, Some, None, sum_by}
+use Rattle.std.specs.Prelude.{◌≡◌, ℕ, ◌+◌, ◌<◌, Option, Some, None}
 use Rattle.std.specs.FinMap as map
 use Rattle.std.specs.Arc.{arc_value}
 use Rattle.std.specs.declared.sync.Arc.{Arc}
@@ -22,13 +22,6 @@ with_reported c n = record c { reported = c.reported + n }
 
 abbrev pub with_handed : ShareCounts → ℕ → ShareCounts
 with_handed c n = record c { handed = c.handed + n }
-
--- what all shares count together
-abbrev pub all_reported : List ShareCounts → ℕ
-all_reported shares = sum_by (λ c. c.reported) shares
-
-abbrev pub all_handed : List ShareCounts → ℕ
-all_handed shares = sum_by (λ c. c.handed) shares
 
 -- a blank of the ledger with this name and this number of parts, for the same number of shares
 abbrev pub IsBlankFor : ℕ → ℕ → ℕ → Blank → Type 0

@@ -6,9 +6,11 @@
 //! refused.
 
 mod booked;
+mod event;
 mod global_frame_view;
 mod handing;
 pub mod laws;
+mod leaving;
 mod profiler;
 mod share;
 mod shared_profiler;
@@ -17,7 +19,9 @@ mod sink;
 mod sinks;
 
 pub use booked::{Booked, Settled};
+pub use event::Event;
 pub use global_frame_view::GlobalFrameView;
+pub use history::{History, NewLog};
 pub use profiler::GlobalProfiler;
 pub use puffin_collector::{Collector, Emitted, Totals};
 pub use share::Share;

@@ -9,10 +9,9 @@ use crate::opened::opened;
 use history::{History, NewLog};
 use puffin::ProfilerScope;
 use puffin::data::StreamInfo;
-use puffin::global_profiler::{GlobalProfiler, Sink};
+use puffin::global_profiler::{Event, GlobalProfiler, Share, SharedProfiler, SharedReporter, Sink};
 use puffin::profile_view::FrameView;
 use puffin::scope_details::{ScopeDetails, ScopeIds};
-use puffin_history::{Event, HistoryProfiler, HistoryReporter, HistoryShare};
 use std::alloc::Global;
 use std::borrow::CowStr;
 use std::marker::Brand;
@@ -39,8 +38,8 @@ fn one_scope(alloc: Global) -> puffin::Result<StreamInfo>
 fn own_scopes_are_reported<L: Ledger + History, M: Ledger, R: Wait + Abort>(
     rt: &R,
     alloc: Global,
-    profiler: &HistoryProfiler<L, M>,
-    share: &mut HistoryShare<L, M>,
+    profiler: &SharedProfiler<L, M>,
+    share: &mut Share<L, M>,
 ) -> Outcome {
     let details = [ScopeDetails::from_scope_name(CowStr::Borrowed("u"))];
     let _ids = profiler.register_user_scopes(rt, &ScopeIds::new(), &details)?;
@@ -63,7 +62,7 @@ fn own_scopes_are_reported<L: Ledger + History, M: Ledger, R: Wait + Abort>(
 fn a_view_is_a_sink<L: Ledger + History, M: Ledger, R: Wait + Abort>(
     rt: &R,
     alloc: Global,
-    profiler: &HistoryProfiler<L, M>,
+    profiler: &SharedProfiler<L, M>,
 ) -> Outcome {
     let view = Arc::new(alloc, Mutex::new(FrameView::new(alloc)))?;
     let sink = Sink::View(Arc::try_clone(&view)?);
@@ -85,10 +84,10 @@ fn a_view_is_a_sink<L: Ledger + History, M: Ledger, R: Wait + Abort>(
 fn a_scope_waits<L: Ledger + History, M: Ledger, R: Wait + Abort + Copy + Drop>(
     rt: R,
     alloc: Global,
-    profiler: &HistoryProfiler<L, M>,
-    share: HistoryShare<L, M>,
-) -> std::result::Result<HistoryShare<L, M>, Fail> {
-    let mut reporter = HistoryReporter::new(rt, profiler.clone()?, share);
+    profiler: &SharedProfiler<L, M>,
+    share: Share<L, M>,
+) -> std::result::Result<Share<L, M>, Fail> {
+    let mut reporter = SharedReporter::new(rt, profiler.clone()?, share);
     let mut thread = main_thread(alloc, 5)?;
     {
         let _guard = ProfilerScope::new(&mut thread, id(7)?, "")?;

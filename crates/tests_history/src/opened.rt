@@ -5,14 +5,13 @@ ghost use Rattle.std.specs.FinMap as map;
 ghost use Rattle.puffin.specs.Profiler.{collected_of};
 
 use history::{History, NewLog};
-use puffin::global_profiler::GlobalProfiler;
-use puffin_history::{Event, HistoryProfiler, HistoryShare};
+use puffin::global_profiler::{Event, GlobalProfiler, Share, SharedProfiler};
 use std::alloc::Global;
 use std::sync::ledger::{Blank, Ledger};
 use std::test::Fail;
 
 /// A profiler with a history, and its shares.
-pub(crate) type Opened<L, M> = (HistoryProfiler<L, M>, Vec<HistoryShare<L, M>>);
+pub(crate) type Opened<L, M> = (SharedProfiler<L, M>, Vec<Share<L, M>>);
 
 /// Opens a profiler that nothing was reported to with so many shares.
 pub(crate) fn opened<L: Ledger + History, M: Ledger>(
@@ -35,7 +34,7 @@ pub(crate) fn opened<L: Ledger + History, M: Ledger>(
         × (handed.parts ≡ parts) }
     requires log { log.name ≡ L.history }
 {
-    HistoryProfiler::<L, M>::open(alloc, profiler, parts, reported, handed, log).map_err(
+    SharedProfiler::<L, M>::open(alloc, profiler, parts, reported, handed, log).map_err(
         |_refused| Fail::new("no memory"),
     )
 }

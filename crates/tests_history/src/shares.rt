@@ -6,9 +6,10 @@ use crate::equal::equal;
 use crate::opened::opened;
 use history::{History, NewLog};
 use puffin::data::ScopeId;
-use puffin::global_profiler::{GlobalProfiler, Settled};
+use puffin::global_profiler::{
+    Event, GlobalProfiler, Settled, Share, SharedProfiler, SharedReporter,
+};
 use puffin::thread_profiler::{Closed, ScriptClock, ThreadProfiler};
-use puffin_history::{Event, HistoryProfiler, HistoryReporter, HistoryShare};
 use std::alloc::Global;
 use std::marker::Brand;
 use std::process::Abort;
@@ -20,12 +21,12 @@ use std::test::Fail;
 fn reported<L: Ledger + History, M: Ledger, R: Wait + Abort + Copy + Drop>(
     rt: R,
     alloc: Global,
-    profiler: &HistoryProfiler<L, M>,
-    share: HistoryShare<L, M>,
+    profiler: &SharedProfiler<L, M>,
+    share: Share<L, M>,
     name: &str,
     texts: &[&str],
-) -> Result<HistoryShare<L, M>, Fail> {
-    let mut reporter = HistoryReporter::new(rt, profiler.clone()?, share);
+) -> Result<Share<L, M>, Fail> {
+    let mut reporter = SharedReporter::new(rt, profiler.clone()?, share);
     let name = String::from_str(alloc, name)?;
     let mut thread = ThreadProfiler::new(alloc, name, ScriptClock::new(5));
     for text in texts {
@@ -40,8 +41,8 @@ fn reported<L: Ledger + History, M: Ledger, R: Wait + Abort + Copy + Drop>(
 fn in_turn<L: Ledger + History, M: Ledger, R: Wait + Abort + Copy + Drop>(
     rt: R,
     alloc: Global,
-    profiler: &HistoryProfiler<L, M>,
-    shares: &mut Vec<HistoryShare<L, M>>,
+    profiler: &SharedProfiler<L, M>,
+    shares: &mut Vec<Share<L, M>>,
 ) -> Result<(), Fail> {
     let mut taker = shares.pop().ok_or("a share")?;
     let second = shares.pop().ok_or("another")?;

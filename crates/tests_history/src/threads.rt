@@ -6,9 +6,8 @@ use crate::equal::equal;
 use crate::opened::opened;
 use history::{History, NewLog};
 use puffin::data::ScopeId;
-use puffin::global_profiler::GlobalProfiler;
+use puffin::global_profiler::{Event, GlobalProfiler, Share, SharedProfiler, SharedReporter};
 use puffin::thread_profiler::{ScriptClock, ThreadProfiler};
-use puffin_history::{Event, HistoryProfiler, HistoryReporter, HistoryShare};
 use std::alloc::{AllocError, Global};
 use std::marker::Brand;
 use std::process::Abort;
@@ -21,7 +20,7 @@ use std::thread::{JoinHandle, Threads};
 /// Reports three scopes on a thread with a name of its own.
 fn report<L: Ledger + History, M: Ledger, R: Wait>(
     alloc: Global,
-    reporter: &mut HistoryReporter<L, M, R>,
+    reporter: &mut SharedReporter<L, M, R>,
     name: &str,
 ) -> Option<()> {
     let name = String::from_str(alloc, name).ok()?;
@@ -38,17 +37,17 @@ fn report<L: Ledger + History, M: Ledger, R: Wait>(
 fn work<L: Ledger + History, M: Ledger, R: Wait + Drop>(
     rt: R,
     alloc: Global,
-    profiler: HistoryProfiler<L, M>,
-    mut share: HistoryShare<L, M>,
+    profiler: SharedProfiler<L, M>,
+    mut share: Share<L, M>,
     number: u64,
-) -> Option<HistoryShare<L, M>> {
+) -> Option<Share<L, M>> {
     if number == 0 {
         for _ in 0..5 {
             let _emitted = profiler.new_frame(&rt, &mut share).ok()?;
         }
         return Some(share);
     }
-    let mut reporter = HistoryReporter::new(rt, profiler, share);
+    let mut reporter = SharedReporter::new(rt, profiler, share);
     report(
         alloc,
         &mut reporter,
@@ -65,10 +64,10 @@ fn start<
 >(
     rt: R,
     alloc: Global,
-    profiler: HistoryProfiler<L, M>,
-    share: HistoryShare<L, M>,
+    profiler: SharedProfiler<L, M>,
+    share: Share<L, M>,
     number: u64,
-) -> std::result::Result<JoinHandle<Option<HistoryShare<L, M>>>, AllocError> {
+) -> std::result::Result<JoinHandle<Option<Share<L, M>>>, AllocError> {
     Ok(thread::spawn(&rt, move || { work(rt, alloc, profiler, share, number) })?)
 }
 
@@ -80,8 +79,8 @@ fn at_once<
 >(
     rt: R,
     alloc: Global,
-    profiler: &HistoryProfiler<L, M>,
-    shares: &mut Vec<HistoryShare<L, M>>,
+    profiler: &SharedProfiler<L, M>,
+    shares: &mut Vec<Share<L, M>>,
 ) -> std::result::Result<(), Fail> {
     let third = shares.pop().ok_or("a share")?;
     let second = shares.pop().ok_or("another")?;

@@ -2,7 +2,7 @@
 
 use crate::equal::equal;
 use history::{Author, Log, NewLog};
-use puffin_history::Event;
+use puffin::global_profiler::Event;
 use std::marker::Brand;
 use std::mem::size_of;
 use std::test::Fail;

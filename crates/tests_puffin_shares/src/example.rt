@@ -6,7 +6,9 @@ use crate::equal::equal;
 use crate::shares::next_frame;
 use puffin::data::ScopeId;
 use puffin::frame_data::FrameData;
-use puffin::global_profiler::{GlobalProfiler, Settled, Share, SharedProfiler, SharedReporter};
+use puffin::global_profiler::{
+    Event, GlobalProfiler, History, NewLog, Settled, Share, SharedProfiler, SharedReporter,
+};
 use puffin::thread_profiler::{ScriptClock, ThreadProfiler};
 use std::alloc::{AllocError, Global};
 use std::marker::Brand;
@@ -17,7 +19,7 @@ use std::thread;
 use std::thread::{JoinHandle, Threads};
 
 /// Loads an image in a scope of its own, which is reported at its end.
-fn load_image<L: Ledger, M: Ledger, R: Wait>(
+fn load_image<L: Ledger + History, M: Ledger, R: Wait>(
     reporter: &mut SharedReporter<L, M, R>,
     thread: &mut ThreadProfiler<ScriptClock>,
 ) -> Option<()> {
@@ -27,7 +29,7 @@ fn load_image<L: Ledger, M: Ledger, R: Wait>(
 }
 
 /// Loads on a thread with the name "loader".
-fn load_all<L: Ledger, M: Ledger, R: Wait>(
+fn load_all<L: Ledger + History, M: Ledger, R: Wait>(
     alloc: Global,
     reporter: &mut SharedReporter<L, M, R>,
 ) -> Option<()> {
@@ -37,7 +39,7 @@ fn load_all<L: Ledger, M: Ledger, R: Wait>(
 }
 
 /// What a loader does, whose scopes are reported by a share. Gives the share back.
-fn load<L: Ledger, M: Ledger, R: Wait + Drop>(
+fn load<L: Ledger + History, M: Ledger, R: Wait + Drop>(
     rt: R,
     alloc: Global,
     profiler: SharedProfiler<L, M>,
@@ -50,7 +52,7 @@ fn load<L: Ledger, M: Ledger, R: Wait + Drop>(
 
 /// The same on a thread of its own.
 fn start<
-    L: Ledger + Send + 'static,
+    L: Ledger + History + Send + 'static,
     M: Ledger + Send + 'static,
     R: Threads + Wait + Copy + Send + 'static,
 >(
@@ -64,7 +66,7 @@ fn start<
 
 /// Has a loader work on its thread, and waits for its end. Gives the loader's share back.
 fn load_elsewhere<
-    L: Ledger + Send + Sync + 'static,
+    L: Ledger + History + Send + Sync + 'static,
     M: Ledger + Send + Sync + 'static,
     R: Threads + Wait + Abort + Copy + Send + Sync + 'static,
 >(rt: R, alloc: Global, profiler: &SharedProfiler<L, M>, share: Share<L, M>) -> Share<L, M> {
@@ -93,7 +95,7 @@ fn has_image<R: Abort>(rt: &R, frame: &FrameData) {
 
 /// A loader's thread, and one that takes the frame when the loader is done.
 fn framed<
-    L: Ledger + Send + Sync + 'static,
+    L: Ledger + History + Send + Sync + 'static,
     M: Ledger + Send + Sync + 'static,
     R: Threads + Wait + Abort + Copy + Send + Sync + 'static,
 >(rt: R, alloc: Global, profiler: &SharedProfiler<L, M>, shares: &mut Vec<Share<L, M>>) {
@@ -106,17 +108,18 @@ fn framed<
 
 /// Two threads share a profiler, and give their shares back at the end.
 fn loaded<
-    L: Ledger + Send + Sync + 'static,
+    L: Ledger + History + Send + Sync + 'static,
     M: Ledger + Send + Sync + 'static,
     R: Threads + Wait + Abort + Copy + Send + Sync + 'static,
->(rt: R, alloc: Global, reported: Blank, handed: Blank)
+>(rt: R, alloc: Global, reported: Blank, handed: Blank, log: NewLog<Event>)
     requires reported { (reported.name ≡ L.name)
         × (reported.parts ≡ L.parts)
         × (reported.parts ≡ 2) }
     requires handed { (handed.name ≡ M.name) × (handed.parts ≡ M.parts) × (handed.parts ≡ 2) }
+    requires log { log.name ≡ L.history }
 {
     let profiler = GlobalProfiler::new(alloc);
-    let opened = SharedProfiler::<L, M>::open(alloc, profiler, 2, reported, handed);
+    let opened = SharedProfiler::<L, M>::open(alloc, profiler, 2, reported, handed, log);
     let (profiler, mut shares) = opened.ok().expect(&rt, "memory");
     framed(rt, alloc, &profiler, &mut shares);
     let settled = profiler.settle(&rt, shares).ok().expect(&rt, "both shares");
@@ -130,5 +133,11 @@ fn loaded<
 
 #[test]
 fn two_threads_share_a_profiler(rt: HostRuntime) {
-    loaded::<Brand, Brand, HostRuntime>(rt, rt.alloc(), Blank::new(2), Blank::new(2));
+    loaded::<Brand, Brand, HostRuntime>(
+        rt,
+        rt.alloc(),
+        Blank::new(2),
+        Blank::new(2),
+        NewLog::new(),
+    );
 }

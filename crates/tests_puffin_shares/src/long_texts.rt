@@ -9,7 +9,7 @@ use crate::shares;
 use crate::shares::{next_frame, opened};
 use puffin::data::{Form, Reader, Scope, ScopeId, Stream, StreamInfo};
 use puffin::frame_data::FrameData;
-use puffin::global_profiler::{GlobalProfiler, Share, SharedProfiler};
+use puffin::global_profiler::{Event, GlobalProfiler, History, NewLog, Share, SharedProfiler};
 use std::alloc::Global;
 use std::marker::Brand;
 use std::process::Abort;
@@ -58,7 +58,7 @@ fn has_long(alloc: Global, frame: &FrameData, name: &str, texts: &[&str]) -> puf
 }
 
 /// Reports a scope of the caller's own.
-fn user_scope<L: Ledger, M: Ledger, R: Wait + Abort>(
+fn user_scope<L: Ledger + History, M: Ledger, R: Wait + Abort>(
     rt: &R,
     alloc: Global,
     profiler: &SharedProfiler<L, M>,
@@ -80,7 +80,7 @@ fn handed_out<R: Abort>(rt: &R, alloc: Global, frame: &FrameData) {
 }
 
 /// A thread's two scopes, one with a text that both forms write in one way, and one of the caller's own, in one frame.
-fn in_one_frame<L: Ledger, M: Ledger, R: Wait + Abort + Copy + Drop>(
+fn in_one_frame<L: Ledger + History, M: Ledger, R: Wait + Abort + Copy + Drop>(
     rt: R,
     alloc: Global,
     profiler: &SharedProfiler<L, M>,
@@ -95,23 +95,31 @@ fn in_one_frame<L: Ledger, M: Ledger, R: Wait + Abort + Copy + Drop>(
 }
 
 /// The same of a new profiler.
-fn reported<L: Ledger, M: Ledger, R: Wait + Abort + Copy + Drop>(
+fn reported<L: Ledger + History, M: Ledger, R: Wait + Abort + Copy + Drop>(
     rt: R,
     alloc: Global,
     reported: Blank,
     handed: Blank,
+    log: NewLog<Event>,
 )
     requires reported { (reported.name ≡ L.name)
         × (reported.parts ≡ L.parts)
         × (reported.parts ≡ 1) }
     requires handed { (handed.name ≡ M.name) × (handed.parts ≡ M.parts) × (handed.parts ≡ 1) }
+    requires log { log.name ≡ L.history }
 {
     let none = GlobalProfiler::new(alloc);
-    let (profiler, share, _) = opened::<L, M>(&rt, alloc, none, 1, reported, handed);
+    let (profiler, share, _) = opened::<L, M>(&rt, alloc, none, 1, reported, handed, log);
     in_one_frame(rt, alloc, &profiler, share);
 }
 
 #[test]
 fn long_texts_are_handed_out_whole(rt: HostRuntime) {
-    reported::<Brand, Brand, HostRuntime>(rt, rt.alloc(), Blank::new(1), Blank::new(1));
+    reported::<Brand, Brand, HostRuntime>(
+        rt,
+        rt.alloc(),
+        Blank::new(1),
+        Blank::new(1),
+        NewLog::new(),
+    );
 }

@@ -3,7 +3,7 @@
 use crate::workers;
 use crate::workers::{Kind, NAMES};
 use puffin::data::{ScopeId, StreamInfoRef};
-use puffin::global_profiler::{Share, SharedProfiler, SharedReporter};
+use puffin::global_profiler::{History, NewLog, Share, SharedProfiler, SharedReporter};
 use puffin::scope_details::ScopeDetails;
 use puffin::thread_profiler::{
     AnyThread, Closed, Reporter, ScriptClock, ThreadInfo, ThreadProfiler,
@@ -19,12 +19,12 @@ pub(crate) const SCOPES: u32 = 500;
 
 /// Refuses each third report, and hands on the others.
 #[derive(Drop)]
-pub struct Wary<L: Ledger, M: Ledger, R: Wait> {
+pub struct Wary<L: Ledger + History, M: Ledger, R: Wait> {
     calls: u32,
     reporter: SharedReporter<L, M, R>,
 }
 
-impl<L: Ledger, M: Ledger, R: Wait> Reporter for Wary<L, M, R> {
+impl<L: Ledger + History, M: Ledger, R: Wait> Reporter for Wary<L, M, R> {
     ghost use Rattle.std.specs.Prelude.{⊤};
 
     ghost accepts = { λ _ _ _ _ _. ⊤ };
@@ -46,7 +46,7 @@ impl<L: Ledger, M: Ledger, R: Wait> Reporter for Wary<L, M, R> {
 }
 
 /// Ends a scope of a thread.
-fn ended<T: AnyThread, L: Ledger, M: Ledger, R: Wait>(
+fn ended<T: AnyThread, L: Ledger + History, M: Ledger, R: Wait>(
     thread: &mut T,
     scope: usize,
     wary: &mut Wary<L, M, R>,
@@ -55,7 +55,7 @@ fn ended<T: AnyThread, L: Ledger, M: Ledger, R: Wait>(
 }
 
 /// Reports what waits until nothing does, in three calls at most. `None` where something waits still.
-fn reported_all<T: AnyThread, L: Ledger, M: Ledger, R: Wait>(
+fn reported_all<T: AnyThread, L: Ledger + History, M: Ledger, R: Wait>(
     thread: &mut T,
     wary: &mut Wary<L, M, R>,
 ) -> Option<()> {
@@ -68,7 +68,7 @@ fn reported_all<T: AnyThread, L: Ledger, M: Ledger, R: Wait>(
 }
 
 /// Begins and ends a scope, each third of which is kept, as its report is refused. `None` where it is otherwise.
-fn scope<L: Ledger, M: Ledger, R: Wait>(
+fn scope<L: Ledger + History, M: Ledger, R: Wait>(
     wary: &mut Wary<L, M, R>,
     thread: &mut ThreadProfiler<ScriptClock>,
     number: u32,
@@ -88,7 +88,7 @@ fn scope<L: Ledger, M: Ledger, R: Wait>(
 
 /// Closes scopes with rising ids, one after the other, and reports what waits at the end. `None` where another
 /// one than each third report is refused.
-fn closed<L: Ledger, M: Ledger, R: Wait>(
+fn closed<L: Ledger + History, M: Ledger, R: Wait>(
     alloc: Global,
     wary: &mut Wary<L, M, R>,
     name: &str,
@@ -102,7 +102,7 @@ fn closed<L: Ledger, M: Ledger, R: Wait>(
 }
 
 /// What a worker does whose reporter refuses each third report. Gives the share back.
-pub(crate) fn work<L: Ledger, M: Ledger, R: Wait + Drop>(
+pub(crate) fn work<L: Ledger + History, M: Ledger, R: Wait + Drop>(
     rt: R,
     alloc: Global,
     profiler: SharedProfiler<L, M>,
@@ -121,5 +121,14 @@ pub(crate) fn work<L: Ledger, M: Ledger, R: Wait + Drop>(
 fn nine_shares_of_eight_workers_and_a_taker_of_frames(rt: HostRuntime) {
     let alloc = rt.alloc();
     let (reported, handed) = (Blank::new(9), Blank::new(9));
-    workers::run::<Brand, Brand, HostRuntime>(rt, alloc, Kind::Wary, &NAMES, 9, reported, handed);
+    workers::run::<Brand, Brand, HostRuntime>(
+        rt,
+        alloc,
+        Kind::Wary,
+        &NAMES,
+        9,
+        reported,
+        handed,
+        NewLog::new(),
+    );
 }

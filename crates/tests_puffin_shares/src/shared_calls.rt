@@ -9,7 +9,7 @@ use crate::shares::{next_frame, opened};
 use puffin::data::{Counted, Form};
 use puffin::frame_data::FrameData;
 use puffin::global_profiler::{
-    GlobalFrameView, GlobalProfiler, Share, SharedProfiler, SharedReporter,
+    Event, GlobalFrameView, GlobalProfiler, History, NewLog, Share, SharedProfiler, SharedReporter,
 };
 use puffin::scope_details::{ScopeDetails, ScopeIds};
 use puffin::thread_profiler::{ScriptClock, ThreadProfiler};
@@ -47,7 +47,7 @@ fn function_waits(thread: &mut Thread) -> Result<()> {
 }
 
 /// The scope is reported, once.
-fn is_reported_once<L: Ledger, M: Ledger, R: Wait + Abort>(
+fn is_reported_once<L: Ledger + History, M: Ledger, R: Wait + Abort>(
     rt: &R,
     alloc: Global,
     reporter: &mut SharedReporter<L, M, R>,
@@ -60,7 +60,7 @@ fn is_reported_once<L: Ledger, M: Ledger, R: Wait + Abort>(
 }
 
 /// Reports a scope whose guard is gone. Checks that the next frame has it and lists it.
-fn closed_is_reported<L: Ledger, M: Ledger, R: Wait + Abort + Copy + Drop>(
+fn closed_is_reported<L: Ledger + History, M: Ledger, R: Wait + Abort + Copy + Drop>(
     rt: R,
     alloc: Global,
     profiler: &SharedProfiler<L, M>,
@@ -75,7 +75,7 @@ fn closed_is_reported<L: Ledger, M: Ledger, R: Wait + Abort + Copy + Drop>(
 
 /// Takes three frames of one scope each. The first lists the scope that was registered, the second lists none, and the
 /// third, for a snapshot, lists it again.
-fn snapshot_tells_all<L: Ledger, M: Ledger, R: Wait + Abort + Copy + Drop>(
+fn snapshot_tells_all<L: Ledger + History, M: Ledger, R: Wait + Abort + Copy + Drop>(
     rt: R,
     alloc: Global,
     profiler: &SharedProfiler<L, M>,
@@ -114,7 +114,7 @@ fn packed(rt: &impl Abort, alloc: Global) -> FrameData {
 }
 
 /// The packet's frame is added, and no sink refuses it.
-fn is_added<L: Ledger, M: Ledger, R: Wait + Abort>(
+fn is_added<L: Ledger + History, M: Ledger, R: Wait + Abort>(
     rt: &R,
     alloc: Global,
     profiler: &SharedProfiler<L, M>,
@@ -138,7 +138,7 @@ fn is_viewed<R: Wait + Abort>(rt: &R, view: &GlobalFrameView) {
 /// Checks that a frame may be added where there is no sink, that it is handed to a view, and that its scope is listed by a
 /// snapshot in the next frame.
 fn added_is_handed_on<
-    L: Ledger + Send + Sync + 'static,
+    L: Ledger + History + Send + Sync + 'static,
     M: Ledger + Send + Sync + 'static,
     R: Wait + Abort + Copy + Drop,
 >(rt: R, alloc: Global, profiler: &SharedProfiler<L, M>, share: Share<L, M>) {
@@ -162,17 +162,18 @@ fn added_is_handed_on<
 
 /// A new profiler is called so.
 fn called<
-    L: Ledger + Send + Sync + 'static,
+    L: Ledger + History + Send + Sync + 'static,
     M: Ledger + Send + Sync + 'static,
     R: Wait + Abort + Copy + Drop,
->(rt: R, alloc: Global, call: Call, reported: Blank, handed: Blank)
+>(rt: R, alloc: Global, call: Call, reported: Blank, handed: Blank, log: NewLog<Event>)
     requires reported { (reported.name ≡ L.name)
         × (reported.parts ≡ L.parts)
         × (reported.parts ≡ 1) }
     requires handed { (handed.name ≡ M.name) × (handed.parts ≡ M.parts) × (handed.parts ≡ 1) }
+    requires log { log.name ≡ L.history }
 {
     let none = GlobalProfiler::new(alloc);
-    let (profiler, share, _) = opened::<L, M>(&rt, alloc, none, 1, reported, handed);
+    let (profiler, share, _) = opened::<L, M>(&rt, alloc, none, 1, reported, handed, log);
     match call {
         Call::ReportClosed => closed_is_reported(rt, alloc, &profiler, share),
         Call::Snapshot => snapshot_tells_all(rt, alloc, &profiler, share),
@@ -183,17 +184,38 @@ fn called<
 #[test]
 fn scopes_that_wait_are_reported_with_details(rt: HostRuntime) {
     let (reported, handed) = (Blank::new(1), Blank::new(1));
-    called::<Brand, Brand, HostRuntime>(rt, rt.alloc(), Call::ReportClosed, reported, handed);
+    called::<Brand, Brand, HostRuntime>(
+        rt,
+        rt.alloc(),
+        Call::ReportClosed,
+        reported,
+        handed,
+        NewLog::new(),
+    );
 }
 
 #[test]
 fn a_snapshot_tells_of_all_scopes(rt: HostRuntime) {
     let (reported, handed) = (Blank::new(1), Blank::new(1));
-    called::<Brand, Brand, HostRuntime>(rt, rt.alloc(), Call::Snapshot, reported, handed);
+    called::<Brand, Brand, HostRuntime>(
+        rt,
+        rt.alloc(),
+        Call::Snapshot,
+        reported,
+        handed,
+        NewLog::new(),
+    );
 }
 
 #[test]
 fn an_added_frame_is_handed_on(rt: HostRuntime) {
     let (reported, handed) = (Blank::new(1), Blank::new(1));
-    called::<Brand, Brand, HostRuntime>(rt, rt.alloc(), Call::AddFrame, reported, handed);
+    called::<Brand, Brand, HostRuntime>(
+        rt,
+        rt.alloc(),
+        Call::AddFrame,
+        reported,
+        handed,
+        NewLog::new(),
+    );
 }

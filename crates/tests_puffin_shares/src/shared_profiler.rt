@@ -7,7 +7,7 @@ use crate::{shares, workers};
 use puffin::data::{Form, ScopeId};
 use puffin::frame_data::FrameData;
 use puffin::global_profiler::{
-    GlobalFrameView, GlobalProfiler, Share, SharedProfiler, SharedReporter,
+    Event, GlobalFrameView, GlobalProfiler, History, NewLog, Share, SharedProfiler, SharedReporter,
 };
 use puffin::scope_details::{ScopeDetails, ScopeIds};
 use puffin::thread_profiler::{Closed, ScriptClock, ThreadProfiler};
@@ -25,7 +25,7 @@ const NAMES: [&str; 4] = ["w0", "w1", "w2", "w3"];
 
 /// Begins and ends a scope with the thread's name for its text, which is reported at its end. `None` where it isn't, or
 /// the totals are below what was reported.
-fn scope<L: Ledger, M: Ledger, R: Wait>(
+fn scope<L: Ledger + History, M: Ledger, R: Wait>(
     reporter: &mut SharedReporter<L, M, R>,
     thread: &mut ThreadProfiler<ScriptClock>,
     number: u32,
@@ -42,7 +42,7 @@ fn scope<L: Ledger, M: Ledger, R: Wait>(
 }
 
 /// Reports so many scopes with rising ids, one after the other.
-fn closed<L: Ledger, M: Ledger, R: Wait>(
+fn closed<L: Ledger + History, M: Ledger, R: Wait>(
     alloc: Global,
     reporter: &mut SharedReporter<L, M, R>,
     name: &str,
@@ -57,7 +57,7 @@ fn closed<L: Ledger, M: Ledger, R: Wait>(
 }
 
 /// What a worker does who reports each of so many scopes at its end. Gives the share back.
-pub(crate) fn work<L: Ledger, M: Ledger, R: Wait + Drop>(
+pub(crate) fn work<L: Ledger + History, M: Ledger, R: Wait + Drop>(
     rt: R,
     alloc: Global,
     profiler: SharedProfiler<L, M>,
@@ -74,11 +74,20 @@ pub(crate) fn work<L: Ledger, M: Ledger, R: Wait + Drop>(
 fn shares_of_four_workers_and_a_taker_of_frames(rt: HostRuntime) {
     let alloc = rt.alloc();
     let (reported, handed) = (Blank::new(5), Blank::new(5));
-    workers::run::<Brand, Brand, HostRuntime>(rt, alloc, Kind::Steady, &NAMES, 5, reported, handed);
+    workers::run::<Brand, Brand, HostRuntime>(
+        rt,
+        alloc,
+        Kind::Steady,
+        &NAMES,
+        5,
+        reported,
+        handed,
+        NewLog::new(),
+    );
 }
 
 /// Registers a scope of the caller's own, the first one.
-fn registered<L: Ledger, M: Ledger, R: Wait + Abort>(
+fn registered<L: Ledger + History, M: Ledger, R: Wait + Abort>(
     rt: &R,
     profiler: &SharedProfiler<L, M>,
 ) -> ScopeId {
@@ -117,7 +126,7 @@ fn found<R: Wait + Abort>(rt: &R, view: &GlobalFrameView, id: ScopeId) {
 }
 
 /// A scope with this id is reported, and its frame handed on. Returns the frame and the share.
-fn handed_on<L: Ledger, M: Ledger, R: Wait + Abort + Copy + Drop>(
+fn handed_on<L: Ledger + History, M: Ledger, R: Wait + Abort + Copy + Drop>(
     rt: R,
     alloc: Global,
     profiler: &SharedProfiler<L, M>,
@@ -131,7 +140,7 @@ fn handed_on<L: Ledger, M: Ledger, R: Wait + Abort + Copy + Drop>(
 
 /// A scope of the caller's own, in a view that was attached before it was reported. A view that was removed gets no frame.
 fn is_viewed<
-    L: Ledger + Send + Sync + 'static,
+    L: Ledger + History + Send + Sync + 'static,
     M: Ledger + Send + Sync + 'static,
     R: Wait + Abort + Copy + Send + Sync + 'static,
 >(rt: R, alloc: Global, profiler: &SharedProfiler<L, M>, share: Share<L, M>) {
@@ -150,21 +159,28 @@ fn is_viewed<
 
 /// The same of a new profiler.
 fn attached<
-    L: Ledger + Send + Sync + 'static,
+    L: Ledger + History + Send + Sync + 'static,
     M: Ledger + Send + Sync + 'static,
     R: Wait + Abort + Copy + Send + Sync + 'static,
->(rt: R, alloc: Global, reported: Blank, handed: Blank)
+>(rt: R, alloc: Global, reported: Blank, handed: Blank, log: NewLog<Event>)
     requires reported { (reported.name ≡ L.name)
         × (reported.parts ≡ L.parts)
         × (reported.parts ≡ 1) }
     requires handed { (handed.name ≡ M.name) × (handed.parts ≡ M.parts) × (handed.parts ≡ 1) }
+    requires log { log.name ≡ L.history }
 {
     let none = GlobalProfiler::new(alloc);
-    let (profiler, share, _) = opened::<L, M>(&rt, alloc, none, 1, reported, handed);
+    let (profiler, share, _) = opened::<L, M>(&rt, alloc, none, 1, reported, handed, log);
     is_viewed(rt, alloc, &profiler, share);
 }
 
 #[test]
 fn a_view_finds_scopes_by_name(rt: HostRuntime) {
-    attached::<Brand, Brand, HostRuntime>(rt, rt.alloc(), Blank::new(1), Blank::new(1));
+    attached::<Brand, Brand, HostRuntime>(
+        rt,
+        rt.alloc(),
+        Blank::new(1),
+        Blank::new(1),
+        NewLog::new(),
+    );
 }

@@ -1,12 +1,15 @@
 //! A profiler that is shared, as most tests here begin with.
 
 ghost use Rattle.std.specs.Prelude.{◌≡◌, ◌<◌};
+ghost use Rattle.std.specs.FinMap as map;
 ghost use Rattle.puffin.specs.Profiler.{collected_of};
 
 use crate::equal::equal;
 use puffin::data::{Form, ScopeId};
 use puffin::frame_data::FrameData;
-use puffin::global_profiler::{Emitted, GlobalProfiler, Share, SharedProfiler, SharedReporter};
+use puffin::global_profiler::{
+    Emitted, Event, GlobalProfiler, History, NewLog, Share, SharedProfiler, SharedReporter,
+};
 use puffin::thread_profiler::{Closed, ScriptClock, ThreadProfiler};
 use std::alloc::Global;
 use std::process::Abort;
@@ -17,16 +20,18 @@ use std::sync::{Arc, Wait};
 pub(crate) type Opened<L, M> = (SharedProfiler<L, M>, Share<L, M>, Vec<Share<L, M>>);
 
 /// A profiler that nothing was reported to, shared by so many.
-pub(crate) fn opened<L: Ledger, M: Ledger>(
+pub(crate) fn opened<L: Ledger + History, M: Ledger>(
     rt: &impl Abort,
     alloc: Global,
     profiler: GlobalProfiler,
     parts: usize,
     reported: Blank,
     handed: Blank,
+    log: NewLog<Event>,
 ) -> Opened<L, M>
     requires fresh { ((collected_of profiler).reported ≡ 0)
-        × ((collected_of profiler).emitted ≡ 0) }
+        × ((collected_of profiler).emitted ≡ 0)
+        × ((collected_of profiler).streams ≡ map.empty) }
     requires some { 0 < parts }
     requires reported { (reported.name ≡ L.name)
         × (reported.parts ≡ L.parts)
@@ -34,15 +39,16 @@ pub(crate) fn opened<L: Ledger, M: Ledger>(
     requires handed { (handed.name ≡ M.name)
         × (handed.parts ≡ M.parts)
         × (handed.parts ≡ parts) }
+    requires log { log.name ≡ L.history }
 {
-    let opened = SharedProfiler::<L, M>::open(alloc, profiler, parts, reported, handed);
+    let opened = SharedProfiler::<L, M>::open(alloc, profiler, parts, reported, handed, log);
     let (profiler, mut shares) = opened.ok().expect(rt, "memory");
     let own = shares.pop().expect(rt, "a share");
     (profiler, own, shares)
 }
 
 /// Closes a scope for each text on a thread with the name "main", and each is reported at its end.
-fn closed<L: Ledger, M: Ledger, R: Wait + Abort>(
+fn closed<L: Ledger + History, M: Ledger, R: Wait + Abort>(
     rt: &R,
     alloc: Global,
     reporter: &mut SharedReporter<L, M, R>,
@@ -62,7 +68,7 @@ fn closed<L: Ledger, M: Ledger, R: Wait + Abort>(
 }
 
 /// Reports by this share a scope for each text, and gives the share back.
-pub(crate) fn reported<L: Ledger, M: Ledger, R: Wait + Abort + Copy + Drop>(
+pub(crate) fn reported<L: Ledger + History, M: Ledger, R: Wait + Abort + Copy + Drop>(
     rt: R,
     alloc: Global,
     profiler: &SharedProfiler<L, M>,
@@ -77,7 +83,7 @@ pub(crate) fn reported<L: Ledger, M: Ledger, R: Wait + Abort + Copy + Drop>(
 }
 
 /// The next frame, which no sink refuses.
-pub(crate) fn next_frame<L: Ledger, M: Ledger, R: Wait + Abort>(
+pub(crate) fn next_frame<L: Ledger + History, M: Ledger, R: Wait + Abort>(
     rt: &R,
     profiler: &SharedProfiler<L, M>,
     share: &mut Share<L, M>,

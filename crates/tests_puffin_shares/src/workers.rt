@@ -7,7 +7,9 @@ use crate::shares::opened;
 use crate::{few_workers, many_workers, shared_profiler};
 use puffin::data::{Reader, Scope};
 use puffin::frame_data::FrameData;
-use puffin::global_profiler::{GlobalProfiler, Settled, Share, SharedProfiler};
+use puffin::global_profiler::{
+    Event, GlobalProfiler, History, NewLog, Settled, Share, SharedProfiler,
+};
 use std::alloc::{AllocError, Global};
 use std::process::Abort;
 use std::sync::ledger::{Blank, Ledger};
@@ -44,7 +46,7 @@ impl Kind {
 type Frames = Vec<Arc<FrameData>>;
 
 /// Takes a frame so many times, and gives the share back with the frames.
-fn taken<L: Ledger, M: Ledger, R: Wait>(
+fn taken<L: Ledger + History, M: Ledger, R: Wait>(
     rt: &R,
     profiler: &SharedProfiler<L, M>,
     share: &mut Share<L, M>,
@@ -60,7 +62,7 @@ fn taken<L: Ledger, M: Ledger, R: Wait>(
 }
 
 /// Works in one of the two ways, and gives the share back.
-fn work<L: Ledger, M: Ledger, R: Wait + Drop>(
+fn work<L: Ledger + History, M: Ledger, R: Wait + Drop>(
     rt: R,
     alloc: Global,
     profiler: SharedProfiler<L, M>,
@@ -82,7 +84,7 @@ type Workers<L, M> = Vec<JoinHandle<Option<Share<L, M>>>>;
 
 /// Starts a worker on a thread of its own.
 fn start<
-    L: Ledger + Send + 'static,
+    L: Ledger + History + Send + 'static,
     M: Ledger + Send + 'static,
     R: Threads + Wait + Copy + Send + 'static,
 >(
@@ -100,7 +102,7 @@ fn start<
 
 /// Starts a worker with each share.
 fn started<
-    L: Ledger + Send + Sync + 'static,
+    L: Ledger + History + Send + Sync + 'static,
     M: Ledger + Send + Sync + 'static,
     R: Threads + Wait + Abort + Copy + Send + Sync + 'static,
 >(
@@ -122,7 +124,7 @@ fn started<
 }
 
 /// Waits for the workers' ends, and gives their shares back.
-fn joined<L: Ledger, M: Ledger, R: Threads + Wait + Abort>(
+fn joined<L: Ledger + History, M: Ledger, R: Threads + Wait + Abort>(
     rt: &R,
     alloc: Global,
     workers: Workers<L, M>,
@@ -137,7 +139,7 @@ fn joined<L: Ledger, M: Ledger, R: Threads + Wait + Abort>(
 
 /// Starts a worker with each share, takes frames meanwhile, and gives the shares back.
 fn worked<
-    L: Ledger + Send + Sync + 'static,
+    L: Ledger + History + Send + Sync + 'static,
     M: Ledger + Send + Sync + 'static,
     R: Threads + Wait + Abort + Copy + Send + Sync + 'static,
 >(
@@ -199,7 +201,7 @@ fn in_order(alloc: Global, frames: &Frames, name: &str) -> puffin::Result<Option
 }
 
 /// The shares of so many workers aren't all, and come back.
-fn one_too_few<L: Ledger, M: Ledger, R: Wait + Abort>(
+fn one_too_few<L: Ledger + History, M: Ledger, R: Wait + Abort>(
     rt: &R,
     profiler: &SharedProfiler<L, M>,
     shares: Vec<Share<L, M>>,
@@ -225,7 +227,7 @@ fn are_in_order<R: Abort>(rt: &R, alloc: Global, frames: &Frames, names: &[&str]
 }
 
 /// These shares are all, and so many scopes were reported and handed out, by the totals of each share too.
-fn are_all<L: Ledger, M: Ledger, R: Wait + Abort>(
+fn are_all<L: Ledger + History, M: Ledger, R: Wait + Abort>(
     rt: &R,
     profiler: &SharedProfiler<L, M>,
     shares: Vec<Share<L, M>>,
@@ -254,7 +256,7 @@ fn are_all<L: Ledger, M: Ledger, R: Wait + Abort>(
 /// Workers with these names report on their threads, and one more takes frames: all scopes are handed out, each once.
 /// Gives the workers' shares back.
 fn are_handed_out<
-    L: Ledger + Send + Sync + 'static,
+    L: Ledger + History + Send + Sync + 'static,
     M: Ledger + Send + Sync + 'static,
     R: Threads + Wait + Abort + Copy + Send + Sync + 'static,
 >(
@@ -277,10 +279,19 @@ fn are_handed_out<
 
 /// The same of a new profiler, with a share for each worker and one for whoever takes frames.
 pub(crate) fn run<
-    L: Ledger + Send + Sync + 'static,
+    L: Ledger + History + Send + Sync + 'static,
     M: Ledger + Send + Sync + 'static,
     R: Threads + Wait + Abort + Copy + Send + Sync + 'static,
->(rt: R, alloc: Global, kind: Kind, names: &[&str], parts: usize, reported: Blank, handed: Blank)
+>(
+    rt: R,
+    alloc: Global,
+    kind: Kind,
+    names: &[&str],
+    parts: usize,
+    reported: Blank,
+    handed: Blank,
+    log: NewLog<Event>,
+)
     requires some { 0 < parts }
     requires reported { (reported.name ≡ L.name)
         × (reported.parts ≡ L.parts)
@@ -288,9 +299,12 @@ pub(crate) fn run<
     requires handed { (handed.name ≡ M.name)
         × (handed.parts ≡ M.parts)
         × (handed.parts ≡ parts) }
+    requires log { log.name ≡ L.history }
 {
     let none = GlobalProfiler::new(alloc);
-    let (profiler, mut own, shares) = opened::<L, M>(&rt, alloc, none, parts, reported, handed);
+    let (profiler, mut own, shares) = opened::<L, M>(
+        &rt, alloc, none, parts, reported, handed, log,
+    );
     let shares = are_handed_out(rt, alloc, kind, names, &profiler, shares, &mut own);
     are_all(&rt, &profiler, shares, own, all_scopes(kind, names));
 }

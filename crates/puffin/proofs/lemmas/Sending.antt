@@ -12,6 +12,11 @@ use denote.Enum.Declared.{shape}
 use Rattle.std.specs.declared.sync.ledger.Ledger as led
 use Rattle.std.proofs.sync.ledger.Book.TheSendSync as ledger_book
 use Rattle.std.proofs.sync.ledger.Share.TheSendSync as ledger_share
+use Rattle.history.specs.declared.tokens.History as hist
+use Rattle.history.specs.contracts.tokens.Log as Log
+use Rattle.history.proofs.lemmas.Sending.{log_send, author_send}
+use Rattle.puffin.specs.contracts.global_profiler.event.Event as Event
+use Rattle.puffin.specs.contracts.global_profiler.share.Parts as Parts
 use Rattle.puffin.specs.contracts.global_profiler.sink.Sink as Sink
 use Rattle.puffin.specs.contracts.global_profiler.sinks.SinkEntry as SinkEntry
 use Rattle.puffin.specs.contracts.global_profiler.sinks.Sinks as Sinks
@@ -28,6 +33,14 @@ use Rattle.puffin_view.specs.contracts.profile_view.frame_view.FrameView as View
 pub view_send : IsSend View.the_row
 view_send = search (held_send, rank_send, collection_send, maps.crosses, crosses, sendable) depth 60 fits 100000
 
+module _ (L : RattleType) (h : hist.Ghosts L.Denot) where
+  pub event_log_send : IsSend (Log.the_field Event.the_row L h).row
+  event_log_send = log_send Event.the_row L h
+
+module _ (L M : RattleType) (l : led.Ghosts L.Denot) (m : led.Ghosts M.Denot) where
+  pub parts_send : IsSend (Parts.the_field L M l m).row
+  parts_send = search (crosses, sendable) depth 30 fits 10000
+
 module _ (D : RattleType) (g : Ghosts D.Denot) (s : Sends (table_of D.Denot g)) (sd : IsSend D) where
   pub sink_send : IsSend (Sink.the_field D g).row
   sink_send = enum_send (shape (Sink.the_type D g)) ((search (view_send, crosses, sendable) depth 30 fits 10000, tt), ((dyn_box_send D g s sd, tt), tt))
@@ -41,21 +54,21 @@ module _ (D : RattleType) (g : Ghosts D.Denot) (s : Sends (table_of D.Denot g)) 
   pub global_send : IsSend (Global.the_field D g).row
   global_send = search (sinks_send, collector_send, crosses, sendable) depth 30 fits 10000
 
-  module _ (L M : RattleType) (l : led.Ghosts L.Denot) (m : led.Ghosts M.Denot) where
-    pub booked_send : IsSend (Booked.the_field L M D l m g).row
-    booked_send = search (global_send, ledger_book.the_send, crosses, sendable) depth 30 fits 10000
+  module _ (L M : RattleType) (l : led.Ghosts L.Denot) (h : hist.Ghosts L.Denot) (m : led.Ghosts M.Denot) where
+    pub booked_send : IsSend (Booked.the_field L M D l h m g).row
+    booked_send = struct_send (struct_shape (Booked.the_type L M D l h m g)) (search (crosses, sendable) depth 30 fits 10000, (global_send, (ledger_book.the_send L l, (ledger_book.the_send M m, (parts_send L M l m, (event_log_send L h, tt))))))
 
-    pub shared_send : IsSend (Shared.the_field L M D l m g).row
+    pub shared_send : IsSend (Shared.the_field L M D l h m g).row
     shared_send = search (booked_send, crosses, sendable) depth 30 fits 10000
 
-    pub shared_row_send : IsSend (Shared.the_row L M D l m g)
+    pub shared_row_send : IsSend (Shared.the_row L M D l h m g)
     shared_row_send = search (shared_send, sendable) depth 10 fits 10000
 
-module _ (L M : RattleType) (l : led.Ghosts L.Denot) (m : led.Ghosts M.Denot) where
-  pub share_field_send : IsSend (Share.the_field L M l m).row
-  share_field_send = search (ledger_share.the_send, crosses, sendable) depth 30 fits 10000
+module _ (L M : RattleType) (l : led.Ghosts L.Denot) (h : hist.Ghosts L.Denot) (m : led.Ghosts M.Denot) where
+  pub share_field_send : IsSend (Share.the_field L M l h m).row
+  share_field_send = search (ledger_share.the_send, author_send, crosses, sendable) depth 30 fits 10000
 
-  pub share_send : IsSend (Share.the_row L M l m)
+  pub share_send : IsSend (Share.the_row L M l h m)
   share_send = share_field_send
 
 -- what a closure captures

@@ -2,6 +2,7 @@
 ghost use Rattle.std.specs.Prelude.{◌≡◌, ◌+◌, ◌≤◌, [], vec_len, Some, OnOk, OnErr, IfOk, IfErr, ⊤};
 ghost use Rattle.std.specs.FinMap as map;
 ghost use Rattle.std.specs.Arc.{arc_value};
+ghost use Rattle.history.specs.Entries.{events};
 ghost use Rattle.puffin_data.specs.Honesty.{IsHonestReport, facts_of_ref};
 ghost use Rattle.puffin_threads.specs.Thread.ThreadKey.{key_of};
 ghost use Rattle.puffin_threads.specs.Details.{details_seen};
@@ -10,33 +11,46 @@ ghost use Rattle.puffin_collector.specs.Collector.State.{after_wanting};
 ghost use Rattle.puffin_collector.specs.Collector.Collecting.{CountsScopes};
 ghost use Rattle.puffin.specs.Profiler.Calls.{TakesReport, RegistersScopes, HandsOutFrame, AddsFrame, AddsSink, RemovesSink};
 ghost use Rattle.puffin.specs.Profiler.{collected_of, SameSinks};
-ghost use Rattle.puffin.specs.Shares.{with_reported, CountsFrame, all_reported, all_handed};
+ghost use Rattle.puffin.specs.Shares.{with_reported, CountsFrame};
+ghost use Rattle.puffin.specs.Happenings.{reported, pending_of, Stands};
+ghost use Rattle.puffin.specs.Members.{Tells, TakesFrame, all_reported, all_handed};
+ghost use Rattle.puffin.specs.Leaving.{accounts_of};
+ghost use Rattle.puffin.specs.Recounted.{Recounts};
 
+use crate::global_profiler::event::{Event, Frames, Report, Reports};
+use crate::global_profiler::leaving::leave_all;
 use crate::global_profiler::profiler::GlobalProfiler;
 use crate::global_profiler::share::{Parts, Share};
 use crate::global_profiler::sink::{FrameSink, FrameSinkId, Sink};
+use history::{History, Log};
 use puffin_collector::{Emitted, Totals};
 use puffin_data::data::{ScopeId, StreamInfoRef};
 use puffin_data::{Error, Result};
 use puffin_frames::frame_data::FrameData;
 use puffin_threads::scope_details::{ScopeDetails, ScopeIds};
 use puffin_threads::thread_profiler::ThreadInfo;
+use std::snapshot::Snapshot;
 use std::sync::ledger::{Book, Ledger};
 use std::sync::{Arc, Wait};
 
 /// A profiler with two books for all its shares together: one counts the scopes reported through the shares, and the other the
-/// scopes in the frames handed out to the shares. Each method except `settle` calls [`GlobalProfiler`]'s method of the same
-/// name; `report`, `report_user_scopes` and `new_frame` also count the scopes in the share that is passed.
+/// scopes in the frames handed out to the shares. Beside them is the history of all that happened through the shares, which
+/// exists in proofs alone: what is pending is just what the history leaves pending, and each frame had just what was due. Each
+/// method except `settle` calls [`GlobalProfiler`]'s method of the same name; `report`, `report_user_scopes` and `new_frame` also
+/// count the scopes in the share that is passed, and are the next entry of the history.
 #[derive(Drop)]
-pub struct Booked<L: Ledger, M: Ledger> {
+pub struct Booked<L: Ledger + History, M: Ledger> {
     /// Keeps the profiler off the cache line of the lock, which other threads read while one holds it.
     apart: [u64; 16],
     profiler: GlobalProfiler,
     reported: Book<L>,
     handed: Book<M>,
     parts: Parts<L, M>,
+    log: Log<Event, L>,
     ghost reported_is: { reported.total ≡ (collected_of profiler).reported },
     ghost handed_is: { handed.total ≡ (collected_of profiler).emitted },
+    ghost authors_are: { log.authors ≡ parts },
+    ghost stands: { ∥ Stands (collected_of profiler).streams (events log.entries) ∥₁ },
 }
 
 /// The counts of all shares of a profiler together, and the number of pending scopes.
@@ -51,18 +65,22 @@ pub struct Settled {
     ghost sum: { reported ≡ handed + pending },
 }
 
-impl<L: Ledger, M: Ledger> Booked<L, M> {
-    ghost use Rattle.puffin.specs.Booked.{profiler_of, collected_in};
+impl<L: Ledger + History, M: Ledger> Booked<L, M> {
+    ghost use Rattle.puffin.specs.Booked.{profiler_of, collected_in, entries_of};
 
-    /// Combines a profiler with its books. Their totals must be the profiler's own.
+    /// Combines a profiler to which nothing was reported with its books and a log without entries.
     pub(crate) fn new(
         profiler: GlobalProfiler,
         reported: Book<L>,
         handed: Book<M>,
         parts: Parts<L, M>,
+        log: Log<Event, L>,
     ) -> Booked<L, M>
-        requires { (reported.total ≡ (collected_of profiler).reported)
-            × (handed.total ≡ (collected_of profiler).emitted) }
+        requires fresh { ((collected_of profiler).reported ≡ 0)
+            × ((collected_of profiler).emitted ≡ 0)
+            × ((collected_of profiler).streams ≡ map.empty) }
+        requires books { (reported.total ≡ 0) × (handed.total ≡ 0) }
+        requires log { (log.authors ≡ parts) × (log.entries ≡ []) }
         ensures { profiler_of result ≡ profiler }
     {
         Booked {
@@ -71,10 +89,11 @@ impl<L: Ledger, M: Ledger> Booked<L, M> {
             reported,
             handed,
             parts,
+            log,
         }
     }
 
-    /// Returns the profiler, and drops its books.
+    /// Returns the profiler, and drops the rest.
     pub(crate) fn into_profiler(self) -> GlobalProfiler
         ensures { result ≡ profiler_of self }
     {
@@ -84,11 +103,13 @@ impl<L: Ledger, M: Ledger> Booked<L, M> {
             reported: _,
             handed: _,
             parts: _,
+            log: _,
         } = self;
         profiler
     }
 
-    /// Reports as [`GlobalProfiler::report`] does. If that succeeds, the share counts the scopes.
+    /// Reports as [`GlobalProfiler::report`] does. If that succeeds, the share counts the scopes, and the report is the history's
+    /// next entry.
     #[inline(always)]
     pub fn report(
         &mut self,
@@ -101,17 +122,26 @@ impl<L: Ledger, M: Ledger> Booked<L, M> {
         ensures reported { TakesReport (profiler_of self.old) (key_of info)
             (details_seen details.now) (facts_of_ref times.now) result (profiler_of self.new) }
         ensures counted { OnOk result (
-            share.new ≡ with_reported share.old times.now.num_scopes) }
-        ensures uncounted { OnErr result (share.new ≡ share.old) }
+            share.new.counts ≡ with_reported share.old.counts times.now.num_scopes) }
+        ensures told { OnOk result (
+            Tells share.old (reported (key_of info) (facts_of_ref times.now))
+            (entries_of self.old) share.new) }
+        ensures log { OnOk result (entries_of self.new ≡ share.new.seen) }
+        ensures unchanged { OnErr result (
+            (share.new ≡ share.old) × (entries_of self.new ≡ entries_of self.old)) }
     {
+        let key = Snapshot::of(&info);
         self.profiler.report(info, details, times)?;
         self.reported
             .add(&mut share.reported, times.num_scopes as u64);
+        let report = Report { info: key, times };
+        self.log
+            .add::<Report<'_>, Reports>(&mut share.author, &report);
         Ok(())
     }
 
     /// Reports the caller's own scopes, as [`GlobalProfiler::report_user_scopes`] does. If that succeeds, the share counts the
-    /// scopes.
+    /// scopes, and the report is the history's next entry.
     pub fn report_user_scopes(
         &mut self,
         share: &mut Share<L, M>,
@@ -122,8 +152,13 @@ impl<L: Ledger, M: Ledger> Booked<L, M> {
         ensures reported { TakesReport (profiler_of self.old) (key_of info) []
             (facts_of_ref times.now) result (profiler_of self.new) }
         ensures counted { OnOk result (
-            share.new ≡ with_reported share.old times.now.num_scopes) }
-        ensures uncounted { OnErr result (share.new ≡ share.old) }
+            share.new.counts ≡ with_reported share.old.counts times.now.num_scopes) }
+        ensures told { OnOk result (
+            Tells share.old (reported (key_of info) (facts_of_ref times.now))
+            (entries_of self.old) share.new) }
+        ensures log { OnOk result (entries_of self.new ≡ share.new.seen) }
+        ensures unchanged { OnErr result (
+            (share.new ≡ share.old) × (entries_of self.new ≡ entries_of self.old)) }
     {
         self.report(share, info, &[], times)
     }
@@ -135,8 +170,9 @@ impl<L: Ledger, M: Ledger> Booked<L, M> {
         details: &[ScopeDetails],
     ) -> Result<Vec<ScopeId>>
         requires boxed_sinks { ⊤ }
-        ensures { RegistersScopes (λ scope_ids. scope_ids.items)
+        ensures registered { RegistersScopes (λ scope_ids. scope_ids.items)
             (profiler_of self.old) (details_seen details.now) result (profiler_of self.new) }
+        ensures log { entries_of self.new ≡ entries_of self.old }
     {
         self.profiler.register_user_scopes(ids, details)
     }
@@ -147,18 +183,22 @@ impl<L: Ledger, M: Ledger> Booked<L, M> {
         ensures wants { collected_in self.new
             ≡ after_wanting (collected_in self.old) }
         ensures sinks { SameSinks (profiler_of self.old) (profiler_of self.new) }
+        ensures log { entries_of self.new ≡ entries_of self.old }
     {
         self.profiler.emit_scope_snapshot();
     }
 
-    /// Hands out a frame as [`GlobalProfiler::new_frame`] does. If there is one, the share counts its scopes.
+    /// Hands out a frame as [`GlobalProfiler::new_frame`] does. If there is one, the share counts its scopes, and the frame is
+    /// the history's next entry.
     pub fn new_frame<R: Wait>(&mut self, rt: &R, share: &mut Share<L, M>) -> Result<Emitted>
         requires boxed_sinks { ⊤ }
         ensures handed_out { HandsOutFrame (λ b. (FrameSink-box b).accepts)
             (profiler_of self.old) result (profiler_of self.new) }
         ensures counted { IfOk result (λ emitted.
-            CountsFrame share.old emitted.frame share.new) }
-        ensures uncounted { OnErr result (share.new ≡ share.old) }
+            CountsFrame share.old.counts emitted.frame share.new.counts) }
+        ensures taken { IfOk result (λ emitted. TakesFrame share.old emitted.frame share.new) }
+        ensures unchanged { OnErr result (
+            (share.new ≡ share.old) × (entries_of self.new ≡ entries_of self.old)) }
     {
         let Emitted { frame, refused } = self.profiler.new_frame(rt)?;
         let Some(frame) = frame else {
@@ -169,17 +209,21 @@ impl<L: Ledger, M: Ledger> Booked<L, M> {
         };
         self.handed
             .add(&mut share.handed, frame.meta().num_scopes as u64);
+        self.log
+            .add::<Arc<FrameData>, Frames>(&mut share.author, &frame);
         Ok(Emitted {
             frame: Some(frame),
             refused,
         })
     }
 
-    /// Hands a frame that was made elsewhere to the sinks, as [`GlobalProfiler::add_frame`] does. No share counts it.
+    /// Hands a frame that was made elsewhere to the sinks, as [`GlobalProfiler::add_frame`] does. No share counts it, and it is no
+    /// entry of the history.
     pub fn add_frame<R: Wait>(&mut self, rt: &R, frame: Arc<FrameData>) -> Result<usize>
         requires boxed_sinks { ⊤ }
-        ensures { AddsFrame (λ b. (FrameSink-box b).accepts)
+        ensures added { AddsFrame (λ b. (FrameSink-box b).accepts)
             (profiler_of self.old) (arc_value frame) result (profiler_of self.new) }
+        ensures log { entries_of self.new ≡ entries_of self.old }
     {
         self.profiler.add_frame(rt, frame)
     }
@@ -187,7 +231,8 @@ impl<L: Ledger, M: Ledger> Booked<L, M> {
     /// Adds a sink as [`GlobalProfiler::add_sink`] does.
     pub fn add_sink(&mut self, sink: Sink) -> std::result::Result<FrameSinkId, (Error, Sink)>
         requires boxed_sinks { ⊤ }
-        ensures { AddsSink (profiler_of self.old) sink result (profiler_of self.new) }
+        ensures added { AddsSink (profiler_of self.old) sink result (profiler_of self.new) }
+        ensures log { entries_of self.new ≡ entries_of self.old }
     {
         self.profiler.add_sink(sink)
     }
@@ -195,19 +240,22 @@ impl<L: Ledger, M: Ledger> Booked<L, M> {
     /// Removes a sink as [`GlobalProfiler::remove_sink`] does.
     pub fn remove_sink(&mut self, id: FrameSinkId) -> Option<Sink>
         requires boxed_sinks { ⊤ }
-        ensures { RemovesSink (profiler_of self.old) id result (profiler_of self.new) }
+        ensures removed { RemovesSink (profiler_of self.old) id result (profiler_of self.new) }
+        ensures log { entries_of self.new ≡ entries_of self.old }
     {
         self.profiler.remove_sink(id)
     }
 
-    /// Returns the profiler's totals as [`GlobalProfiler::totals`] does. `reported` and `emitted` are at least the share's
-    /// counts of scopes reported and handed out. The share doesn't change.
+    /// Returns the profiler's totals as [`GlobalProfiler::totals`] does. `reported` and `emitted` are at least the share's counts of
+    /// scopes reported and handed out. The share doesn't change.
     pub fn totals(&mut self, share: &mut Share<L, M>) -> Totals
         requires boxed_sinks { ⊤ }
         ensures counted { CountsScopes (collected_in self.old) result }
-        ensures own { (share.old.reported ≤ result.reported)
-            × (share.old.handed ≤ result.emitted) }
-        ensures same { (profiler_of self.new ≡ profiler_of self.old) × (share.new ≡ share.old) }
+        ensures own { (share.old.counts.reported ≤ result.reported)
+            × (share.old.counts.handed ≤ result.emitted) }
+        ensures same { (profiler_of self.new ≡ profiler_of self.old)
+            × (entries_of self.new ≡ entries_of self.old)
+            × (share.new ≡ share.old) }
     {
         // Both calls do nothing; their contracts tell the prover that no share counts more than its book.
         self.reported.audit(&mut share.reported);
@@ -215,8 +263,8 @@ impl<L: Ledger, M: Ledger> Booked<L, M> {
         self.profiler.totals()
     }
 
-    /// Adds up the counts of all shares, and returns the sums with the number of pending scopes. Every reported scope was
-    /// handed out or is pending. Allocates nothing.
+    /// Adds up the counts of all shares, and returns the sums with the number of pending scopes. The shares leave the history,
+    /// and together they know all of it. Allocates nothing.
     ///
     /// Fails if `shares` doesn't have as many shares as were made, and then returns them.
     pub fn settle(
@@ -230,6 +278,10 @@ impl<L: Ledger, M: Ledger> Booked<L, M> {
         ensures handed { IfOk result (λ s. s.handed ≡ all_handed shares.items) }
         ensures pending { IfOk result (λ s. s.pending
             ≡ total_scopes (map.values (collected_in self.old).streams)) }
+        ensures history { OnOk result (
+            Recounts (vec_len shares) (accounts_of shares.items) (entries_of self.old)) }
+        ensures left_pending { (collected_in self.old).streams
+            ≡ pending_of (events (entries_of self.old)) }
         ensures err { IfErr result (λ v. (v ≡ shares) × ¬ (vec_len shares ≡ L.parts)) }
         ensures same { profiler_of self.new ≡ profiler_of self.old }
     {
@@ -240,7 +292,7 @@ impl<L: Ledger, M: Ledger> Booked<L, M> {
         let Some(last) = shares.pop() else {
             return Err(shares);
         };
-        let (mut all_reported, mut all_handed) = last.merge(shares);
+        let (mut all_reported, mut all_handed) = leave_all(&mut self.log, shares, last);
         // Both calls do nothing; their contracts tell the prover that all shares together count as much as their books.
         self.reported.audit(&mut all_reported);
         self.handed.audit(&mut all_handed);

@@ -5,6 +5,7 @@ ghost use Rattle.puffin.specs.SharedCauses.{IsSinkCause};
 
 use crate::global_profiler::shared_profiler::SharedProfiler;
 use crate::global_profiler::sink::{FrameSinkId, Sink};
+use history::History;
 use puffin_data::{Error, Result};
 use puffin_view::profile_view::FrameView;
 use std::alloc::Global;
@@ -29,7 +30,7 @@ impl GlobalFrameView {
     /// let view = GlobalFrameView::attach(&rt, alloc, &profiler)?;
     /// view.lock(&rt).set_max_recent(200);
     /// ```
-    pub fn attach<L: Ledger, M: Ledger>(
+    pub fn attach<L: Ledger + History, M: Ledger>(
         rt: &impl Wait,
         alloc: Global,
         profiler: &SharedProfiler<L, M>,
@@ -53,7 +54,7 @@ impl GlobalFrameView {
 
     /// Removes the view from the profiler's sinks, and returns whether it was there. Pass the profiler that the view was
     /// attached to: from another one, this would remove the sink with the same number.
-    pub fn detach<L: Ledger, M: Ledger>(
+    pub fn detach<L: Ledger + History, M: Ledger>(
         self,
         rt: &impl Wait,
         profiler: &SharedProfiler<L, M>,

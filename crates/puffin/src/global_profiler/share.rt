@@ -1,45 +1,66 @@
-//! Shares of a shared profiler's counts.
-ghost use Rattle.std.specs.Prelude.{◌≡◌, ◌+◌, ◌<◌, vec_len, All, IfOk, IsOkUnless};
+//! Shares of a shared profiler: what each counts, and what it knows of the history.
+ghost use Rattle.std.specs.Prelude.{◌≡◌, ◌<◌, [], vec_len, All, IfOk, IsOkUnless};
 ghost use Rattle.puffin_data.specs.declared.error.Error.{Error};
-ghost use Rattle.puffin.specs.Shares.{no_counts, all_reported, all_handed};
+ghost use Rattle.puffin.specs.Members.{IsNewMember};
 
+use crate::global_profiler::event::Event;
+use history::{Author, History, Log};
 use puffin_data::Result;
 use std::alloc::Global;
 use std::marker::{Model, PhantomData};
 use std::sync::ledger;
 use std::sync::ledger::Ledger;
 
-/// One share of a shared profiler's counts. It counts the scopes reported through it, and those in the frames handed out to it.
-/// `L` and `M` are the profiler's two ledgers, so the share can't be used with another profiler.
+/// One share of a shared profiler. It counts the scopes reported through it, and those in the frames handed out to it. Contracts
+/// also see what happened through it: each accepted report and each frame, in order; no byte of it exists when a program runs.
+/// `L` and `M` are the profiler's two ledgers, and `L` is also its history, so the share can't be used with another profiler.
 #[derive(Drop)]
-pub struct Share<L: Ledger, M: Ledger> {
+pub struct Share<L: Ledger + History, M: Ledger> {
     pub(crate) reported: ledger::Share<L>,
     pub(crate) handed: ledger::Share<M>,
+    pub(crate) author: Author<Event, L>,
 }
 
-impl<L: Ledger, M: Ledger> Model for Share<L, M> {
+impl<L: Ledger + History, M: Ledger> Model for Share<L, M> {
     ghost use Rattle.std.specs.Prelude.{◌≡◌};
-    ghost use Rattle.puffin.specs.Shares.{ShareCounts};
+    ghost use Rattle.std.specs.List.{count_by};
+    ghost use Rattle.puffin.specs.Happenings.{is_left};
+    ghost use Rattle.puffin.specs.Members.{Member, member_code};
 
-    ghost Value = { ShareCounts };
+    ghost Value = { Member };
 
-    ghost view = { λ s. record { reported = s.reported.amount; handed = s.handed.amount } };
+    ghost coded = { member_code };
 
-    ghost invariant = { λ s. (s.reported.parts ≡ 1) × (s.handed.parts ≡ 1) };
+    ghost view = { λ s.
+        record {
+          counts = record { reported = s.reported.amount; handed = s.handed.amount };
+          number = s.author.number;
+          own = s.author.own;
+          seen = s.author.seen;
+        } };
+
+    ghost invariant = { λ s.
+        (s.reported.parts ≡ 1)
+        × (s.handed.parts ≡ 1)
+        × (count_by is_left s.author.own ≡ 0) };
 }
 
-impl<L: Ledger, M: Ledger> Share<L, M> {
-    /// Splits two ledgers that count nothing into `n` shares. Fails with `Memory`.
+impl<L: Ledger + History, M: Ledger> Share<L, M> {
+    /// Splits two ledgers that count nothing into `n` shares, each with an author of a log without entries. Fails with `Memory`.
     pub(crate) fn split(
         alloc: Global,
         n: usize,
         mut reported: ledger::Share<L>,
         mut handed: ledger::Share<M>,
+        log: &mut Log<Event, L>,
     ) -> Result<Vec<Share<L, M>>>
         requires reported { (reported.parts ≡ n) × (reported.amount ≡ 0) }
         requires handed { (handed.parts ≡ n) × (handed.amount ≡ 0) }
+        requires log { (log.old.authors ≡ 0) × (log.old.entries ≡ []) }
         ensures shares { IfOk result (λ shares.
-            (vec_len shares ≡ n) × All (λ share. share ≡ no_counts) shares.items) }
+            (vec_len shares ≡ n) × All IsNewMember shares.items) }
+        ensures log { IfOk result (λ shares.
+            (log.new.authors ≡ n) × (log.new.entries ≡ [])) }
         ensures err { IsOkUnless result Error.Memory }
     {
         let mut shares = Vec::with_capacity(alloc, n)?;
@@ -47,31 +68,10 @@ impl<L: Ledger, M: Ledger> Share<L, M> {
             shares.push_reserved(Share {
                 reported: reported.split_off(1, 0),
                 handed: handed.split_off(1, 0),
+                author: log.author(),
             });
         }
         Ok(shares)
-    }
-
-    /// Merges this share and others into one share of each ledger.
-    pub(crate) fn merge(self, others: Vec<Share<L, M>>) -> (ledger::Share<L>, ledger::Share<M>)
-        ensures parts { (result.0.parts ≡ vec_len others + 1)
-            × (result.1.parts ≡ vec_len others + 1) }
-        ensures reported { result.0.amount ≡ self.reported + all_reported others.items }
-        ensures handed { result.1.amount ≡ self.handed + all_handed others.items }
-    {
-        let Share {
-            mut reported,
-            mut handed,
-        } = self;
-        for share in others {
-            let Share {
-                reported: more_reported,
-                handed: more_handed,
-            } = share;
-            reported.merge(more_reported);
-            handed.merge(more_handed);
-        }
-        (reported, handed)
     }
 }
 

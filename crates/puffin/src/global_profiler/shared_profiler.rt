@@ -1,18 +1,28 @@
 //! A profiler that several threads share.
-ghost use Rattle.std.specs.Prelude.{◌≡◌, ◌<◌, ◌≤◌, ◌↔◌, vec_len, All, OnOk, OnErr, IfOk, IfErr, ⊤, IsOkUnless, IsTrue};
+ghost use Rattle.std.specs.Prelude.{◌≡◌, ◌+◌, ◌<◌, ◌≤◌, ◌↔◌, vec_len, All, OnOk, OnErr, IfOk, IfErr, ⊤, IsOkUnless, IsTrue};
+ghost use Rattle.std.specs.FinMap as map;
 ghost use Rattle.std.specs.List.{list_any};
 ghost use Rattle.std.specs.Arc.{arc_value};
-ghost use Rattle.puffin_data.specs.Honesty.{IsHonestReport};
+ghost use Rattle.history.specs.Entries.{events};
+ghost use Rattle.puffin_data.specs.Honesty.{IsHonestReport, facts_of_ref};
+ghost use Rattle.puffin_threads.specs.Thread.ThreadKey.{key_of};
 ghost use Rattle.puffin_threads.specs.Details.{details_seen, lacks_id, AllHaveIds};
 ghost use Rattle.puffin_frames.specs.Frame.Contents.{frame_details};
+ghost use Rattle.puffin_frames.specs.Frame.Sums.{total_scopes};
 ghost use Rattle.puffin.specs.Profiler.{collected_of};
-ghost use Rattle.puffin.specs.Shares.{no_counts, with_reported, CountsFrame, SpellsItsScopes, all_reported, all_handed};
+ghost use Rattle.puffin.specs.Shares.{with_reported, CountsFrame, SpellsItsScopes};
 ghost use Rattle.puffin.specs.SharedCauses.{IsReportCause, IsScopesCause, IsFrameCause, IsAddingCause, IsSinkCause, IsDetailsCause};
+ghost use Rattle.puffin.specs.Happenings.{History, reported, pending_of};
+ghost use Rattle.puffin.specs.Members.{IsNewMember, Told, TakesFrame, all_reported, all_handed};
+ghost use Rattle.puffin.specs.Leaving.{accounts_of};
+ghost use Rattle.puffin.specs.Recounted.{Recounts};
 
 use crate::global_profiler::booked::{Booked, Settled};
+use crate::global_profiler::event::Event;
 use crate::global_profiler::profiler::GlobalProfiler;
 use crate::global_profiler::share::{Parts, Share};
 use crate::global_profiler::sink::{FrameSinkId, Sink};
+use history::{History, NewLog};
 use puffin_collector::{Emitted, Totals};
 use puffin_data::data::{ScopeId, StreamInfoRef};
 use puffin_data::{Error, Result};
@@ -48,22 +58,23 @@ fn pause(looks: u32) {
 /// [`Booked`]'s method of the same name under it.
 ///
 /// A thread reports through its [`Share`], with a [`SharedReporter`](crate::global_profiler::SharedReporter). Whoever takes
-/// frames has a share too. `L` and `M` name two ledgers, one of the scopes reported and one of the scopes handed out. A
-/// function that opens a profiler is generic over both; call it with `std::marker::Brand` for each, as `docs/THREADS.md` shows.
+/// frames has a share too. `L` and `M` name two ledgers, one of the scopes reported and one of the scopes handed out, and `L`
+/// also names the history of both. A function that opens a profiler is generic over both; call it with `std::marker::Brand` for
+/// each, as `docs/THREADS.md` shows.
 #[derive(Drop)]
-pub struct SharedProfiler<L: Ledger, M: Ledger> {
+pub struct SharedProfiler<L: Ledger + History, M: Ledger> {
     booked: Arc<Mutex<Booked<L, M>>>,
 }
 
-impl<L: Ledger, M: Ledger> SharedProfiler<L, M> {
-    /// Puts a profiler behind a lock, and makes `n` shares of its counts. The profiler must not have had any scopes reported
-    /// to it yet, and `n` must be at least 1. `reported` must be the `Blank` of the ledger `L`, and `handed` that of `M`, each
-    /// with `n` parts.
+impl<L: Ledger + History, M: Ledger> SharedProfiler<L, M> {
+    /// Puts a profiler behind a lock, and makes `n` shares of its counts and of its history. The profiler must not have had any
+    /// scopes reported to it yet, and `n` must be at least 1. `reported` must be the `Blank` of the ledger `L` and `handed` that
+    /// of `M`, each with `n` parts, and `log` must be that of the history `L`.
     ///
     /// Fails with `Memory`, and then returns the profiler.
     ///
     /// ```
-    /// let opened = SharedProfiler::<L, M>::open(alloc, GlobalProfiler::new(alloc), 5, reported, handed);
+    /// let opened = SharedProfiler::<L, M>::open(alloc, GlobalProfiler::new(alloc), 5, reported, handed, log);
     /// let Ok((profiler, shares)) = opened else { return Err(Error::Memory) };
     /// ```
     pub fn open(
@@ -72,9 +83,11 @@ impl<L: Ledger, M: Ledger> SharedProfiler<L, M> {
         n: usize,
         reported: Blank,
         handed: Blank,
+        log: NewLog<Event>,
     ) -> std::result::Result<(SharedProfiler<L, M>, Vec<Share<L, M>>), (Error, GlobalProfiler)>
         requires fresh { ((collected_of profiler).reported ≡ 0)
-            × ((collected_of profiler).emitted ≡ 0) }
+            × ((collected_of profiler).emitted ≡ 0)
+            × ((collected_of profiler).streams ≡ map.empty) }
         requires some { 0 < n }
         requires reported { (reported.name ≡ L.name)
             × (reported.parts ≡ L.parts)
@@ -82,19 +95,20 @@ impl<L: Ledger, M: Ledger> SharedProfiler<L, M> {
         requires handed { (handed.name ≡ M.name)
             × (handed.parts ≡ M.parts)
             × (handed.parts ≡ n) }
-        ensures shares { IfOk result (λ r.
-            (vec_len r.1 ≡ n) × All (λ share. share ≡ no_counts) r.1.items) }
+        requires log { log.name ≡ L.history }
+        ensures shares { IfOk result (λ r. (vec_len r.1 ≡ n) × All IsNewMember r.1.items) }
         ensures err { IfErr result (λ e. e.0 ≡ Error.Memory) }
     {
         let (reported, all_reported) = reported.open::<L>();
         let (handed, all_handed) = handed.open::<M>();
-        let Ok(shares) = Share::split(alloc, n, all_reported, all_handed) else {
+        let mut log = log.open::<L>();
+        let Ok(shares) = Share::split(alloc, n, all_reported, all_handed, &mut log) else {
             return Err((Error::Memory, profiler));
         };
         let parts = Parts::new(n as u64);
         match Arc::new(
             alloc,
-            Mutex::new(Booked::new(profiler, reported, handed, parts)),
+            Mutex::new(Booked::new(profiler, reported, handed, parts, log)),
         ) {
             Ok(booked) => Ok((SharedProfiler { booked }, shares)),
             Err(refused) => Err((Error::Memory, refused.value.into_inner().into_profiler())),
@@ -140,7 +154,8 @@ impl<L: Ledger, M: Ledger> SharedProfiler<L, M> {
         self.booked.lock(rt)
     }
 
-    /// Calls [`Booked::report`] under the lock.
+    /// Calls [`Booked::report`] under the lock. A report that is accepted is the last entry of the history that the share
+    /// has then seen.
     #[inline(always)]
     pub fn report(
         &self,
@@ -152,16 +167,18 @@ impl<L: Ledger, M: Ledger> SharedProfiler<L, M> {
     ) -> Result<()>
         requires { IsHonestReport times.now }
         ensures counted { OnOk result (
-            share.new ≡ with_reported share.old times.now.num_scopes) }
+            share.new.counts ≡ with_reported share.old.counts times.now.num_scopes) }
+        ensures told { OnOk result (
+            Told share.old (reported (key_of info) (facts_of_ref times.now)) share.new) }
         ensures ids { OnOk result (AllHaveIds (details_seen details.now)) }
-        ensures uncounted { OnErr result (share.new ≡ share.old) }
+        ensures unchanged { OnErr result (share.new ≡ share.old) }
         ensures cause { IfErr result (IsReportCause (details_seen details.now)) }
     {
         self.lock(rt).report(share, info, details, times)
     }
 
-    /// Under the lock, appends the caller's own scopes to those that wait for the next frame. If that succeeds, the share
-    /// counts them; otherwise nothing is appended or counted.
+    /// Under the lock, appends the caller's own scopes to those that wait for the next frame. If that succeeds, the share counts
+    /// them, and they are the last entry of the history that it has then seen; otherwise nothing changes.
     pub fn report_user_scopes(
         &self,
         rt: &impl Wait,
@@ -171,8 +188,10 @@ impl<L: Ledger, M: Ledger> SharedProfiler<L, M> {
     ) -> Result<()>
         requires { IsHonestReport times.now }
         ensures counted { OnOk result (
-            share.new ≡ with_reported share.old times.now.num_scopes) }
-        ensures uncounted { OnErr result (share.new ≡ share.old) }
+            share.new.counts ≡ with_reported share.old.counts times.now.num_scopes) }
+        ensures told { OnOk result (
+            Told share.old (reported (key_of info) (facts_of_ref times.now)) share.new) }
+        ensures unchanged { OnErr result (share.new ≡ share.old) }
         ensures cause { IfErr result IsScopesCause }
     {
         self.lock(rt).report_user_scopes(share, info, times)
@@ -198,8 +217,9 @@ impl<L: Ledger, M: Ledger> SharedProfiler<L, M> {
         self.lock(rt).emit_scope_snapshot();
     }
 
-    /// Calls [`Booked::new_frame`] under the lock, which it holds until all sinks have been called. Fails only with
-    /// `IndexExhausted` or `Memory`.
+    /// Calls [`Booked::new_frame`] under the lock, which it holds until all sinks have been called. A frame is the last
+    /// entry of the history that the share has then seen, and has just what was reported since the frame before it. Fails only
+    /// with `IndexExhausted` or `Memory`.
     ///
     /// ```
     /// let emitted = profiler.new_frame(&rt, &mut share)?;
@@ -207,9 +227,10 @@ impl<L: Ledger, M: Ledger> SharedProfiler<L, M> {
     pub fn new_frame<R: Wait>(&self, rt: &R, share: &mut Share<L, M>) -> Result<Emitted>
         requires boxed_sinks { ⊤ }
         ensures counted { IfOk result (λ emitted.
-            CountsFrame share.old emitted.frame share.new) }
+            CountsFrame share.old.counts emitted.frame share.new.counts) }
+        ensures taken { IfOk result (λ emitted. TakesFrame share.old emitted.frame share.new) }
         ensures spells { IfOk result (λ emitted. SpellsItsScopes emitted.frame) }
-        ensures uncounted { OnErr result (share.new ≡ share.old) }
+        ensures unchanged { OnErr result (share.new ≡ share.old) }
         ensures cause { IfErr result IsFrameCause }
     {
         self.lock(rt).new_frame(rt, share)
@@ -248,14 +269,15 @@ impl<L: Ledger, M: Ledger> SharedProfiler<L, M> {
     /// Calls [`Booked::totals`] under the lock.
     pub fn totals(&self, rt: &impl Wait, share: &mut Share<L, M>) -> Totals
         requires boxed_sinks { ⊤ }
-        ensures own { (share.old.reported ≤ result.reported)
-            × (share.old.handed ≤ result.emitted) }
+        ensures own { (share.old.counts.reported ≤ result.reported)
+            × (share.old.counts.handed ≤ result.emitted) }
         ensures same { share.new ≡ share.old }
     {
         self.lock(rt).totals(share)
     }
 
-    /// Calls [`Booked::settle`] under the lock.
+    /// Calls [`Booked::settle`] under the lock. Whoever settles all shares knows the whole history: the frames and then what
+    /// is pending spell exactly what each thread reported, in its order.
     ///
     /// ```
     /// if let Ok(Settled { reported, handed, pending }) = profiler.settle(&rt, shares) {
@@ -272,6 +294,10 @@ impl<L: Ledger, M: Ledger> SharedProfiler<L, M> {
             (vec_len shares ≡ L.parts) × (vec_len shares ≡ M.parts)) }
         ensures reported { IfOk result (λ s. s.reported ≡ all_reported shares.items) }
         ensures handed { IfOk result (λ s. s.handed ≡ all_handed shares.items) }
+        ensures history { IfOk result (λ s.
+            (log : History)
+            × Recounts (vec_len shares) (accounts_of shares.items) log
+            × (s.pending ≡ total_scopes (map.values (pending_of (events log))))) }
         ensures err { IfErr result (λ v. (v ≡ shares) × ¬ (vec_len shares ≡ L.parts)) }
     {
         self.lock(rt).settle(shares)

@@ -6,6 +6,7 @@ ghost use Rattle.puffin.specs.Reporters.{share_of};
 
 use crate::global_profiler::share::Share;
 use crate::global_profiler::shared_profiler::SharedProfiler;
+use history::History;
 use puffin_collector::Totals;
 use puffin_data::data::StreamInfoRef;
 use puffin_data::{Error, Result};
@@ -14,8 +15,8 @@ use puffin_threads::thread_profiler::{AnyThread, Closed, Reporter, ThreadInfo};
 use std::sync::Wait;
 use std::sync::ledger::Ledger;
 
-/// Reports to a shared profiler through a share, which counts the scopes that are accepted. The reporter owns `rt`, the handle
-/// with which it waits for the profiler's lock.
+/// Reports to a shared profiler through a share, which counts the scopes that are accepted and knows each report. The reporter
+/// owns `rt`, the handle with which it waits for the profiler's lock.
 ///
 /// ```
 /// let mut reporter = SharedReporter::new(rt, profiler, share);
@@ -24,13 +25,13 @@ use std::sync::ledger::Ledger;
 /// let share = reporter.into_share();
 /// ```
 #[derive(Drop)]
-pub struct SharedReporter<L: Ledger, M: Ledger, R: Wait> {
+pub struct SharedReporter<L: Ledger + History, M: Ledger, R: Wait> {
     rt: R,
     profiler: SharedProfiler<L, M>,
     share: Share<L, M>,
 }
 
-impl<L: Ledger, M: Ledger, R: Wait> SharedReporter<L, M, R> {
+impl<L: Ledger + History, M: Ledger, R: Wait> SharedReporter<L, M, R> {
     /// Makes a reporter to this profiler through this share.
     pub fn new(rt: R, profiler: SharedProfiler<L, M>, share: Share<L, M>) -> SharedReporter<L, M, R>
         requires boxed_sinks { ⊤ }
@@ -47,24 +48,19 @@ impl<L: Ledger, M: Ledger, R: Wait> SharedReporter<L, M, R> {
     /// out. Waits for the lock.
     pub fn totals(&mut self) -> Totals
         requires boxed_sinks { ⊤ }
-        ensures own { ((share_of self.old).reported ≤ result.reported)
-            × ((share_of self.old).handed ≤ result.emitted) }
+        ensures own { ((share_of self.old).counts.reported ≤ result.reported)
+            × ((share_of self.old).counts.handed ≤ result.emitted) }
         ensures same { share_of self.new ≡ share_of self.old }
     {
         self.profiler.totals(&self.rt, &mut self.share)
     }
 
     /// Ends a thread's innermost open scope, which must have this offset. If it was the last open one, reports all scopes that
-    /// have closed since the last accepted report; if this one is accepted, the share counts them. Waits for the lock if it
-    /// reports.
+    /// have closed since the last accepted report; if this one is accepted, the share counts them and knows the report. Waits for
+    /// the lock if it reports.
     ///
     /// Fails only with `MismatchedEnd`, as [`ThreadProfiler::end_scope`](crate::thread_profiler::ThreadProfiler::end_scope)
     /// does; nothing changes then.
-    ///
-    /// ```
-    /// let scope = thread.begin_scope(id, "image-12.png")?;
-    /// reporter.end_scope(&mut thread, scope)?;
-    /// ```
     pub fn end_scope<T: AnyThread>(&mut self, thread: &mut T, offset: usize) -> Result<Closed>
         requires boxed_sinks { ⊤ }
         ensures innermost { EndsInnermost (T.state thread.old) offset result }
@@ -80,9 +76,8 @@ impl<L: Ledger, M: Ledger, R: Wait> SharedReporter<L, M, R> {
         thread.end_scope(offset, self)
     }
 
-    /// Reports a thread's closed scopes that haven't been reported yet, such as those ended by dropping a
-    /// [`ProfilerScope`](crate::ProfilerScope). Returns `Ok(false)` if there are none. Waits for the lock if it reports, and
-    /// doesn't read the thread's clock.
+    /// Reports a thread's closed scopes that haven't been reported yet. Returns `Ok(false)` if there are none. Waits for the lock if
+    /// it reports, and doesn't read the thread's clock.
     ///
     /// Fails as [`ThreadProfiler::report_closed`](crate::thread_profiler::ThreadProfiler::report_closed) does.
     pub fn report_closed<T: AnyThread>(&mut self, thread: &mut T) -> Result<bool>
@@ -96,7 +91,7 @@ impl<L: Ledger, M: Ledger, R: Wait> SharedReporter<L, M, R> {
     }
 }
 
-impl<L: Ledger, M: Ledger, R: Wait + Drop> SharedReporter<L, M, R> {
+impl<L: Ledger + History, M: Ledger, R: Wait + Drop> SharedReporter<L, M, R> {
     /// Returns the share.
     pub fn into_share(self) -> Share<L, M>
         requires boxed_sinks { ⊤ }
@@ -111,14 +106,18 @@ impl<L: Ledger, M: Ledger, R: Wait + Drop> SharedReporter<L, M, R> {
     }
 }
 
-impl<L: Ledger, M: Ledger, R: Wait> Reporter for SharedReporter<L, M, R> {
+impl<L: Ledger + History, M: Ledger, R: Wait> Reporter for SharedReporter<L, M, R> {
     ghost use Rattle.std.specs.Prelude.{◌≡◌};
     ghost use Rattle.puffin_threads.specs.Details.{AllHaveIds};
     ghost use Rattle.puffin.specs.Shares.{with_reported};
     ghost use Rattle.puffin.specs.SharedCauses.{IsReportCause};
+    ghost use Rattle.puffin.specs.Happenings.{reported};
+    ghost use Rattle.puffin.specs.Members.{Told};
 
     ghost accepts = { λ old i ds r new.
-        (share_of new ≡ with_reported (share_of old) r.num_scopes) × AllHaveIds ds };
+        ((share_of new).counts ≡ with_reported (share_of old).counts r.num_scopes)
+        × Told (share_of old) (reported i r) (share_of new)
+        × AllHaveIds ds };
 
     ghost refuses = { λ old i ds r e new. (share_of new ≡ share_of old) × IsReportCause ds e };
 

@@ -6,6 +6,7 @@ use crate::light::program::ThreadCounts;
 use crate::light::ready::Left;
 use crate::scope_details::ScopeDetails;
 use crate::thread_profiler::{Reporter, ThreadInfo};
+use history::History;
 use puffin_data::Result;
 use puffin_data::data::StreamInfoRef;
 use std::sync::Wait;
@@ -13,28 +14,28 @@ use std::sync::ledger::Ledger;
 
 /// A share that its thread has returned, with what became of the thread's scopes.
 #[derive(Drop)]
-pub(crate) struct CountedShare<L: Ledger, M: Ledger> {
+pub(crate) struct CountedShare<L: Ledger + History, M: Ledger> {
     pub(crate) share: Share<L, M>,
     pub(crate) counts: ThreadCounts,
-    ghost counted: { share.reported < 2 ^ 64 → counts.reported ≡ share.reported },
-    ghost none_handed: { share.handed ≡ 0 },
+    ghost counted: { share.counts.reported < 2 ^ 64 → counts.reported ≡ share.counts.reported },
+    ghost none_handed: { share.counts.handed ≡ 0 },
 }
 
 /// A thread's reporter to a shared profiler. Counts the scopes of accepted reports.
 #[derive(Drop)]
-pub(crate) struct Counting<L: Ledger, M: Ledger, R: Wait> {
+pub(crate) struct Counting<L: Ledger + History, M: Ledger, R: Wait> {
     reporter: SharedReporter<L, M, R>,
     reported: u64,
-    ghost counted: { reporter.share.reported < 2 ^ 64 → reported ≡ reporter.share.reported },
-    ghost none_handed: { reporter.share.handed ≡ 0 },
+    ghost counted: { reporter.share.counts.reported < 2 ^ 64 → reported ≡ reporter.share.counts.reported },
+    ghost none_handed: { reporter.share.counts.handed ≡ 0 },
 }
 
-impl<L: Ledger, M: Ledger, R: Wait> Counting<L, M, R> {
-    ghost use Rattle.puffin.specs.Shares.{no_counts};
+impl<L: Ledger + History, M: Ledger, R: Wait> Counting<L, M, R> {
+    ghost use Rattle.puffin.specs.Members.{IsNewMember};
 
     /// Makes a reporter with a count of 0, from a share whose count is 0.
     pub(crate) fn new(reporter: SharedReporter<L, M, R>) -> Counting<L, M, R>
-        requires { reporter.share ≡ no_counts }
+        requires { IsNewMember reporter.share }
     {
         Counting {
             reporter,
@@ -43,7 +44,7 @@ impl<L: Ledger, M: Ledger, R: Wait> Counting<L, M, R> {
     }
 }
 
-impl<L: Ledger, M: Ledger, R: Wait + Drop> Counting<L, M, R> {
+impl<L: Ledger + History, M: Ledger, R: Wait + Drop> Counting<L, M, R> {
     /// Returns the share, with the number of scopes that it counts and the numbers of those that were left.
     pub(crate) fn into_share(self, left: Left) -> CountedShare<L, M>
         ensures { (result.counts.unreported ≡ left.unreported)
@@ -61,14 +62,18 @@ impl<L: Ledger, M: Ledger, R: Wait + Drop> Counting<L, M, R> {
     }
 }
 
-impl<L: Ledger, M: Ledger, R: Wait> Reporter for Counting<L, M, R> {
+impl<L: Ledger + History, M: Ledger, R: Wait> Reporter for Counting<L, M, R> {
     ghost use Rattle.std.specs.Prelude.{◌≡◌};
     ghost use Rattle.puffin_threads.specs.Details.{AllHaveIds};
     ghost use Rattle.puffin.specs.Shares.{with_reported};
+    ghost use Rattle.puffin.specs.Happenings.{reported};
+    ghost use Rattle.puffin.specs.Members.{Told};
     ghost use Rattle.puffin.specs.SharedCauses.{IsReportCause};
 
     ghost accepts = { λ old i ds r new.
-        (new.reporter.share ≡ with_reported old.reporter.share r.num_scopes) × AllHaveIds ds };
+        (new.reporter.share.counts ≡ with_reported old.reporter.share.counts r.num_scopes)
+        × Told old.reporter.share (reported i r) new.reporter.share
+        × AllHaveIds ds };
 
     ghost refuses = { λ old i ds r e new.
         (new.reporter.share ≡ old.reporter.share) × IsReportCause ds e };

@@ -1,36 +1,36 @@
 //! A program's leader: it takes frames through one share, and reports its own scopes through another.
-ghost use Rattle.std.specs.Prelude.{◌≡◌};
-ghost use Rattle.puffin.specs.Shares.{no_counts};
+ghost use Rattle.puffin.specs.Members.{IsNewMember};
 
 use crate::global_profiler::{Share, SharedProfiler, SharedReporter};
 use crate::light::counted::{CountedShare, Counting};
 use crate::light::ready::AnyLeader;
 use crate::light::taker::{Taken, Taker};
+use history::History;
 use std::sync::Wait;
 use std::sync::ledger::Ledger;
 
 /// What a leader works with: two handles to the profiler, each with a share that counts nothing yet.
 #[derive(Drop)]
-pub(crate) struct Seat<L: Ledger, M: Ledger> {
+pub(crate) struct Seat<L: Ledger + History, M: Ledger> {
     /// The handle and the share with which it takes frames.
     pub(crate) frames: SharedProfiler<L, M>,
     pub(crate) taking: Share<L, M>,
     /// The handle and the share with which its thread reports.
     pub(crate) reports: SharedProfiler<L, M>,
     pub(crate) reporting: Share<L, M>,
-    ghost taking_new: { taking ≡ no_counts },
-    ghost reporting_new: { reporting ≡ no_counts },
+    ghost taking_new: { IsNewMember taking },
+    ghost reporting_new: { IsNewMember reporting },
 }
 
 /// What a leader returned: what it took, and what became of its thread's scopes.
 #[derive(Drop)]
-pub(crate) struct Led<L: Ledger, M: Ledger> {
+pub(crate) struct Led<L: Ledger + History, M: Ledger> {
     pub(crate) taken: Taken<L, M>,
     pub(crate) counted: CountedShare<L, M>,
 }
 
 /// Runs a program's leader on this thread, with what its seat holds.
-pub(crate) fn lead<L: Ledger, M: Ledger, R: Wait + Copy, D: AnyLeader<W>, W>(
+pub(crate) fn lead<L: Ledger + History, M: Ledger, R: Wait + Copy, D: AnyLeader<W>, W>(
     rt: R,
     seat: Seat<L, M>,
     leader: D,

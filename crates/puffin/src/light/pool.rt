@@ -12,6 +12,7 @@ use crate::light::settings::Settings;
 use crate::light::started::run;
 use crate::light::worker::{Head, Worker};
 use crate::thread_profiler::SystemClock;
+use history::NewLog;
 use std::io;
 use std::marker::Brand;
 use std::rt::Clock;
@@ -133,6 +134,7 @@ pub fn pooled<R: AllocGlobal + Threads + Wait + Clock + Copy + Send + Sync, W: P
         parts,
         Blank::new(parts as u64),
         Blank::new(parts as u64),
+        NewLog::new(),
     );
     gate.end();
     outcome

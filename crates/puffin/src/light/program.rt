@@ -13,6 +13,7 @@ use crate::light::scopes::Scopes;
 use crate::light::settings::Settings;
 use crate::light::started::run;
 use crate::thread_profiler::SystemClock;
+use history::NewLog;
 use puffin_data::Result;
 use std::io;
 use std::marker::Brand;
@@ -198,6 +199,7 @@ pub fn profiled<R: AllocGlobal + Threads + Wait + Clock + Copy + Send + Sync, W:
         parts,
         Blank::new(parts as u64),
         Blank::new(parts as u64),
+        NewLog::new(),
     );
     gate.end();
     outcome

@@ -1,9 +1,10 @@
 //! Threads of a program, from their start until all shares are back.
 ghost use Rattle.std.specs.Prelude.{◌≡◌, ◌+◌, ◌<◌, ◌≤◌, ◌^◌, [], Some, None, OnOk, IfOk, IfErr, vec_len, All, sum_by};
-ghost use Rattle.puffin.specs.Shares.{IsBlankFor, no_counts, all_reported, all_handed};
+ghost use Rattle.puffin.specs.Shares.{IsBlankFor};
+ghost use Rattle.puffin.specs.Members.{IsNewMember, all_reported, all_handed};
 
 use crate::global_profiler::{
-    GlobalFrameView, GlobalProfiler, Share, SharedProfiler, SharedReporter,
+    Event, GlobalFrameView, GlobalProfiler, Share, SharedProfiler, SharedReporter,
 };
 use crate::light::counted::{CountedShare, Counting};
 use crate::light::gate::Gated;
@@ -13,6 +14,7 @@ use crate::light::ready::{AnyLeader, AnyReady, Crew, Ended};
 use crate::light::scopes::Scopes;
 use crate::light::settings::Settings;
 use crate::light::taker::Taken;
+use history::{History, NewLog};
 use std::sync::Wait;
 use std::sync::ledger::{Blank, Ledger};
 use std::thread::{JoinHandle, Scope, Threads};
@@ -20,13 +22,13 @@ use std::{io, thread};
 
 /// What a thread returned: its share and what became of its scopes, and what its work returned.
 #[derive(Drop)]
-struct Worked<L: Ledger, M: Ledger> {
+struct Worked<L: Ledger + History, M: Ledger> {
     counted: CountedShare<L, M>,
     result: io::Result<()>,
 }
 
 /// Does a thread's work, and returns its share.
-fn work<L: Ledger, M: Ledger, R: Wait + Copy, T: AnyReady<W>, W>(
+fn work<L: Ledger + History, M: Ledger, R: Wait + Copy, T: AnyReady<W>, W>(
     rt: R,
     number: usize,
     profiler: SharedProfiler<L, M>,
@@ -34,7 +36,7 @@ fn work<L: Ledger, M: Ledger, R: Wait + Copy, T: AnyReady<W>, W>(
     thread: T,
     program: &W,
 ) -> Worked<L, M>
-    requires { share ≡ no_counts }
+    requires { IsNewMember share }
 {
     let mut reporter = Counting::new(SharedReporter::new(rt, profiler, share));
     let Ended { result, left } = thread.run(&rt, number, &mut reporter, program);
@@ -48,7 +50,7 @@ fn work<L: Ledger, M: Ledger, R: Wait + Copy, T: AnyReady<W>, W>(
 fn start<
     's,
     E,
-    L: Ledger + Send + 's,
+    L: Ledger + History + Send + 's,
     M: Ledger + Send + 's,
     R: Wait + Copy + Send + 's,
     T: AnyReady<W> + Drop + Send + 's,
@@ -62,11 +64,11 @@ fn start<
     thread: T,
     program: &'s W,
 ) -> io::Result<JoinHandle<Worked<L, M>>>
-    requires { share ≡ no_counts }
+    requires { IsNewMember share }
 {
     Ok(scope.spawn(
         move || -> Worked<L, M>
-            requires { share ≡ no_counts }
+            requires { IsNewMember share }
         { work(rt, number, profiler, share, thread, program) },
     )?)
 }
@@ -80,7 +82,7 @@ fn no_memory() -> io::Error {
 fn start_all<
     's,
     E,
-    L: Ledger + Send + 's,
+    L: Ledger + History + Send + 's,
     M: Ledger + Send + 's,
     R: AllocGlobal + Threads + Wait + Copy + Send + 's,
     T: AnyReady<W> + Drop + Send + 's,
@@ -93,7 +95,7 @@ fn start_all<
     threads: Vec<T>,
     program: &'s W,
 ) -> io::Result<Vec<JoinHandle<Worked<L, M>>>>
-    requires { All (λ share. share ≡ no_counts) shares.items }
+    requires { All IsNewMember shares.items }
     ensures { IfOk result (λ started. vec_len started ≡ vec_len threads) }
 {
     let mut shares = shares;
@@ -113,13 +115,13 @@ fn start_all<
 
 /// Vectors with room for what all threads return, so that nothing is allocated once the threads have begun.
 #[derive(Drop)]
-struct Room<L: Ledger, M: Ledger> {
+struct Room<L: Ledger + History, M: Ledger> {
     shares: Vec<Share<L, M>>,
     counts: Vec<ThreadCounts>,
     ghost none: { (shares.items ≡ []) × (counts.items ≡ []) },
 }
 
-impl<L: Ledger, M: Ledger> Room<L, M> {
+impl<L: Ledger + History, M: Ledger> Room<L, M> {
     /// Allocates room for this number of threads and the leader, which has two shares.
     fn new<R: AllocGlobal>(rt: &R, threads: usize) -> io::Result<Room<L, M>> {
         Ok(Room {
@@ -131,7 +133,7 @@ impl<L: Ledger, M: Ledger> Room<L, M> {
 
 /// What all threads returned: every share, what became of each thread's scopes, and what the leader counted.
 #[derive(Drop)]
-struct Joined<L: Ledger, M: Ledger> {
+struct Joined<L: Ledger + History, M: Ledger> {
     shares: Vec<Share<L, M>>,
     counts: Vec<ThreadCounts>,
     leader: ThreadCounts,
@@ -159,7 +161,7 @@ fn failure(number: usize, ended: io::Result<()>) -> Option<Failed>
 
 #[tactic(auto, using(crate::proofs::CountedShares::counted_more, crate::proofs::CountedShares::none_more, crate::proofs::CountedShares::some_more))]
 /// Joins all threads, and appends their shares to the leader's two.
-fn join_all<L: Ledger, M: Ledger, R: Threads>(
+fn join_all<L: Ledger + History, M: Ledger, R: Threads>(
     rt: &R,
     started: Vec<JoinHandle<Worked<L, M>>>,
     led: Led<L, M>,
@@ -209,7 +211,7 @@ fn join_all<L: Ledger, M: Ledger, R: Threads>(
 fn run_all<
     's,
     E,
-    L: Ledger + Send + 's,
+    L: Ledger + History + Send + 's,
     M: Ledger + Send + 's,
     R: AllocGlobal + Threads + Wait + Copy + Send + 's,
     D: AnyLeader<W> + Drop,
@@ -224,7 +226,7 @@ fn run_all<
     crew: Crew<D, T>,
     program: &'s W,
 ) -> io::Result<Joined<L, M>>
-    requires { All (λ share. share ≡ no_counts) shares.items }
+    requires { All IsNewMember shares.items }
     ensures { IfOk result (λ joined. vec_len joined.counts ≡ vec_len crew.threads) }
 {
     let Crew { leader, threads } = crew;
@@ -238,7 +240,7 @@ fn run_all<
 
 /// Calls [`run_all`] in a thread scope.
 fn scoped<
-    L: Ledger + Send + Sync,
+    L: Ledger + History + Send + Sync,
     M: Ledger + Send + Sync,
     R: AllocGlobal + Threads + Wait + Copy + Send + Sync,
     D: AnyLeader<W> + Drop + Send,
@@ -252,29 +254,29 @@ fn scoped<
     crew: Crew<D, T>,
     program: &W,
 ) -> io::Result<Joined<L, M>>
-    requires { All (λ share. share ≡ no_counts) shares.items }
+    requires { All IsNewMember shares.items }
     ensures { IfOk result (λ joined. vec_len joined.counts ≡ vec_len crew.threads) }
 {
     thread::scope(
         thread::scope_env(),
         &rt,
         move |scope| -> io::Result<Joined<L, M>>
-            requires { All (λ share. share ≡ no_counts) shares.items }
+            requires { All IsNewMember shares.items }
             ensures { IfOk result (λ joined. vec_len joined.counts ≡ vec_len crew.threads) }
         { run_all(rt, scope, profiler, seat, shares, crew, program) },
     )
 }
 
 /// A shared profiler with its view, the leader's seat and a share for each thread.
-struct Opened<L: Ledger, M: Ledger> {
+struct Opened<L: Ledger + History, M: Ledger> {
     profiler: SharedProfiler<L, M>,
     view: GlobalFrameView,
     seat: Seat<L, M>,
     shares: Vec<Share<L, M>>,
-    ghost all_new: { All (λ share. share ≡ no_counts) shares.items },
+    ghost all_new: { All IsNewMember shares.items },
 }
 
-impl<L: Ledger, M: Ledger> Opened<L, M> {
+impl<L: Ledger + History, M: Ledger> Opened<L, M> {
     /// Opens a new profiler with this number of shares, whose first frame lists these places, and whose view has these
     /// settings. Fails if memory runs out.
     fn new<R: AllocGlobal + Wait>(
@@ -284,17 +286,26 @@ impl<L: Ledger, M: Ledger> Opened<L, M> {
         parts: usize,
         reported: Blank,
         handed: Blank,
+        log: NewLog<Event>,
     ) -> io::Result<Opened<L, M>>
         requires some { 0 < parts }
         requires reported { IsBlankFor L.name L.parts parts reported }
         requires handed { IsBlankFor M.name M.parts parts handed }
+        requires log { log.name ≡ L.history }
     {
         let mut profiler = GlobalProfiler::new(rt.alloc());
         let Ok(()) = profiler.add_scopes(scopes.details()) else {
             return Err(no_memory());
         };
         profiler.set_max_pending(settings.max_pending_bytes);
-        let opened = SharedProfiler::<L, M>::open(rt.alloc(), profiler, parts, reported, handed);
+        let opened = SharedProfiler::<L, M>::open(
+            rt.alloc(),
+            profiler,
+            parts,
+            reported,
+            handed,
+            log,
+        );
         let Ok((profiler, mut shares)) = opened else {
             return Err(no_memory());
         };
@@ -326,7 +337,7 @@ impl<L: Ledger, M: Ledger> Opened<L, M> {
 }
 
 /// Settles all shares, and returns the program's outcome.
-fn settled<L: Ledger, M: Ledger, R: Wait>(
+fn settled<L: Ledger + History, M: Ledger, R: Wait>(
     rt: &R,
     profiler: &SharedProfiler<L, M>,
     view: GlobalFrameView,
@@ -362,7 +373,7 @@ fn settled<L: Ledger, M: Ledger, R: Wait>(
 
 /// Opens a shared profiler with a share for each thread and two for the leader, and runs the program.
 pub(crate) fn run<
-    L: Ledger + Send + Sync,
+    L: Ledger + History + Send + Sync,
     M: Ledger + Send + Sync,
     R: AllocGlobal + Threads + Wait + Copy + Send + Sync,
     D: AnyLeader<W> + Drop + Send,
@@ -377,14 +388,16 @@ pub(crate) fn run<
     parts: usize,
     reported: Blank,
     handed: Blank,
+    log: NewLog<Event>,
 ) -> io::Result<Outcome>
     requires some { vec_len crew.threads + 2 ≡ parts }
     requires reported { IsBlankFor L.name L.parts parts reported }
     requires handed { IsBlankFor M.name M.parts parts handed }
+    requires log { log.name ≡ L.history }
     ensures threads { IfOk result (λ outcome.
         vec_len outcome.threads ≡ vec_len crew.threads) }
 {
-    let opened = Opened::<L, M>::new(&rt, scopes, settings, parts, reported, handed)?;
+    let opened = Opened::<L, M>::new(&rt, scopes, settings, parts, reported, handed, log)?;
     let Opened {
         profiler,
         view,

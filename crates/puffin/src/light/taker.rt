@@ -4,28 +4,29 @@ ghost use Rattle.puffin.specs.Taking.{CountsTaken};
 
 use crate::global_profiler::{Emitted, Share, SharedProfiler};
 use crate::light::program::Frames;
+use history::History;
 use puffin_data::Result;
 use std::sync::Wait;
 use std::sync::ledger::Ledger;
 
 /// The leader's share, the number of frames that were handed out to it, and the number of these that the view didn't take.
 #[derive(Drop)]
-pub(crate) struct Taken<L: Ledger, M: Ledger> {
+pub(crate) struct Taken<L: Ledger + History, M: Ledger> {
     pub(crate) share: Share<L, M>,
     pub(crate) frames: u64,
     pub(crate) missed: u64,
-    ghost none_reported: { share.reported ≡ 0 },
-    ghost none_handed: { frames ≡ 0 → share.handed ≡ 0 },
-    ghost some_each: { frames ≤ share.handed },
+    ghost none_reported: { share.counts.reported ≡ 0 },
+    ghost none_handed: { frames ≡ 0 → share.counts.handed ≡ 0 },
+    ghost some_each: { frames ≤ share.counts.handed },
     ghost some: { missed ≤ frames },
 }
 
-impl<L: Ledger, M: Ledger> Taken<L, M> {
-    ghost use Rattle.puffin.specs.Shares.{no_counts};
+impl<L: Ledger + History, M: Ledger> Taken<L, M> {
+    ghost use Rattle.puffin.specs.Members.{IsNewMember};
 
     /// Starts with no frames.
     pub(crate) fn new(share: Share<L, M>) -> Taken<L, M>
-        requires { share ≡ no_counts }
+        requires { IsNewMember share }
     {
         Taken {
             share,
@@ -51,23 +52,26 @@ fn counted(emitted: &Emitted, frames: u64, missed: u64) -> (u64, u64)
 }
 
 /// Takes frames of a shared profiler, whose only sink is a view.
-pub(crate) struct Taker<L: Ledger, M: Ledger, R: Wait> {
+pub(crate) struct Taker<L: Ledger + History, M: Ledger, R: Wait> {
     pub(crate) rt: R,
     pub(crate) profiler: SharedProfiler<L, M>,
     pub(crate) taken: Taken<L, M>,
 }
 
-impl<L: Ledger, M: Ledger, R: Wait> Frames for Taker<L, M, R> {
+impl<L: Ledger + History, M: Ledger, R: Wait> Frames for Taker<L, M, R> {
     ghost use Rattle.std.specs.Prelude.{◌≡◌, IfOk, IfErr, OnErr};
     ghost use Rattle.puffin.specs.SharedCauses.{IsFrameCause};
     ghost use Rattle.puffin.specs.Shares.{SpellsItsScopes, CountsFrame};
+    ghost use Rattle.puffin.specs.Members.{TakesFrame};
     ghost use Rattle.puffin.specs.Taking.{CountsTaken};
 
     fn new_frame(&mut self) -> Result<Emitted>
         ensures spells { IfOk result (λ emitted. SpellsItsScopes emitted.frame) }
         ensures cause { IfErr result IsFrameCause }
         ensures share { IfOk result (λ emitted.
-            CountsFrame self.old.taken.share emitted.frame self.new.taken.share) }
+            CountsFrame self.old.taken.share.counts emitted.frame self.new.taken.share.counts) }
+        ensures taken { IfOk result (λ emitted.
+            TakesFrame self.old.taken.share emitted.frame self.new.taken.share) }
         ensures counts { IfOk result (λ emitted. CountsTaken emitted.frame emitted.refused
             (self.old.taken.frames, self.old.taken.missed)
             (self.new.taken.frames, self.new.taken.missed)) }

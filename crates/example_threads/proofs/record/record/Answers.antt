@@ -1,7 +1,7 @@
 use Rattle.std.proofs.Common.{rules, ◌≡◌, ◌++◌, ◌∷◌, [], List, vec_len, sym, subst}
-use Rattle.puffin_history.specs.Members.{Member}
-use Rattle.puffin_history.specs.Leaving.{accounts_of}
-use Rattle.puffin_history.specs.Recounted.{Recounts}
+use Rattle.puffin.specs.Members.{Member}
+use Rattle.puffin.specs.Leaving.{accounts_of}
+use Rattle.puffin.specs.Recounted.{Recounts}
 use Rattle.example_threads.specs.declared.record.Job.{Job}
 use Rattle.example_threads.specs.Recorded.{HasDone, HasTaken, Show}
 use Rattle.example_threads.proofs.Showing.{none_taken, last_new, all_shown}

@@ -2,8 +2,8 @@ use Rattle.std.proofs.Common.{◌≡◌, ℕ, ◌+◌, ◌<◌, ◌≤◌, List,
 use Rattle.std.proofs.lemmas.List.{take_more, take_all, length-map, get_or-map}
 use Rattle.puffin_threads.specs.Thread.Calls.{after_begin}
 use Rattle.puffin_data.specs.Text.{cut_text}
-use Rattle.puffin_history.specs.Happenings.{reported}
-use Rattle.puffin_history.specs.Members.{Member, Told}
+use Rattle.puffin.specs.Happenings.{reported}
+use Rattle.puffin.specs.Members.{Member, Told}
 use Rattle.puffin_threads.specs.Details.{AllHaveIds}
 use Rattle.puffin.specs.Shares.{with_reported}
 use Rattle.puffin.specs.SharedCauses.{IsReportCause}

@@ -1,5 +1,5 @@
 use Rattle.std.specs.Prelude.{◌≡◌, ◌+◌, ◌<◌, ◌≤◌, ◌^◌, vec_len, length, sum_by}
-use Rattle.puffin.specs.Shares.{all_reported, all_handed}
+use Rattle.puffin.specs.Members.{all_reported, all_handed}
 use Rattle.puffin.proofs.light.started.join_all.Given as goal
 
 abbrev pub invariant-loop-thread : goal.invariant-loop-thread

@@ -1,5 +1,5 @@
-use Rattle.std.specs.Prelude.{◌≡◌, ◌+◌, ◌≤◌, vec_len, vec_capacity, All}
-use Rattle.puffin.specs.Shares.{no_counts}
+use Rattle.std.specs.Prelude.{◌≡◌, ◌+◌, ◌≤◌, [], vec_len, vec_capacity, All}
+use Rattle.puffin.specs.Members.{IsNewMember}
 use Rattle.puffin.proofs.global_profiler.share.Share.split.Given as goal
 
 abbrev pub invariant-loop-i : goal.invariant-loop-i
@@ -8,7 +8,9 @@ invariant-loop-i g l = record {
   handed_parts : l.handed.parts + l._i ≡ l.n;
   reported : l.reported.amount ≡ 0;
   handed : l.handed.amount ≡ 0;
+  authors : l.log.authors ≡ l._i;
+  entries : l.log.entries ≡ [];
   room : l.n ≤ vec_capacity l.shares;
   made : vec_len l.shares ≡ l._i;
-  no_counts : All (λ s. s ≡ no_counts) l.shares.items;
+  new : All IsNewMember l.shares.items;
 }

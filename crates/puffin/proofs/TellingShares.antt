@@ -1,0 +1,24 @@
+-- A frame that is handed out has what was due, and a share knows it.
+use Rattle.std.proofs.Common.{◌≡◌, List, Some, None, ap, subst}
+use Rattle.std.specs.FinMap as map
+use Rattle.std.specs.Arc.{arc_value}
+use Rattle.std.specs.declared.sync.Arc.{Arc}
+use Rattle.puffin_frames.specs.declared.frame_data.frame.FrameData.{FrameData}
+use Rattle.puffin_frames.specs.Frame.Contents.{Streams, holding_of}
+use Rattle.puffin_collector.specs.Collector.State.{Collected}
+use Rattle.puffin_collector.specs.Collector.Collecting.{Collects}
+use Rattle.puffin.specs.Happenings.{Happening, framed, History, pending_of}
+use Rattle.puffin.specs.Members.{Member, Tells, unpacked_in}
+
+-- what a frame has is what was pending, and nothing is afterwards
+pub frame_due : {A : Type 0} (f : Arc FrameData A) (old new : Collected) (hs : List Happening) → Collects old (Some f) new → old.streams ≡ pending_of hs → holding_of (arc_value f) ≡ record { packed = None; unpacked = Some (pending_of hs) }
+frame_due f old new hs h is = subst (λ (s : Streams). holding_of (arc_value f) ≡ record { packed = None; unpacked = Some s }) is h.0.held
+
+pub unpacked_is : {A : Type 0} (f : Arc FrameData A) (old new : Collected) → Collects old (Some f) new → unpacked_in (arc_value f) ≡ old.streams
+unpacked_is f old new h = ap (λ x. Rattle.std.specs.Option.unwrap_or x.unpacked map.empty) h.0.held
+
+pub none_pending : {A : Type 0} (f : Arc FrameData A) (old new : Collected) → Collects old (Some f) new → new.streams ≡ map.empty
+none_pending f old new h = ap (λ (c : Collected). c.streams) h.2
+
+pub told_frame : (m new : Member) (a b : Streams) (before : History) → Tells m (framed a) before new → a ≡ b → Tells m (framed b) before new
+told_frame m new a b before told is = subst (λ (s : Streams). Tells m (framed s) before new) is told

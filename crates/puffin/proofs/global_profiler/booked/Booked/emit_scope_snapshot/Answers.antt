@@ -1,0 +1,18 @@
+use Rattle.std.proofs.Common.{refl, sym, ◌∙◌}
+use Rattle.puffin_collector.specs.Collector.State.{Collected, after_wanting}
+use Rattle.puffin.specs.Profiler.{collected_of}
+use Rattle.puffin.proofs.Growing.{same_stands}
+use Rattle.puffin.proofs.KeptStreams.{Keeps, wanting_keeps}
+use Rattle.puffin.proofs.global_profiler.booked.Booked.emit_scope_snapshot.Goals as goal
+
+pub invariant_of-self : goal.invariant_of-self
+invariant_of-self g c =
+    let old = c.args.self.now in
+    let a : Collected = collected_of old.profiler in let b : Collected = collected_of c.emit_scope_snapshot.new.self in
+    let keeps : Keeps a b = wanting_keeps a b (after_wanting a) refl refl refl c.emit_scope_snapshot.ensures.wants in
+    record {
+      reported_is = old.reported_is ∙ sym keeps.0;
+      handed_is = old.handed_is ∙ sym keeps.1;
+      authors_are = old.authors_are;
+      stands = same_stands a.streams b.streams old.log.entries keeps.2 old.stands;
+    }

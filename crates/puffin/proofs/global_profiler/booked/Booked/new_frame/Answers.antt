@@ -1,0 +1,35 @@
+use Rattle.std.proofs.Common.{rules, ◌≡◌, ◌∷◌, [], Some, ap, sym, subst, ◌∙◌}
+use Rattle.std.specs.Arc.{arc_value}
+use Rattle.history.specs.Entries.{events}
+use Rattle.puffin_frames.specs.Frame.Contents.{Streams}
+use Rattle.puffin_collector.specs.Collector.State.{Collected}
+use Rattle.puffin_collector.specs.Collector.Collecting.{Collects}
+use Rattle.puffin.specs.Profiler.{collected_of}
+use Rattle.puffin.specs.Happenings.{framed}
+use Rattle.puffin.specs.Members.{unpacked_in}
+use Rattle.puffin.proofs.Growing.{grows_by, pending_there}
+use Rattle.puffin.proofs.TellingShares.{frame_due, unpacked_is, none_pending, told_frame}
+use Rattle.puffin.proofs.global_profiler.booked.Booked.new_frame.Goals as goal
+
+pub invariant_of-self-2 : goal.invariant_of-self-2
+invariant_of-self-2 g c =
+    let old = c.args.self.now in let f = c.in-Some.frame in
+    let a : Collected = collected_of old.profiler in let b : Collected = collected_of c.new_frame.new.self in
+    let is : c.in_ok-frame.field-0.frame ≡ Some f = search rules in
+    let collects : Collects a (Some f) b = subst (λ o. Collects a o b) is c.in_ok-frame.ensures.collected.ok in
+    record {
+      reported_is = old.reported_is ∙ ap (λ (x : Collected). x.reported) (sym collects.2);
+      handed_is = search rules;
+      authors_are = c.add-2.ensures.log.0 ∙ old.authors_are;
+      stands = grows_by a.streams b.streams old.log.entries c.add-2.new.self.entries _ (framed (unpacked_in (arc_value f))) old.stands c.add-2.ensures.log.1
+          (none_pending f a b collects) (ap (λ (s : Streams). s ∷ []) (unpacked_is f a b collects)) tt;
+    }
+
+pub returns-clause-taken : goal.returns-clause-taken
+returns-clause-taken g c =
+    let old = c.args.self.now in let f = c.in-Some.frame in
+    let a : Collected = collected_of old.profiler in let b : Collected = collected_of c.new_frame.new.self in
+    let is : c.in_ok-frame.field-0.frame ≡ Some f = search rules in
+    let collects : Collects a (Some f) b = subst (λ o. Collects a o b) is c.in_ok-frame.ensures.collected.ok in
+    let due = pending_there a.streams (events old.log.entries) old.stands in
+    (old.log.entries, frame_due f a b (events old.log.entries) collects due, told_frame _ _ (unpacked_in (arc_value f)) _ _ (search rules) (unpacked_is f a b collects ∙ due))

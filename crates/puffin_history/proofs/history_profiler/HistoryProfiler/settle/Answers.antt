@@ -1,5 +1,0 @@
-use Rattle.puffin_history.proofs.SharedCalls.{knows_all}
-use Rattle.puffin_history.proofs.history_profiler.HistoryProfiler.settle.Goals as goal
-
-pub returns-clause-history : goal.returns-clause-history
-returns-clause-history g c = knows_all c.settle.result _ _ _ _ c.settle.ensures.history c.settle.ensures.pending c.settle.ensures.left_pending

@@ -1,5 +1,0 @@
-pub mod Happenings
-pub mod Members
-pub mod Recounted
-pub mod Leaving
-pub mod Locked
