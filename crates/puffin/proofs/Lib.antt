@@ -12,3 +12,6 @@ mod SharedRefusals
 mod CountedShares
 mod EndedScopes
 mod Registered
+mod Telling
+mod TellingCode
+mod ShownCode

@@ -1,5 +1,5 @@
 -- A frame that is handed out has what was due, and a share knows it.
-use Rattle.std.proofs.Common.{◌≡◌, List, Some, None, ap, subst}
+use Rattle.std.proofs.Common.{◌≡◌, List, [], ◌∷◌, length, Some, None, refl, ap, subst, arith}
 use Rattle.std.specs.FinMap as map
 use Rattle.std.specs.Arc.{arc_value}
 use Rattle.std.specs.declared.sync.Arc.{Arc}
@@ -8,7 +8,7 @@ use Rattle.puffin_frames.specs.Frame.Contents.{Streams, holding_of}
 use Rattle.puffin_collector.specs.Collector.State.{Collected}
 use Rattle.puffin_collector.specs.Collector.Collecting.{Collects}
 use Rattle.puffin.specs.Happenings.{Happening, framed, History, pending_of}
-use Rattle.puffin.specs.Members.{Member, Tells, unpacked_in}
+use Rattle.puffin.specs.Members.{Member, IsNewMember, Tells, unpacked_in}
 
 -- what a frame has is what was pending, and nothing is afterwards
 pub frame_due : {A : Type 0} (f : Arc FrameData A) (old new : Collected) (hs : List Happening) → Collects old (Some f) new → old.streams ≡ pending_of hs → holding_of (arc_value f) ≡ record { packed = None; unpacked = Some (pending_of hs) }
@@ -22,3 +22,12 @@ none_pending f old new h = ap (λ (c : Collected). c.streams) h.2
 
 pub told_frame : (m new : Member) (a b : Streams) (before : History) → Tells m (framed a) before new → a ≡ b → Tells m (framed b) before new
 told_frame m new a b before told is = subst (λ (s : Streams). Tells m (framed s) before new) is told
+
+-- ---- the reports of a share
+
+none_in : {A : Type 0} (xs : List A) → length xs ≡ 0 → xs ≡ []
+none_in [] none = refl
+none_in (x ∷ xs) none = absurd (omega arith)
+
+pub nothing_told : (m : Member) → IsNewMember m → m.own ≡ []
+nothing_told m new = none_in m.own new.own

@@ -2,3 +2,4 @@
 -- report. Nothing else of these proofs is seen from there.
 pub mod Sending
 pub mod Waiting
+pub mod Offsets

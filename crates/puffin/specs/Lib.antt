@@ -16,4 +16,7 @@ pub mod LightThread
 pub mod Lent
 pub mod Guards
 pub mod Ended
+pub mod Code
+pub mod Telling
+pub mod Shown
 pub mod inner

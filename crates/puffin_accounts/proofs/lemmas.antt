@@ -1,5 +1,4 @@
 -- What crates above cite, to prove what their own code adds to a thread and what a frame shows of it.
-pub mod Offsets
 pub mod Times
 pub mod Adding
 pub mod Opened

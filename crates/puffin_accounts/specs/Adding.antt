@@ -1,8 +1,8 @@
 -- Which scopes a piece of code adds to a thread, and what is reported of them meanwhile.
-use Rattle.std.specs.Prelude.{◌≡◌, ◌⊎◌, ℕ, ◌<◌, ◌≤◌, ℤ, false, List, [], ◌++◌, Option, Some, None, unwrap_or}
+pub use Rattle.puffin.specs.Code.{MayBe, scope_if, span_at}
+use Rattle.std.specs.Prelude.{◌≡◌, ◌⊎◌, ℕ, ◌<◌, ℤ, false, List, [], ◌++◌, Option, Some, None, unwrap_or}
 use Rattle.std.specs.FinMap.{get}
-use Rattle.puffin_data.specs.declared.error.Error.TheVariants.{Memory, MissingId}
-use Rattle.puffin_data.specs.Forest.{Forest, Span, empty, node}
+use Rattle.puffin_data.specs.Forest.{Forest}
 use Rattle.puffin_data.specs.Forest.Tour.{Event, tour, IsBalanced}
 use Rattle.puffin_data.specs.Honesty.{StreamFacts, AreHonestFacts}
 use Rattle.puffin_data.specs.Text.{cut_text}
@@ -10,7 +10,6 @@ use Rattle.puffin_threads.specs.Thread.ThreadKey.{ThreadKey, has_same_key}
 use Rattle.puffin_threads.specs.Details.{Details}
 use Rattle.puffin_collector.specs.Collector.State.{no_scopes}
 use Rattle.puffin_scopes.specs.declared.guard_state.GuardState.{GuardState}
-use Rattle.puffin_scopes.specs.declared.guard_state.GuardState.TheVariants.{On, Off, Refused}
 use Rattle.puffin.specs.declared.light.place.Place.{Place}
 use Rattle.puffin_accounts.specs.Moments.{Moment, num_open, key_at}
 use Rattle.puffin_accounts.specs.Times.{Timed}
@@ -64,25 +63,6 @@ pub record AddsScopes {C : Type 0} (answers : C → ℤ → C → Type 0) (old n
   pub collected : 0 < num_open old → new.collected ≡ old.collected
   pub none_open : num_open old ≡ 0 → num_open new ≡ 0
   pub passed : num_open old ≡ 0 → PassesOn old new (tour f)
-
--- a scope around these, if it began; else these alone
-abbrev pub scope_if : GuardState → Span → Forest → Forest
-scope_if (On offset) s children = node s children empty
-scope_if Off s children = children
-scope_if (Refused e) s children = children
-
--- A scope at this place may have this state, where the thread knows that many places: a place that it doesn't know is refused,
--- and any other only where memory runs out.
-abbrev pub MayBe : ℕ → Place → GuardState → Type 0
-MayBe known place (On offset) = place.id ≤ known
-MayBe known place Off = Unit {0}
-MayBe known place (Refused e) =
-    ((e ≡ MissingId) × (known < place.id)) ⊎ ((e ≡ Memory) × (place.id ≤ known))
-
--- a scope at a place
-abbrev pub span_at : Place → List ℕ → ℤ → ℤ → Span
-span_at place text start stop =
-    record { id = place.id; start = start; stop = stop; text = text }
 
 -- A guard was opened at this place, in this state, and dropped after code that added these scopes.
 pub record AddsScope {C : Type 0} (answers : C → ℤ → C → Type 0) (old new : Moment C)

@@ -1,5 +1,5 @@
 //! A profiler that several threads share.
-ghost use Rattle.std.specs.Prelude.{◌≡◌, ◌+◌, ◌<◌, ◌≤◌, ◌↔◌, vec_len, All, OnOk, OnErr, IfOk, IfErr, ⊤, IsOkUnless, IsTrue};
+ghost use Rattle.std.specs.Prelude.{◌≡◌, ◌+◌, ◌<◌, ◌≤◌, ◌^◌, ◌↔◌, length, vec_len, All, OnOk, OnErr, IfOk, IfErr, ⊤, IsOkUnless, IsTrue};
 ghost use Rattle.std.specs.FinMap as map;
 ghost use Rattle.std.specs.List.{list_any};
 ghost use Rattle.std.specs.Arc.{arc_value};
@@ -170,10 +170,12 @@ impl<L: Ledger + History, M: Ledger> SharedProfiler<L, M> {
             share.new.counts ≡ with_reported share.old.counts times.now.num_scopes) }
         ensures told { OnOk result (
             Told share.old (reported (key_of info) (facts_of_ref times.now)) share.new) }
+        ensures fits { OnOk result (length (facts_of_ref times.now).bytes < 2 ^ 64) }
         ensures ids { OnOk result (AllHaveIds (details_seen details.now)) }
         ensures unchanged { OnErr result (share.new ≡ share.old) }
         ensures cause { IfErr result (IsReportCause (details_seen details.now)) }
     {
+        let _length = times.stream.len();
         self.lock(rt).report(share, info, details, times)
     }
 

@@ -107,7 +107,7 @@ impl<L: Ledger + History, M: Ledger, R: Wait + Drop> SharedReporter<L, M, R> {
 }
 
 impl<L: Ledger + History, M: Ledger, R: Wait> Reporter for SharedReporter<L, M, R> {
-    ghost use Rattle.std.specs.Prelude.{◌≡◌};
+    ghost use Rattle.std.specs.Prelude.{◌≡◌, ◌<◌, ◌^◌, length};
     ghost use Rattle.puffin_threads.specs.Details.{AllHaveIds};
     ghost use Rattle.puffin.specs.Shares.{with_reported};
     ghost use Rattle.puffin.specs.SharedCauses.{IsReportCause};
@@ -117,6 +117,7 @@ impl<L: Ledger + History, M: Ledger, R: Wait> Reporter for SharedReporter<L, M, 
     ghost accepts = { λ old i ds r new.
         ((share_of new).counts ≡ with_reported (share_of old).counts r.num_scopes)
         × Told (share_of old) (reported i r) (share_of new)
+        × (length r.bytes < 2 ^ 64)
         × AllHaveIds ds };
 
     ghost refuses = { λ old i ds r e new. (share_of new ≡ share_of old) × IsReportCause ds e };

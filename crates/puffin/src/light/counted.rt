@@ -36,6 +36,7 @@ impl<L: Ledger + History, M: Ledger, R: Wait> Counting<L, M, R> {
     /// Makes a reporter with a count of 0, from a share whose count is 0.
     pub(crate) fn new(reporter: SharedReporter<L, M, R>) -> Counting<L, M, R>
         requires { IsNewMember reporter.share }
+        ensures { result.reporter ≡ reporter }
     {
         Counting {
             reporter,
@@ -47,7 +48,8 @@ impl<L: Ledger + History, M: Ledger, R: Wait> Counting<L, M, R> {
 impl<L: Ledger + History, M: Ledger, R: Wait + Drop> Counting<L, M, R> {
     /// Returns the share, with the number of scopes that it counts and the numbers of those that were left.
     pub(crate) fn into_share(self, left: Left) -> CountedShare<L, M>
-        ensures { (result.counts.unreported ≡ left.unreported)
+        ensures share { result.share ≡ self.reporter.share }
+        ensures counts { (result.counts.unreported ≡ left.unreported)
             × (result.counts.refused ≡ left.refused) }
     {
         let Counting { reporter, reported } = self;
@@ -63,7 +65,7 @@ impl<L: Ledger + History, M: Ledger, R: Wait + Drop> Counting<L, M, R> {
 }
 
 impl<L: Ledger + History, M: Ledger, R: Wait> Reporter for Counting<L, M, R> {
-    ghost use Rattle.std.specs.Prelude.{◌≡◌};
+    ghost use Rattle.std.specs.Prelude.{◌≡◌, ◌<◌, ◌^◌, length};
     ghost use Rattle.puffin_threads.specs.Details.{AllHaveIds};
     ghost use Rattle.puffin.specs.Shares.{with_reported};
     ghost use Rattle.puffin.specs.Happenings.{reported};
@@ -73,6 +75,7 @@ impl<L: Ledger + History, M: Ledger, R: Wait> Reporter for Counting<L, M, R> {
     ghost accepts = { λ old i ds r new.
         (new.reporter.share.counts ≡ with_reported old.reporter.share.counts r.num_scopes)
         × Told old.reporter.share (reported i r) new.reporter.share
+        × (length r.bytes < 2 ^ 64)
         × AllHaveIds ds };
 
     ghost refuses = { λ old i ds r e new.

@@ -73,9 +73,13 @@ impl<W> Gated for Gate<'_, W> {
 }
 
 impl<W: Program> Program for Gate<'_, W> {
+    ghost states = { λ gate. W.states gate.program.now };
+
+    ghost runs = { λ gate number code. W.runs gate.program.now number code };
+
     fn work<R: Wait, T: Records>(&self, rt: &R, number: usize, thread: &mut T) -> io::Result<()> {
         if !self.may_begin(rt) {
-            return Ok(());
+            return Err(io::Error::from(io::ErrorKind::Interrupted));
         }
         self.program.work(rt, number, thread)
     }

@@ -47,8 +47,8 @@ pub(crate) fn lead<L: Ledger + History, M: Ledger, R: Wait + Copy, D: AnyLeader<
         profiler: frames,
         taken: Taken::new(taking),
     };
-    let mut reporter = Counting::new(SharedReporter::new(rt, reports, reporting));
-    let left = leader.lead(&rt, &mut reporter, &mut taker, program);
+    let reporter = Counting::new(SharedReporter::new(rt, reports, reporting));
+    let (left, reporter) = leader.lead(&rt, reporter, &mut taker, program);
     let Taker {
         rt: _,
         profiler: _,

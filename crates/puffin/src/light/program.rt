@@ -69,9 +69,21 @@ pub trait Frames {
 /// Here `done` is a `Barrier` of all threads and the leader. What is reported after the last frame is in no frame;
 /// `Outcome::settled` counts it as pending.
 pub trait Program {
+    ghost use Rattle.std.specs.Prelude.{ℕ, Bool, false};
+    ghost use Rattle.puffin.specs.Code.{Code};
+    ghost use Rattle.puffin.specs.Telling.{RunsAs};
+
+    /// Whether the program states which code its threads run. It doesn't, unless you write this and [`Program::runs`].
+    ghost states: { Self → Bool } = { λ program. false };
+
+    /// Whether the thread with this number may run this code.
+    ghost runs: { Self → ℕ → Code → Type 0 } = { λ program number code. Unit {0} };
+
     /// Does the work of one thread. Threads are numbered from 0, in the order of the names passed to [`profiled`]. If it fails,
     /// the error is in [`Outcome::failed`], and the other threads go on.
-    fn work<R: Wait, T: Records>(&self, rt: &R, number: usize, thread: &mut T) -> io::Result<()>;
+    fn work<R: Wait, T: Records>(&self, rt: &R, number: usize, thread: &mut T) -> io::Result<()>
+        ensures { RunsAs (states self.now) (runs self.now number) T.begins T.ends thread.old
+            result thread.new };
 
     /// Takes frames while the threads work, and begins scopes of its own on `thread`. It runs on the thread that called
     /// [`profiled`]. As on any thread, its scopes are reported when the outermost of them ends, so a frame that is taken within

@@ -24,7 +24,7 @@ use std::{io, thread};
 #[derive(Drop)]
 struct Worked<L: Ledger + History, M: Ledger> {
     counted: CountedShare<L, M>,
-    result: io::Result<()>,
+    ended: Ended,
 }
 
 /// Does a thread's work, and returns its share.
@@ -37,12 +37,15 @@ fn work<L: Ledger + History, M: Ledger, R: Wait + Copy, T: AnyReady<W>, W>(
     program: &W,
 ) -> Worked<L, M>
     requires { IsNewMember share }
+    ensures tells { T.tells thread program.now number result.ended []
+        result.counted.share.own }
+    ensures unreported { result.counted.counts.unreported ≡ result.ended.left.unreported }
 {
-    let mut reporter = Counting::new(SharedReporter::new(rt, profiler, share));
-    let Ended { result, left } = thread.run(&rt, number, &mut reporter, program);
+    let reporter = Counting::new(SharedReporter::new(rt, profiler, share));
+    let (ended, reporter) = thread.run(&rt, number, reporter, program);
     Worked {
-        counted: reporter.into_share(left),
-        result,
+        counted: reporter.into_share(ended.left),
+        ended,
     }
 }
 
@@ -190,8 +193,8 @@ fn join_all<L: Ledger + History, M: Ledger, R: Threads>(
     shares.push(share)?;
     shares.push(own)?;
     for thread in started {
-        let Worked { counted, result } = thread.join(rt);
-        failed = failed.or(failure(counts.len(), result));
+        let Worked { counted, ended } = thread.join(rt);
+        failed = failed.or(failure(counts.len(), ended.result));
         shares.push(counted.share)?;
         counts.push(counted.counts)?;
     }

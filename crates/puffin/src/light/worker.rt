@@ -2,7 +2,7 @@
 
 use crate::light::pool::Pool;
 use crate::light::program::Frames;
-use crate::light::ready::{AnyLeader, AnyReady, Ended, Left, Lent, Ready, end};
+use crate::light::ready::{AnyLeader, AnyReady, Ended, Left, Ready, end};
 use crate::light::scopes::ThreadScopes;
 use crate::light::thread::Thread;
 use crate::thread_profiler::{Reporter, SystemClock, ThreadProfiler};
@@ -27,14 +27,18 @@ pub(crate) struct Head<C> {
 }
 
 impl<C: Clock + Copy + Drop, W: Pool> AnyReady<W> for Worker<C> {
+    /// Nothing is stated of the jobs.
+    ghost tells = { λ worker pool number ended before after. Unit {0} };
+
     /// Does one job after the other, until there is none or one fails.
     fn run<R: Wait, P: Reporter>(
         self,
         rt: &R,
         _number: usize,
-        reporter: &mut P,
+        reporter: P,
         pool: &W,
-    ) -> Ended {
+    ) -> (Ended, P) {
+        let mut reporter = reporter;
         let Worker {
             alloc,
             clock,
@@ -57,19 +61,17 @@ impl<C: Clock + Copy + Drop, W: Pool> AnyReady<W> for Worker<C> {
             };
             let mut profiler = ThreadProfiler::new(alloc, name, clock.another());
             profiler.set_max_bytes(max_bytes);
-            let lent = Lent {
-                reporter: &mut *reporter,
-            };
-            let mut thread = Thread::new(profiler, lent, scopes);
+            let mut thread = Thread::new(profiler, reporter, scopes);
             result = pool.work(rt, job, &mut thread);
-            let (job_left, known) = end(thread);
+            let (job_left, back, known) = end(thread);
             left = left.and(job_left);
+            reporter = back;
             scopes = known;
             if result.is_err() {
                 break;
             }
         }
-        Ended { result, left }
+        (Ended { result, left }, reporter)
     }
 }
 
@@ -77,13 +79,13 @@ impl<C: Clock + Drop, W: Pool> AnyLeader<W> for Head<C> {
     fn lead<R: Wait, P: Reporter, F: Frames>(
         self,
         rt: &R,
-        reporter: &mut P,
+        reporter: P,
         frames: &mut F,
         pool: &W,
-    ) -> Left {
+    ) -> (Left, P) {
         let mut thread = self.ready.start(reporter);
         pool.lead(rt, &mut thread, frames);
-        let (left, _scopes) = end(thread);
-        left
+        let (left, reporter, _scopes) = end(thread);
+        (left, reporter)
     }
 }

@@ -14,7 +14,7 @@ use Rattle.puffin_collector.specs.Collector.State.{Collected, no_scopes}
 use Rattle.puffin_accounts.specs.Moments.{Moment, num_open, key_at}
 use Rattle.puffin_accounts.specs.Times.{Timed}
 use Rattle.puffin_accounts.specs.Adding.{SpellsEvents, Gains, PassesOn, AddsScopes}
-use Rattle.puffin_accounts.proofs.lemmas.Offsets.{depth-tour}
+use Rattle.puffin.proofs.lemmas.Offsets.{depth-tour}
 use Rattle.puffin_accounts.proofs.lemmas.Times.{timed_still, timed_both, same_start}
 
 gains_both : (a b c : Option StreamFacts) (r s : List Event) → Gains a b r → Gains b c s → Gains a c (r ++ s)

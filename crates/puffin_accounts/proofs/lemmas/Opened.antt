@@ -37,7 +37,7 @@ use Rattle.puffin.specs.Guards.{BeginsAt, EndsIn, Leaves}
 use Rattle.puffin_accounts.specs.Moments.{Moment, moment_by, num_open, key_at, Sees}
 use Rattle.puffin_accounts.specs.Times.{Timed}
 use Rattle.puffin_accounts.specs.Adding.{SpellsEvents, AddsScopes, AddsScope}
-use Rattle.puffin_accounts.proofs.lemmas.Offsets.{offsets-open, offsets-tour, depth-tour}
+use Rattle.puffin.proofs.lemmas.Offsets.{offsets-open, offsets-tour, depth-tour}
 use Rattle.puffin_accounts.proofs.lemmas.Times.{has_start, timed_open, timed_close, timed_both}
 use Rattle.puffin_accounts.proofs.lemmas.Adding.{quiet}
 

@@ -41,7 +41,7 @@ use Rattle.puffin_accounts.specs.Running.{Code, Runs, AreScopesOf, ListsPlaces, 
 use Rattle.puffin_accounts.specs.Showing.{ShowsForest, listed_next}
 use Rattle.puffin_accounts.specs.Steps.{IsDue, tours}
 use Rattle.puffin_accounts.specs.Rounds.{Round, MakesRound, MakesRounds, RunsRound, RunsRounds, Shows, Lists, listed_after, ShowsEach, ShowsRounds, RoundsShow}
-use Rattle.puffin_accounts.proofs.lemmas.Offsets.{depth-tour}
+use Rattle.puffin.proofs.lemmas.Offsets.{depth-tour}
 use Rattle.puffin_accounts.proofs.lemmas.Times.{has_start, same_start, timed_still, timed_both}
 use Rattle.puffin_accounts.proofs.lemmas.Showing.{spells_none, one_entry, no_entry, none_in_empty, none_of, shows_spelled}
 use Rattle.puffin_accounts.proofs.lemmas.Steps.{still_due, none_due_at_first, nothing_due}

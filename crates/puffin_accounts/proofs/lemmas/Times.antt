@@ -8,7 +8,7 @@ use Rattle.puffin_threads.specs.Thread.Calls as calls
 use Rattle.puffin_threads.specs.Thread.Calls.{time_of, after_begin, after_end, after_handing}
 use Rattle.puffin_accounts.specs.Moments.{Moment}
 use Rattle.puffin_accounts.specs.Times.{times_in, greatest_so_far, Answered, first_start_in, Timed}
-use Rattle.puffin_accounts.proofs.lemmas.Offsets.{fold-both}
+use Rattle.puffin.proofs.lemmas.Offsets.{fold-both}
 
 answered-both : {C : Type 0} (answers : C → ℤ → C → Type 0) (c : C) (xs : List ℤ) (d : C) (ys : List ℤ) (e : C) → Answered answers c xs d → Answered answers d ys e → Answered answers c (xs ++ ys) e
 answered-both answers c [] d ys e h k = subst (λ x. Answered answers x ys e) h k

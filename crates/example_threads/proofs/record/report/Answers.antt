@@ -1,4 +1,4 @@
-use Rattle.std.proofs.Common.{◌≡◌, ℕ, ◌+◌, ◌<◌, ◌≤◌, List, length, [], ◌∷◌, ◌++◌, take, map, get_or, string_bytes, ap, sym, subst, ◌∙◌}
+use Rattle.std.proofs.Common.{◌≡◌, ℕ, ◌+◌, ◌<◌, ◌≤◌, ◌^◌, List, length, [], ◌∷◌, ◌++◌, take, map, get_or, string_bytes, ap, sym, subst, ◌∙◌}
 use Rattle.std.proofs.lemmas.List.{take_more, take_all, length-map, get_or-map}
 use Rattle.puffin_threads.specs.Thread.Calls.{after_begin}
 use Rattle.puffin_data.specs.Text.{cut_text}
@@ -20,7 +20,7 @@ loop-text-preserved g c =
     let items = c.deref-text-items.ensures.value in let item = c.text-item.is ∙ ap (λ xs. get_or xs k c.text-item.result) items in
     let long : k < length all = subst (λ (n : ℕ). k < n) (sym (length-map c.args.job.now.texts.items string_bytes)) (subst (λ xs. k < length xs) items c.loop-text-test.true) in
     let more : take (k + 1) all ≡ take k all ++ text ∷ [] = take_more all k text long ∙ ap (λ (x : List ℕ). take k all ++ x ∷ []) (get_or-map string_bytes c.args.job.now.texts.items k c.text-item.result text (subst (λ xs. k < length xs) items c.loop-text-test.true) ∙ ap string_bytes (sym item)) in
-    (i.0, subst (HasOpened c.end_scope.new.thread.state c.end_scope.new.self.share (string_bytes c.args.job.now.name)) (sym more) (closing c.loop-text.reporter c.end_scope.new.self (λ old i ds r new. (new.share.counts ≡ with_reported old.share.counts r.num_scopes) × Told old.share (reported i r) new.share × AllHaveIds ds) (λ old i ds r e new. (new.share ≡ old.share) × IsReportCause ds e) thread _ _ c.loop-text.reporter.share c.end_scope.new.self.share _ _ text begun.0 closed.0 i.1 is _ closed.3 c.in_default-2.not-Kept (λ key ds r a. a.1)))
+    (i.0, subst (HasOpened c.end_scope.new.thread.state c.end_scope.new.self.share (string_bytes c.args.job.now.name)) (sym more) (closing c.loop-text.reporter c.end_scope.new.self (λ old i ds r new. (new.share.counts ≡ with_reported old.share.counts r.num_scopes) × Told old.share (reported i r) new.share × (length r.bytes < 2 ^ 64) × AllHaveIds ds) (λ old i ds r e new. (new.share ≡ old.share) × IsReportCause ds e) thread _ _ c.loop-text.reporter.share c.end_scope.new.self.share _ _ text begun.0 closed.0 i.1 is _ closed.3 c.in_default-2.not-Kept (λ key ds r a. a.1)))
 
 pub returns : goal.returns
 returns g c =

@@ -1,0 +1,150 @@
+-- Code on a light thread, by what its reporter tells.
+use Rattle.std.proofs.Common.{◌≡◌, ℕ, ℤ, pos, Bool, true, false, List, [], ◌∷◌, ◌++◌, Option, Some, None, Result, Ok, Err, inl, inr, refl, sym, ap, ◌∙◌, subst}
+use Rattle.std.specs.Prelude.{OnOk}
+use Rattle.puffin_data.specs.declared.error.Error.{Error}
+use Rattle.puffin_data.specs.declared.data.form.Form.{Form}
+use Rattle.puffin_data.specs.Forest.{Forest, empty, append}
+use Rattle.puffin_data.specs.Forest.Measures.{scope_count}
+use Rattle.puffin_data.specs.Honesty.{StreamFacts}
+use Rattle.puffin_data.specs.Text.{cut_text}
+use Rattle.puffin_threads.specs.declared.thread_profiler.profiler.ThreadProfiler.{ThreadProfiler}
+use Rattle.puffin_threads.specs.declared.thread_profiler.reporter.Closed.{Closed}
+use Rattle.puffin_threads.specs.declared.thread_profiler.reporter.Closed.TheVariants.{Inner, Reported, Kept}
+use Rattle.puffin_threads.specs.Thread.ThreadProfiler.{thread_of}
+use Rattle.puffin_threads.specs.Thread.ThreadKey.{ThreadKey}
+use Rattle.puffin_threads.specs.Thread.Calls as calls
+use Rattle.puffin_threads.specs.Thread.Calls.{time_of, after_end, key_of_thread, new_thread, num_ended}
+use Rattle.puffin_threads.specs.Thread.Closing.{Closes, Reports}
+use Rattle.puffin_threads.specs.Details.{Details}
+use Rattle.puffin_scopes.specs.Guards.Guard.{offset_in}
+use Rattle.puffin_scopes.specs.declared.guard_state.GuardState.{GuardState}
+use Rattle.puffin_scopes.specs.declared.guard_state.GuardState.TheVariants.{On, Off, Refused}
+use Rattle.puffin.specs.declared.light.thread.Thread.{Thread}
+use Rattle.puffin.specs.declared.light.place.Place.{Place}
+use Rattle.puffin.specs.LightThread.{profiler_of, reporter_of, scopes_of}
+use Rattle.puffin.specs.Places.{num_known}
+use Rattle.puffin.specs.Guards.{BeginsAt, EndsIn, Leaves}
+use Rattle.puffin.specs.Code.{Code, nothing, scope, Runs, AreScopesOf, MayBe, scope_if, span_at}
+use Rattle.puffin.specs.Happenings.{Happening}
+use Rattle.puffin.specs.Telling.{KeepsReports, HasRun, RunsAs, HasRunAs}
+use Rattle.puffin.proofs.lemmas.Waiting.{num_ended-tour}
+use Rattle.puffin.proofs.Telling.{Stage, Adds, Accepts, Refuses, adds_nothing, adds_both, innermost, around, told_all}
+
+begins_form : {C R : Type 0} (answers : C → ℤ → C → Type 0) (old new : Thread C R) (place : Place) (text : List ℕ) (state : GuardState) → BeginsAt answers old place text state new → (thread_of (profiler_of new)).form ≡ (thread_of (profiler_of old)).form
+begins_form answers old new place text (On offset) begins = ap (λ (t : calls.Thread). t.form) begins.begins.1.begun
+begins_form answers old new place text Off begins = ap (λ p. (thread_of p).form) begins.begins
+begins_form answers old new place text (Refused e) begins = ap (λ p. (thread_of p).form) begins.begins.0
+
+may_be : {C R : Type 0} (answers : C → ℤ → C → Type 0) (old new : Thread C R) (place : Place) (text : List ℕ) (state : GuardState) → BeginsAt answers old place text state new → MayBe (num_known (scopes_of old)) place state
+may_be answers old new place text (On offset) begins = begins.begins.0
+may_be answers old new place text Off begins = tt
+may_be answers old new place text (Refused e) begins = begins.begins.1
+
+-- the same for a thread that knows as much and has the same form
+moved : {k known : ℕ} {x form : Form} (code : Code) (f : Forest) → k ≡ known → x ≡ form → AreScopesOf k x code f → AreScopesOf known form code f
+moved {k} {known} {x} {form} code f same_known same_form is = subst (λ (y : Form). AreScopesOf known y code f) same_form (subst (λ (n : ℕ). AreScopesOf n x code f) same_known is)
+
+module _ {C R : Type 0} (answers : C → ℤ → C → Type 0) (accepts : R → ThreadKey → List Details → StreamFacts → R → Type 0) (refuses : R → ThreadKey → List Details → StreamFacts → Error → R → Type 0) (told : R → List Happening) (keeps : KeepsReports accepts refuses told) where
+  abbrev stage : Thread C R → Stage
+  stage t = record { known = num_known (scopes_of t); thread = thread_of (profiler_of t); told = told (reporter_of t) }
+
+  closes_by : (old new : calls.Thread) (at : ℤ) (before after : R) (closed : Closed) → Closes accepts refuses old new at before after closed → Closes Accepts Refuses old new at (told before) (told after) closed
+  closes_by old new at before after Inner h = (h.0, h.1, ap told h.2)
+  closes_by old new at before after Reported h = (h.0, h.1, (h.2.0, h.2.1, keeps.accepted before (key_of_thread (after_end old at)) (after_end old at).details h.2.0 after h.2.2))
+  closes_by old new at before after (Kept e) h = (h.0, h.1, (h.2.0, h.2.1, keeps.refused before (key_of_thread (after_end old at)) (after_end old at).details h.2.0 e after h.2.2))
+
+  reports_by : (old new : calls.Thread) (before after : R) (result : Result Bool Error) → Reports accepts refuses old new before after result → Reports Accepts Refuses old new (told before) (told after) result
+  reports_by old new before after (Ok false) h = (h.0, h.1, ap told h.2)
+  reports_by old new before after (Ok true) h = (h.0, h.1, (h.2.0, h.2.1, keeps.accepted before (key_of_thread old) old.details h.2.0 after h.2.2))
+  reports_by old new before after (Err e) h = (
+    h.0,
+    elim h.1 [
+      | inl opened ↦ inl (opened.0, opened.1, ap told opened.2)
+      | inr waits ↦ inr (
+        waits.0,
+        elim waits.1 [
+          | inl memory ↦ inl (memory.0, ap told memory.1)
+          | inr g ↦ inr (g.0, g.1, keeps.refused before (key_of_thread old) old.details g.0 e after g.2)
+        ],
+      )
+    ],
+  )
+
+  abbrev stage_with : ThreadProfiler C → R → ℕ → Stage
+  stage_with p r known = record { known = known; thread = thread_of p; told = told r }
+
+  same_stage : (a b : Thread C R) → profiler_of b ≡ profiler_of a → reporter_of b ≡ reporter_of a → scopes_of b ≡ scopes_of a → stage b ≡ stage a
+  same_stage a b profiler reporter scopes =
+      ap (λ p. stage_with p (reporter_of b) (num_known (scopes_of b))) profiler
+      ∙ ap (λ r. stage_with (profiler_of a) r (num_known (scopes_of b))) reporter
+      ∙ ap (λ k. stage_with (profiler_of a) (reporter_of a) (num_known k)) scopes
+
+  bare : (a b c d : Thread C R) (f : Forest) → profiler_of b ≡ profiler_of a → reporter_of b ≡ reporter_of a → scopes_of b ≡ scopes_of a → Adds (stage b) (stage c) f → d ≡ c → Adds (stage a) (stage d) f
+  bare a b c d f profiler reporter scopes body left = subst (λ m. Adds m (stage d) f) (same_stage a b profiler reporter scopes) (subst (λ t. Adds (stage b) (stage t) f) (sym left) body)
+
+  -- A guard was opened at a place, code ran within it, and it was dropped.
+  adds_scope : (a b c d : Thread C R) (place : Place) (text : List ℕ) (state : GuardState) (f : Forest) → BeginsAt answers a place text state b → Adds (stage b) (stage c) f → Leaves (EndsIn answers accepts refuses) (offset_in state) c d
+      → (start stop : ℤ) × Adds (stage a) (stage d) (scope_if state (span_at place (cut_text (thread_of (profiler_of a)).form text) start stop) f)
+  adds_scope a b c d place text Off f begins body left = (pos 0, pos 0, bare a b c d f begins.begins begins.reporter begins.scopes body left)
+  adds_scope a b c d place text (Refused e) f begins body left = (pos 0, pos 0, bare a b c d f begins.begins.0 begins.reporter begins.scopes body left)
+  adds_scope a b c d place text (On offset) f begins body left =
+      let h = begins.begins.1 in
+      let still : told (reporter_of b) ≡ told (reporter_of a) = ap told begins.reporter in
+      let stored = cut_text (thread_of (profiler_of a)).form text in
+      let end = left.ends.innermost (innermost (stage a) (stage b) (stage c) (stage d) place.id stored h.at h.at f h.begun still (ap num_known begins.scopes) body ∙ ap Some (sym h.offset_is)) in (
+        time_of (thread_of (profiler_of a)) h.at,
+        time_of (thread_of (profiler_of c)) end.at,
+        around (stage a) (stage b) (stage c) (stage d) place.id stored h.at end.at f h.begun still (ap num_known begins.scopes) body (ap num_known left.scopes) end.closed
+            (closes_by (thread_of (profiler_of c)) (thread_of (profiler_of d)) end.at (reporter_of c) (reporter_of d) end.closed end.closes),
+      )
+
+  adds_code : (code : Code) (old new : Thread C R) → Runs (BeginsAt answers) (EndsIn answers accepts refuses) code old new → (f : Forest) × AreScopesOf (num_known (scopes_of old)) (thread_of (profiler_of old)).form code f × Adds (stage old) (stage new) f
+  adds_code nothing old new runs = (empty, refl, subst (λ t. Adds (stage old) (stage t) empty) (sym runs) (adds_nothing (stage old)))
+  adds_code (scope place text within after) old new (state, begun, left, ended, begins, inner, leaves, later) =
+      let i = adds_code within begun left inner in
+      let l = adds_code after ended new later in
+      let w = adds_scope old begun left ended place text state i.0 begins i.2 leaves in
+      let form = begins_form answers old begun place text state begins in (
+        append (scope_if state (span_at place (cut_text (thread_of (profiler_of old)).form text) w.0 w.1) i.0) l.0,
+        (
+          state,
+          may_be answers old begun place text state begins,
+          w.0,
+          w.1,
+          i.0,
+          l.0,
+          moved within i.0 (ap num_known begins.scopes) form i.1,
+          moved after l.0 w.2.known w.2.form l.1,
+          refl,
+        ),
+        adds_both (stage old) (stage ended) (stage new) _ l.0 w.2 l.2,
+      )
+
+  -- code ran on a new thread, and then what waited was reported, or not
+  has_run : (code : Code) (old mid : Thread C R) (last : calls.Thread) (after : R) (name : List ℕ) (form : Form) (result : Result Bool Error) (waiting : ℕ) → thread_of (profiler_of old) ≡ new_thread name form → Runs (BeginsAt answers) (EndsIn answers accepts refuses) code old mid
+      → Reports accepts refuses (thread_of (profiler_of mid)) last (reporter_of mid) after result → waiting ≡ num_ended last.word
+      → HasRun name form (num_known (scopes_of old)) code (told (reporter_of old)) (told after) waiting
+  has_run code old mid last after name form result waiting first runs reports counted =
+      let a = adds_code code old mid runs in
+      let n : Stage = record { known = num_known (scopes_of mid); thread = last; told = told after } in
+      let t = told_all (stage old) (stage mid) n a.0 name form result first a.2 (reports_by (thread_of (profiler_of mid)) last (reporter_of mid) after result reports) in
+      let its_form : (thread_of (profiler_of old)).form ≡ form = ap (λ (x : calls.Thread). x.form) first in
+      record {
+        start = t.0;
+        streams = t.1;
+        told = t.2;
+        shown = t.3;
+        waits = t.4;
+        spelled = t.5.0;
+        fit = t.5.1;
+        began = subst (λ (x : Form). AreScopesOf (num_known (scopes_of old)) x code (append t.3 t.4)) its_form (subst (AreScopesOf (num_known (scopes_of old)) (thread_of (profiler_of old)).form code) (sym t.6) a.1);
+        counted = sym (counted ∙ ap num_ended t.7 ∙ num_ended-tour t.4);
+      }
+
+  pub has_run_as : {X E : Type 0} (states : Bool) (is : Code → Type 0) (old mid : Thread C R) (last : calls.Thread) (after : R) (name : List ℕ) (form : Form) (r : Result X E) (result : Result Bool Error) (waiting : ℕ) → thread_of (profiler_of old) ≡ new_thread name form
+      → RunsAs states is (BeginsAt answers) (EndsIn answers accepts refuses) old r mid
+      → Reports accepts refuses (thread_of (profiler_of mid)) last (reporter_of mid) after result → waiting ≡ num_ended last.word
+      → HasRunAs states is name form (num_known (scopes_of old)) r (told (reporter_of old)) (told after) waiting
+  has_run_as false is old mid last after name form r result waiting first runs reports counted = tt
+  has_run_as true is old mid last after name form (Ok x) result waiting first (code, it, runs) reports counted = (code, it, has_run code old mid last after name form result waiting first runs reports counted)
+  has_run_as true is old mid last after name form (Err e) result waiting first runs reports counted = tt
