@@ -2,6 +2,7 @@
 
 use crate::workers;
 use crate::workers::Kind;
+use puffin::global_profiler::NewLog;
 use std::marker::Brand;
 use std::sync::ledger::Blank;
 
