@@ -2,7 +2,6 @@
 ghost use Rattle.std.specs.Prelude.{◌≡◌, IfOk, IfSome};
 ghost use Rattle.puffin_data.specs.Forest.{Forest};
 ghost use Rattle.puffin_data.specs.Honesty.{IsHonest};
-ghost use Rattle.std.specs.FinMap as map;
 ghost use Rattle.puffin.specs.Profiler.{collected_of};
 
 use crate::refusal::only;
@@ -226,8 +225,7 @@ fn opened<L: Ledger + History, M: Ledger, R: Print + Wait>(
     log: NewLog<Event>,
 ) -> Option<Option<GlobalProfiler>>
     requires fresh { ((collected_of profiler).reported ≡ 0)
-        × ((collected_of profiler).emitted ≡ 0)
-        × ((collected_of profiler).streams ≡ map.empty) }
+        × ((collected_of profiler).emitted ≡ 0) }
     requires reported { (reported.name ≡ L.name)
         × (reported.parts ≡ L.parts)
         × (reported.parts ≡ 1) }
@@ -261,8 +259,7 @@ fn once<R: Print + AllocGlobal + Wait>(
     profiler: GlobalProfiler,
 ) -> Option<Option<GlobalProfiler>>
     requires fresh { ((collected_of profiler).reported ≡ 0)
-        × ((collected_of profiler).emitted ≡ 0)
-        × ((collected_of profiler).streams ≡ map.empty) }
+        × ((collected_of profiler).emitted ≡ 0) }
 {
     let (ids, mut profiler) = (ScopeIds::new(), profiler);
     prepare(rt.alloc(), &ids, &mut profiler)?;

@@ -24,12 +24,11 @@ use Rattle.puffin_threads.proofs.lemmas.ThreadKeys.{has_same_key-one, has_same_k
 use Rattle.puffin_frames.specs.declared.frame_data.frame.FrameData.{FrameData}
 use Rattle.puffin_frames.specs.Frame.Contents.{Streams}
 use Rattle.puffin_frames.specs.Frame.Holding.{Holding}
-use Rattle.puffin.specs.Happenings.{Happening, reported, History, pending_of, framed, frame_of, frames_in, report_under, reports_under}
+use Rattle.puffin.specs.Happenings.{Happening, reported, History, framed, frame_of, frames_in, report_under, reports_under}
 use Rattle.puffin.specs.Members.{Member, IsNewMember, account_of, unpacked_in, TakesFrame}
 use Rattle.puffin.specs.Recounted.{SpellInTurn, streams_under, ReportsAlone, TakesAlone, Recounts}
 use Rattle.puffin.specs.Leaving.{accounts_of}
 use Rattle.puffin_frames.specs.Frame.Sums.{total_scopes}
-use Rattle.history.specs.Entries.{events}
 use Rattle.example_threads.specs.declared.record.Job.{Job}
 use Rattle.example_threads.specs.declared.record.Recorded.{Recorded}
 use Rattle.example_threads.specs.Recorded.{key_of_job, texts_of, AreApart, HasDone, span_of, AreScopes, AreReports, HasTaken, streams_in, Show}
@@ -78,8 +77,8 @@ scopes_of (text ∷ texts) rs f are spelled =
 -- one frame more is handed to a share
 frame_more : (frames : List (Arc FrameData Global)) (frame : Arc FrameData Global) (old new : Member) → HasTaken frames old → TakesFrame old (Some frame) new → HasTaken (frames ++ frame ∷ []) new
 frame_more frames frame old new taken more =
-    let streams = pending_of (events more.0) in let own = more.2.own in
-    let has : unpacked_in (arc_value frame) ≡ streams = ap (λ (h : Holding). unwrap_or h.unpacked fm.empty) more.1 in
+    let streams = more.1 in let own = more.4.own in
+    let has : unpacked_in (arc_value frame) ≡ streams = ap (λ (h : Holding). unwrap_or h.unpacked fm.empty) more.3 in
     record {
       frames_are =
           map-append (λ (x : Arc FrameData Global). unpacked_in (arc_value x)) frames (frame ∷ [])
@@ -124,11 +123,11 @@ NoFramesBut a b = b.0 ≢ a.0 → frames_in b.1 ≡ []
 abbrev NoReportsBut : ThreadKey → ℕ × List Happening → ℕ × List Happening → Type 0
 NoReportsBut i a b = b.0 ≢ a.0 → reports_under i b.1 ≡ []
 
-module _ (recorded : Recorded) (n : ℕ) (log : History) (a b c taker : Member) (u v w : Job) where
+module _ (recorded : Recorded) (n : ℕ) (log : History) (pending : Streams) (a b c taker : Member) (u v w : Job) where
   abbrev accounts : List (ℕ × List Happening)
   accounts = accounts_of (a ∷ b ∷ c ∷ taker ∷ [])
 
-  module _ (known : Recounts n accounts log) (count : recorded.settled.pending ≡ total_scopes (fm.values (pending_of (events log)))) (one : HasDone u a) (two : HasDone v b) (three : HasDone w c) (taken : HasTaken recorded.frames.items taker) where
+  module _ (known : Recounts n accounts log pending) (count : recorded.settled.pending ≡ total_scopes (fm.values pending)) (one : HasDone u a) (two : HasDone v b) (three : HasDone w c) (taken : HasTaken recorded.frames.items taker) where
     takes : TakesAlone (account_of taker) accounts
     takes = All-from_recursion (NoFramesBut (account_of taker)) accounts ((λ _. no_frames_of u a one), ((λ _. no_frames_of v b two), ((λ _. no_frames_of w c three), ((λ apart. absurd (apart refl)), tt))))
 
@@ -137,10 +136,10 @@ module _ (recorded : Recorded) (n : ℕ) (log : History) (a b c taker : Member) 
         let i = key_of_job did.0 job in
         ∥∥₁_map (known.threads i (account_of share) (account_of taker) there (3, omega arith, refl) alone takes) (λ t. (
           did.0,
-          pending_of (events log),
+          pending,
           t.0,
           count,
-          subst (λ (fs : List Streams). SpellInTurn (streams_under i (fs ++ pending_of (events log) ∷ [])) t.0) (sym taken.frames_are) t.1,
+          subst (λ (fs : List Streams). SpellInTurn (streams_under i (fs ++ pending ∷ [])) t.0) (sym taken.frames_are) t.1,
           scopes_of (texts_of job) did.1.0 t.0 did.1.2 (subst (λ (rs : List StreamFacts). SpellInTurn rs t.0) (ap (reports_under i) did.1.1 ∙ under_itself i did.1.0) t.2),
         ))
 

@@ -1,14 +1,19 @@
 -- A profiler and its history grow together.
-use Rattle.std.proofs.Common.{◌≡◌, ℕ, List, [], ◌∷◌, ◌++◌, refl, ap, sym, subst, ◌∙◌, append_assoc}
-use mathlib.Core.Logic.{∥∥₁_elim, ∥∥₁_map}
+use Rattle.std.proofs.Common.{◌≡◌, ℕ, List, [], ◌∷◌, ◌++◌, Option, Some, None, refl, ap, sym, subst, ◌∙◌, append_assoc, arith}
+use mathlib.Core.Logic.{∥∥₁_map}
 use Rattle.std.specs.FinMap as map
-use Rattle.std.specs.Coded.{Coded-set, coded_list}
+use Rattle.std.specs.Option.{unwrap_or}
 use Rattle.std.proofs.lemmas.List.{append-nil}
-use Rattle.std.proofs.lemmas.Grind.{flat_map-append}
-use Rattle.puffin_frames.specs.Frame.Contents.{Streams, streams_code}
+use Rattle.std.proofs.lemmas.Grind.{flat_map-append, merely}
+use Rattle.puffin_data.specs.Forest.{Forest, empty, node}
+use Rattle.puffin_data.specs.Honesty.{StreamFacts, AreHonestFacts}
+use Rattle.puffin_threads.specs.Thread.ThreadKey.{ThreadKey}
+use Rattle.puffin_frames.specs.Frame.Sums.{total_scopes}
+use Rattle.puffin_frames.proofs.lemmas.Honest.{no_scopes_there}
+use Rattle.puffin_frames.specs.Frame.Contents.{Streams, AreHonest, no_scopes}
 use Rattle.history.specs.Entries.{events}
 use Rattle.history.proofs.lemmas.AllAuthors.{events-append}
-use Rattle.puffin.specs.Happenings.{Happening, left, History, after, pending_after, pending_of, due_at, due_after, due_frames, frame_of, frames_in, IsReport, AreReports, Stands}
+use Rattle.puffin.specs.Happenings.{Happening, left, History, after, pending_after, due_at, due_after, frame_of, frames_in, IsReport, AreReports, HaveNoScopes, ArePending, Stands}
 use Rattle.puffin.specs.Leaving.{last_entries}
 
 pending_last : (s : Streams) (hs : List Happening) (h : Happening) → pending_after s (hs ++ h ∷ []) ≡ after (pending_after s hs) h
@@ -28,9 +33,11 @@ reports_last s (x ∷ xs) h all one = (all.0, reports_last (after s x) xs h all.
 
 grows : (pending new : Streams) (hs : List Happening) (h : Happening) → Stands pending hs → new ≡ after pending h → frame_of h ≡ due_at pending h → IsReport pending h → Stands new (hs ++ h ∷ [])
 grows pending new hs h stands is due report = record {
-  pending_is = is ∙ ap (λ s. after s h) stands.pending_is ∙ sym (pending_last map.empty hs h);
-  frames_are = frames_last hs h ∙ (λ k. stands.frames_are k ++ due k) ∙ ap (λ s. due_frames hs ++ due_at s h) stands.pending_is ∙ sym (due_last map.empty hs h);
-  reports = reports_last map.empty hs h stands.reports (subst (λ (s : Streams). IsReport s h) stands.pending_is report);
+  start = stands.start;
+  none = stands.none;
+  pending_is = is ∙ ap (λ s. after s h) stands.pending_is ∙ sym (pending_last stands.start hs h);
+  frames_are = frames_last hs h ∙ (λ k. stands.frames_are k ++ due k) ∙ ap (λ s. due_after stands.start hs ++ due_at s h) stands.pending_is ∙ sym (due_last stands.start hs h);
+  reports = reports_last stands.start hs h stands.reports (subst (λ (s : Streams). IsReport s h) stands.pending_is report);
 }
 
 -- a history that stands with what is pending, and grows by what happens next
@@ -42,14 +49,24 @@ grows_by pending new old log n h stands longer is due report = ∥∥₁_map sta
 pub same_stands : (pending new : Streams) (log : History) → new ≡ pending → ∥ Stands pending (events log) ∥₁ → ∥ Stands new (events log) ∥₁
 same_stands pending new log is stands = subst (λ (s : Streams). ∥ Stands s (events log) ∥₁) (sym is) stands
 
-pub none_stands : Stands map.empty []
-none_stands = record { pending_is = refl; frames_are = refl; reports = tt }
+none_counted : (f : Forest) (r : StreamFacts) → r.num_scopes ≡ 0 → AreHonestFacts r f → AreHonestFacts r empty
+none_counted empty r none honest = honest
+none_counted (node s c o) r none honest = absurd (omega (arith, none, honest.counts.num_scopes))
 
-pub pending_there : (pending : Streams) (hs : List Happening) → ∥ Stands pending hs ∥₁ → pending ≡ pending_of hs
-pending_there pending hs stands = ∥∥₁_elim stands (Coded-set streams_code pending (pending_of hs)) (λ s. s.pending_is)
+none_under : (streams : Streams) (i : ThreadKey) → AreHonest streams → total_scopes (map.values streams) ≡ 0 → (o : Option StreamFacts) → map.get streams i ≡ o → ∥ AreHonestFacts (unwrap_or o no_scopes) empty ∥₁
+none_under streams i honest nothing None found = merely (record {
+  stream = record { whole = refl; fits = tt };
+  counts = record { num_scopes = refl; depth = refl; least_start = refl; greatest_stop = refl };
+})
+none_under streams i honest nothing (Some r) found = ∥∥₁_map (honest i r found) (λ t. none_counted t.0 r (no_scopes_there streams i r nothing found) t.1)
 
-pub frames_there : (pending : Streams) (hs : List Happening) → ∥ Stands pending hs ∥₁ → frames_in hs ≡ due_frames hs
-frames_there pending hs stands = ∥∥₁_elim stands (Coded-set (coded_list streams_code) (frames_in hs) (due_frames hs)) (λ s. s.frames_are)
+-- honest streams whose sum is 0 are without scopes, and a history may begin with them
+pub opened_stands : (streams : Streams) → AreHonest streams → total_scopes (map.values streams) ≡ 0 → Stands streams []
+opened_stands streams honest nothing =
+    record { start = streams; none = λ i. none_under streams i honest nothing (map.get streams i) refl; pending_is = refl; frames_are = refl; reports = tt }
+
+pub pending_there : (pending : Streams) (hs : List Happening) → ∥ Stands pending hs ∥₁ → ∥ ArePending hs pending ∥₁
+pending_there pending hs stands = ∥∥₁_map stands (λ s. record { start = s.start; none = s.none; is = s.pending_is })
 
 -- shares left
 pub left_stands : (pending : Streams) (log : History) (accounts : List (ℕ × List Happening)) → ∥ Stands pending (events log) ∥₁ → ∥ Stands pending (events (log ++ last_entries accounts)) ∥₁

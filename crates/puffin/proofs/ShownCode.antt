@@ -11,9 +11,8 @@ use Rattle.puffin_data.specs.Honesty.{StreamFacts, AreHonestFacts}
 use Rattle.puffin_data.proofs.lemmas.Unique.{same_forest}
 use Rattle.puffin_threads.specs.Thread.ThreadKey.{ThreadKey, has_same_key}
 use Rattle.puffin_threads.proofs.lemmas.ThreadKeys.{has_same_key-one, has_same_key-itself}
-use Rattle.history.specs.Entries.{events}
 use Rattle.puffin.specs.Code.{Code, AreScopesOf}
-use Rattle.puffin.specs.Happenings.{Happening, reported, History, pending_of, frames_in, reports_under}
+use Rattle.puffin.specs.Happenings.{Happening, reported, History, frames_in, reports_under}
 use Rattle.puffin.specs.Leaving.{accounts_of}
 use Rattle.puffin.specs.Members.{Member, account_of}
 use Rattle.puffin.specs.Recounted.{SpellInTurn, ReportsAlone, TakesAlone, Recounts}
@@ -70,14 +69,14 @@ abbrev key_for : {name : List ℕ} {known : ℕ} {code : Code} {w : ℕ} (m : Me
 key_for {name = name} m ran = record { start = ran.start; name = name }
 
 pub frames_show : FramesShow
-frames_show known n codes names shares waits taker log did quiet recounts k share name code waiting there named coded waited alone =
+frames_show known n codes names shares waits taker log pending did quiet recounts k share name code waiting there named coded waited alone =
     let d = did k share there in
     let its_name : d.0 ≡ name = at_most_one (slice_get names k) d.0 name d.3 named in
     let its_code : d.1 ≡ code = at_most_one (slice_get codes k) d.1 code d.4 coded in
     let its_wait : d.2 ≡ waiting = at_most_one (slice_get waits k) d.2 waiting d.5 waited in
     shown (subst (λ (x : List ℕ). HasRun x Short known code [] share.own waiting) its_name (subst (λ (x : Code). HasRun d.0 Short known x [] share.own waiting) its_code (subst (HasRun d.0 Short known d.1 [] share.own) its_wait d.6)))
   where
-    shown : (ran : HasRun name Short known code [] share.own waiting) → ∥ ShowsCode known code name (frames_in taker.own) (pending_of (events log)) waiting ∥₁
+    shown : (ran : HasRun name Short known code [] share.own waiting) → ∥ ShowsCode known code name (frames_in taker.own) pending waiting ∥₁
     shown ran =
         ∥∥₁_map (recounts.threads (key_for share ran) (account_of share) (account_of taker) (contained shares taker k share there) (last_contained shares taker) reports takes) (λ t.
         let one : t.0 ≡ ran.shown = spelled_once ran.streams t.0 ran.shown ran.fit (subst (λ (rs : List StreamFacts). SpellInTurn rs t.0) (ap (reports_under (key_for share ran)) ran.told ∙ under_itself (key_for share ran) ran.streams) t.2) ran.spelled in

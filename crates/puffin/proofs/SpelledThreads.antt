@@ -15,9 +15,8 @@ use Rattle.puffin_threads.proofs.lemmas.ThreadKeys.{key_cmp_total, key_cmp-one}
 use Rattle.puffin_frames.specs.Frame.Contents.{Streams, no_scopes, stream_under, reported_to}
 use Rattle.history.specs.Entries.{events, entries_by, AreAllAuthors}
 use Rattle.history.proofs.lemmas.AllAuthors.{only_one}
-use Rattle.puffin.specs.Happenings.{Happening, reported, framed, left, History, pending_after, pending_of, due_after, due_frames, frame_of, frames_in, AreReports, report_under, reports_under, Stands}
+use Rattle.puffin.specs.Happenings.{Happening, reported, framed, left, History, pending_after, due_after, frame_of, frames_in, AreReports, report_under, reports_under, Stands}
 use Rattle.puffin.specs.Recounted.{SpellInTurn, streams_under, SpellReports, Recounts}
-use Rattle.puffin.proofs.Growing.{frames_there}
 
 append_append : (f g h : Forest) → append (append f g) h ≡ append f (append g h)
 append_append empty g h = refl
@@ -77,21 +76,24 @@ spells_after i (reported j r ∷ hs) s f honest reports = ∥∥₁_elim reports
 spells_after i (framed x ∷ hs) s f honest reports = ∥∥₁_map (spells_after i hs fm.empty empty (honest_empty i) reports.1) (λ t. (t.0, ((f, t.0, honest, t.1.0, refl), t.1.1)))
 spells_after i (left ∷ hs) s f honest reports = spells_after i hs s f honest reports.1
 
-whole : (i : ThreadKey) (hs : List Happening) → frames_in hs ≡ due_frames hs → AreReports fm.empty hs → SpellReports i (frames_in hs) (pending_of hs) (reports_under i hs)
-whole i hs due reports = ∥∥₁_map (spells_after i hs fm.empty empty (honest_empty i) reports) (λ t.
-    (t.0, subst (λ (fs : List Streams). SpellInTurn (streams_under i (fs ++ pending_of hs ∷ [])) t.0) (sym due) t.1.0, t.1.1))
+whole : (i : ThreadKey) (pending : Streams) (hs : List Happening) → Stands pending hs → SpellReports i (frames_in hs) pending (reports_under i hs)
+whole i pending hs s = ∥∥₁_elim (s.none i) ∥∥₁_prop (λ none. ∥∥₁_map (spells_after i hs s.start empty none s.reports) (λ t. (
+  t.0,
+  subst (λ (p : Streams). SpellInTurn (streams_under i (frames_in hs ++ p ∷ [])) t.0) (sym s.pending_is) (subst (λ (fs : List Streams). SpellInTurn (streams_under i (fs ++ pending_after s.start hs ∷ [])) t.0) (sym s.frames_are) t.1.0),
+  t.1.1,
+)))
 
 -- what all shares know, once each has been given back
-pub recounted : (n : ℕ) (accounts : List (ℕ × List Happening)) (log : History) (pending : Streams) → ∥ Stands pending (events log) ∥₁ → AreAllAuthors n accounts log → Recounts n accounts log
+pub recounted : (n : ℕ) (accounts : List (ℕ × List Happening)) (log : History) (pending : Streams) → ∥ Stands pending (events log) ∥₁ → AreAllAuthors n accounts log → Recounts n accounts log pending
 recounted n accounts log pending stands all =
     let hs : List Happening = events log in
-    let spelled : (i : ThreadKey) → SpellReports i (frames_in hs) (pending_of hs) (reports_under i hs) = λ i. ∥∥₁_elim stands ∥∥₁_prop (λ s. whole i hs s.frames_are s.reports) in
+    let spelled : (i : ThreadKey) → SpellReports i (frames_in hs) pending (reports_under i hs) = λ i. ∥∥₁_elim stands ∥∥₁_prop (λ s. whole i pending hs s) in
     record {
       all = all;
-      frames = frames_there pending hs stands;
+      stands = stands;
       spelled = spelled;
       threads = λ i a taker there took alone takes.
           let its : frames_in hs ≡ frames_in taker.1 = only_one frame_of n taker.0 accounts log all takes ∙ ap frames_in (sym (All-contains (λ b. b.1 ≡ entries_by b.0 log) accounts taker all.own took)) in
           let mine : reports_under i hs ≡ reports_under i a.1 = only_one (report_under i) n a.0 accounts log all alone ∙ ap (reports_under i) (sym (All-contains (λ b. b.1 ≡ entries_by b.0 log) accounts a all.own there)) in
-          subst (λ (fs : List Streams). SpellReports i fs (pending_of hs) (reports_under i a.1)) its (subst (λ (rs : List StreamFacts). SpellReports i (frames_in hs) (pending_of hs) rs) mine (spelled i));
+          subst (λ (fs : List Streams). SpellReports i fs pending (reports_under i a.1)) its (subst (λ (rs : List StreamFacts). SpellReports i (frames_in hs) pending rs) mine (spelled i));
     }

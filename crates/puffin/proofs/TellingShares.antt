@@ -7,12 +7,12 @@ use Rattle.puffin_frames.specs.declared.frame_data.frame.FrameData.{FrameData}
 use Rattle.puffin_frames.specs.Frame.Contents.{Streams, holding_of}
 use Rattle.puffin_collector.specs.Collector.State.{Collected}
 use Rattle.puffin_collector.specs.Collector.Collecting.{Collects}
-use Rattle.puffin.specs.Happenings.{Happening, framed, History, pending_of}
+use Rattle.puffin.specs.Happenings.{Happening, framed, History}
 use Rattle.puffin.specs.Members.{Member, IsNewMember, Tells, unpacked_in}
 
 -- what a frame has is what was pending, and nothing is afterwards
-pub frame_due : {A : Type 0} (f : Arc FrameData A) (old new : Collected) (hs : List Happening) → Collects old (Some f) new → old.streams ≡ pending_of hs → holding_of (arc_value f) ≡ record { packed = None; unpacked = Some (pending_of hs) }
-frame_due f old new hs h is = subst (λ (s : Streams). holding_of (arc_value f) ≡ record { packed = None; unpacked = Some s }) is h.0.held
+pub frame_due : {A : Type 0} (f : Arc FrameData A) (old new : Collected) → Collects old (Some f) new → holding_of (arc_value f) ≡ record { packed = None; unpacked = Some old.streams }
+frame_due f old new h = h.0.held
 
 pub unpacked_is : {A : Type 0} (f : Arc FrameData A) (old new : Collected) → Collects old (Some f) new → unpacked_in (arc_value f) ≡ old.streams
 unpacked_is f old new h = ap (λ x. Rattle.std.specs.Option.unwrap_or x.unpacked map.empty) h.0.held

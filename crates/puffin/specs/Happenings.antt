@@ -4,7 +4,7 @@ use mathlib.Core.Logic.{inl, inr}
 use Rattle.std.specs.FinMap as map
 use Rattle.std.specs.List.{flat_map}
 use Rattle.std.specs.Coded.{Coded, code_by, coded×, coded⊎, coded_option}
-use Rattle.puffin_data.specs.Forest.{Forest}
+use Rattle.puffin_data.specs.Forest.{Forest, empty}
 use Rattle.puffin_data.specs.Honesty.{StreamFacts, AreHonestFacts, AreUnlike}
 use Rattle.puffin_threads.specs.Thread.ThreadKey.{ThreadKey, key_code, has_same_key}
 use Rattle.puffin_frames.specs.Frame.Contents.{Streams, facts_code, streams_code, stream_under, reported_to}
@@ -58,22 +58,25 @@ abbrev pub pending_after : Streams → List Happening → Streams
 pending_after pending [] = pending
 pending_after pending (h ∷ hs) = pending_after (after pending h) hs
 
--- the streams that are pending at the end: all reports since the last frame, in order
-abbrev pub pending_of : List Happening → Streams
-pending_of hs = pending_after map.empty hs
+-- Streams without scopes, which may be pending when a history begins: a profiler that took reports without scopes has such.
+abbrev pub HaveNoScopes : Streams → Type 0
+HaveNoScopes streams = (i : ThreadKey) → ∥ AreHonestFacts (stream_under streams i) empty ∥₁
+
+-- the streams that are pending at the end: all reports since the last frame, in order, after streams without scopes
+pub record ArePending (hs : List Happening) (pending : Streams) : Type 0 where
+  pub start : Streams
+  pub none : HaveNoScopes start
+  pub is : pending ≡ pending_after start hs
 
 abbrev pub due_at : Streams → Happening → List Streams
 due_at pending (reported i r) = []
 due_at pending (framed streams) = pending ∷ []
 due_at pending left = []
 
+-- the streams that were due for each frame: all reports since the frame before it, in order
 abbrev pub due_after : Streams → List Happening → List Streams
 due_after pending [] = []
 due_after pending (h ∷ hs) = due_at pending h ++ due_after (after pending h) hs
-
--- the streams that were due for each frame: all reports since the frame before it, in order
-abbrev pub due_frames : List Happening → List Streams
-due_frames hs = due_after map.empty hs
 
 abbrev pub frame_of : Happening → List Streams
 frame_of (reported i r) = []
@@ -108,8 +111,10 @@ reports_under i hs = flat_map (report_under i) hs
 
 -- ---- a profiler with its history
 
--- what is pending is what the history leaves pending, and each frame had what was due
+-- The history began with streams without scopes; what is pending is what it leaves pending, and each frame had what was due.
 pub record Stands (pending : Streams) (hs : List Happening) : Type 0 where
-  pub pending_is : pending ≡ pending_of hs
-  pub frames_are : frames_in hs ≡ due_frames hs
-  pub reports : AreReports map.empty hs
+  pub start : Streams
+  pub none : HaveNoScopes start
+  pub pending_is : pending ≡ pending_after start hs
+  pub frames_are : frames_in hs ≡ due_after start hs
+  pub reports : AreReports start hs

@@ -9,7 +9,7 @@ use Rattle.history.specs.Entries.{events, entries_by}
 use Rattle.puffin_frames.specs.declared.frame_data.frame.FrameData.{FrameData}
 use Rattle.puffin_frames.specs.Frame.Contents.{Streams, holding_of}
 use Rattle.puffin.specs.Shares.{ShareCounts, no_counts}
-use Rattle.puffin.specs.Happenings.{Happening, happening_code, framed, History, pending_of}
+use Rattle.puffin.specs.Happenings.{Happening, happening_code, framed, History, ArePending}
 
 -- a share: what it counts, its number, what happened through it, and the history up to the last of that
 pub record Member : Type 0 where
@@ -72,7 +72,7 @@ unpacked_in frame = unwrap_or (holding_of frame).unpacked map.empty
 -- share doesn't change.
 abbrev pub TakesFrame : {A : Type 0} → Member → Option (Arc FrameData A) → Member → Type 0
 TakesFrame old None new = new ≡ old
-TakesFrame old (Some frame) new = (before : History)
-    × (holding_of (arc_value frame)
-    ≡ record { packed = None; unpacked = Some (pending_of (events before)) })
-    × Tells old (framed (pending_of (events before))) before new
+TakesFrame old (Some frame) new = (before : History) × (due : Streams)
+    × ∥ ArePending (events before) due ∥₁
+    × (holding_of (arc_value frame) ≡ record { packed = None; unpacked = Some due })
+    × Tells old (framed due) before new

@@ -5,7 +5,7 @@ use Rattle.puffin_data.specs.Honesty.{StreamFacts, AreHonestFacts}
 use Rattle.puffin_threads.specs.Thread.ThreadKey.{ThreadKey}
 use Rattle.puffin_frames.specs.Frame.Contents.{Streams, stream_under}
 use Rattle.history.specs.Entries.{events, AreAllAuthors}
-use Rattle.puffin.specs.Happenings.{Happening, History, pending_of, due_frames, frames_in, reports_under}
+use Rattle.puffin.specs.Happenings.{Happening, History, Stands, frames_in, reports_under}
 
 -- these streams, one after the other, spell the scopes of a forest, each in its form
 abbrev pub SpellInTurn : List StreamFacts → Forest → Type 0
@@ -32,18 +32,19 @@ ReportsAlone i a accounts = All (λ b. b.0 ≢ a.0 → reports_under i b.1 ≡ [
 abbrev pub TakesAlone : ℕ × List Happening → List (ℕ × List Happening) → Type 0
 TakesAlone a accounts = All (λ b. b.0 ≢ a.0 → frames_in b.1 ≡ []) accounts
 
--- The history of all n shares, and these are all shares, each with its number and with what happened through it.
-pub record Recounts (n : ℕ) (accounts : List (ℕ × List Happening)) (log : History) : Type 0 where
+-- The history of all n shares and what is pending; and these are all shares, each with its number and with what happened through
+-- it.
+pub record Recounts (n : ℕ) (accounts : List (ℕ × List Happening)) (log : History)
+    (pending : Streams) : Type 0 where
   -- each share's account is what the history has under its number, and the history has no more
   pub all : AreAllAuthors n accounts log
-  -- each frame had just what was due: all reports since the frame before it
-  pub frames : frames_in (events log) ≡ due_frames (events log)
+  -- each frame had just what was due: all reports since the frame before it; and all since the last are pending
+  pub stands : ∥ Stands pending (events log) ∥₁
   -- the frames, and then what is pending, spell exactly what was reported, under each thread's start and name
   pub spelled : (i : ThreadKey) →
-      SpellReports i (frames_in (events log)) (pending_of (events log))
-      (reports_under i (events log))
+      SpellReports i (frames_in (events log)) pending (reports_under i (events log))
   -- and where one share alone reported under them, and one alone took frames, by what these two shares know
   pub threads : (i : ThreadKey) (a taker : ℕ × List Happening) →
       Contains accounts a → Contains accounts taker →
       ReportsAlone i a accounts → TakesAlone taker accounts →
-      SpellReports i (frames_in taker.1) (pending_of (events log)) (reports_under i a.1)
+      SpellReports i (frames_in taker.1) pending (reports_under i a.1)

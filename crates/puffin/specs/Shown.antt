@@ -5,9 +5,8 @@ use Rattle.puffin_data.specs.Forest.{Forest, append}
 use Rattle.puffin_data.specs.Forest.Measures.{scope_count}
 use Rattle.puffin_threads.specs.Thread.ThreadKey.{ThreadKey}
 use Rattle.puffin_frames.specs.Frame.Contents.{Streams}
-use Rattle.history.specs.Entries.{events}
 use Rattle.puffin.specs.Code.{Code, AreScopesOf}
-use Rattle.puffin.specs.Happenings.{History, pending_of, frames_in, reports_under}
+use Rattle.puffin.specs.Happenings.{History, frames_in, reports_under}
 use Rattle.puffin.specs.Leaving.{accounts_of}
 use Rattle.puffin.specs.Members.{Member}
 use Rattle.puffin.specs.Recounted.{SpellInTurn, streams_under, Recounts}
@@ -40,12 +39,12 @@ RanEach known codes names shares waits =
 abbrev pub FramesShow : Type 0
 FramesShow =
     (known n : ℕ) (codes : List Code) (names : List (List ℕ)) (shares : List Member)
-    (waits : List ℕ) (taker : Member) (log : History) →
+    (waits : List ℕ) (taker : Member) (log : History) (pending : Streams) →
     RanEach known codes names shares waits →
     ((i : ThreadKey) → reports_under i taker.own ≡ []) →
-    Recounts n (accounts_of (shares ++ taker ∷ [])) log →
+    Recounts n (accounts_of (shares ++ taker ∷ [])) log pending →
     (k : ℕ) (share : Member) (name : List ℕ) (code : Code) (waiting : ℕ) →
     slice_get shares k ≡ Some share → slice_get names k ≡ Some name →
     slice_get codes k ≡ Some code → slice_get waits k ≡ Some waiting →
     ((j : ℕ) (other : List ℕ) → slice_get names j ≡ Some other → other ≡ name → j ≡ k) →
-    ∥ ShowsCode known code name (frames_in taker.own) (pending_of (events log)) waiting ∥₁
+    ∥ ShowsCode known code name (frames_in taker.own) pending waiting ∥₁

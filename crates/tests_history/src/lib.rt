@@ -8,6 +8,8 @@ mod equal;
 #[cfg(test)]
 mod opened;
 #[cfg(test)]
+mod opened_later;
+#[cfg(test)]
 mod shares;
 #[cfg(test)]
 mod threads;

@@ -1,7 +1,6 @@
 //! A profiler with a history, as most tests here begin with.
 
 ghost use Rattle.std.specs.Prelude.{◌≡◌, ◌<◌};
-ghost use Rattle.std.specs.FinMap as map;
 ghost use Rattle.puffin.specs.Profiler.{collected_of};
 
 use history::{History, NewLog};
@@ -23,8 +22,7 @@ pub(crate) fn opened<L: Ledger + History, M: Ledger>(
     log: NewLog<Event>,
 ) -> Result<Opened<L, M>, Fail>
     requires fresh { ((collected_of profiler).reported ≡ 0)
-        × ((collected_of profiler).emitted ≡ 0)
-        × ((collected_of profiler).streams ≡ map.empty) }
+        × ((collected_of profiler).emitted ≡ 0) }
     requires some { 0 < parts }
     requires reported { (reported.name ≡ L.name)
         × (reported.parts ≡ L.parts)

@@ -18,7 +18,7 @@ use std::sync::ledger::{Blank, Ledger};
 use std::test::Fail;
 
 /// Reports a scope for each text, on a thread with this name, and gives the share back.
-fn reported<L: Ledger + History, M: Ledger, R: Wait + Abort + Copy + Drop>(
+pub(crate) fn reported<L: Ledger + History, M: Ledger, R: Wait + Abort + Copy + Drop>(
     rt: R,
     alloc: Global,
     profiler: &SharedProfiler<L, M>,

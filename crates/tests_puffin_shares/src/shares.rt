@@ -1,7 +1,6 @@
 //! A profiler that is shared, as most tests here begin with.
 
 ghost use Rattle.std.specs.Prelude.{◌≡◌, ◌<◌};
-ghost use Rattle.std.specs.FinMap as map;
 ghost use Rattle.puffin.specs.Profiler.{collected_of};
 
 use crate::equal::equal;
@@ -30,8 +29,7 @@ pub(crate) fn opened<L: Ledger + History, M: Ledger>(
     log: NewLog<Event>,
 ) -> Opened<L, M>
     requires fresh { ((collected_of profiler).reported ≡ 0)
-        × ((collected_of profiler).emitted ≡ 0)
-        × ((collected_of profiler).streams ≡ map.empty) }
+        × ((collected_of profiler).emitted ≡ 0) }
     requires some { 0 < parts }
     requires reported { (reported.name ≡ L.name)
         × (reported.parts ≡ L.parts)

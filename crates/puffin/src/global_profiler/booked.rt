@@ -12,7 +12,7 @@ ghost use Rattle.puffin_collector.specs.Collector.Collecting.{CountsScopes};
 ghost use Rattle.puffin.specs.Profiler.Calls.{TakesReport, RegistersScopes, HandsOutFrame, AddsFrame, AddsSink, RemovesSink};
 ghost use Rattle.puffin.specs.Profiler.{collected_of, SameSinks};
 ghost use Rattle.puffin.specs.Shares.{with_reported, CountsFrame};
-ghost use Rattle.puffin.specs.Happenings.{reported, pending_of, Stands};
+ghost use Rattle.puffin.specs.Happenings.{reported, Stands};
 ghost use Rattle.puffin.specs.Members.{Tells, TakesFrame, all_reported, all_handed};
 ghost use Rattle.puffin.specs.Leaving.{accounts_of};
 ghost use Rattle.puffin.specs.Recounted.{Recounts};
@@ -68,7 +68,7 @@ pub struct Settled {
 impl<L: Ledger + History, M: Ledger> Booked<L, M> {
     ghost use Rattle.puffin.specs.Booked.{profiler_of, collected_in, entries_of};
 
-    /// Combines a profiler to which nothing was reported with its books and a log without entries.
+    /// Combines a profiler to which no scopes were reported with its books and a log without entries.
     pub(crate) fn new(
         profiler: GlobalProfiler,
         reported: Book<L>,
@@ -77,12 +77,13 @@ impl<L: Ledger + History, M: Ledger> Booked<L, M> {
         log: Log<Event, L>,
     ) -> Booked<L, M>
         requires fresh { ((collected_of profiler).reported ≡ 0)
-            × ((collected_of profiler).emitted ≡ 0)
-            × ((collected_of profiler).streams ≡ map.empty) }
+            × ((collected_of profiler).emitted ≡ 0) }
         requires books { (reported.total ≡ 0) × (handed.total ≡ 0) }
         requires log { (log.authors ≡ parts) × (log.entries ≡ []) }
         ensures { profiler_of result ≡ profiler }
     {
+        // Does nothing; its contract tells the prover that what is pending is honest, and thus without scopes.
+        let _totals = profiler.totals();
         Booked {
             apart: [0; 16],
             profiler,
@@ -279,9 +280,8 @@ impl<L: Ledger + History, M: Ledger> Booked<L, M> {
         ensures pending { IfOk result (λ s. s.pending
             ≡ total_scopes (map.values (collected_in self.old).streams)) }
         ensures history { OnOk result (
-            Recounts (vec_len shares) (accounts_of shares.items) (entries_of self.old)) }
-        ensures left_pending { (collected_in self.old).streams
-            ≡ pending_of (events (entries_of self.old)) }
+            Recounts (vec_len shares) (accounts_of shares.items) (entries_of self.old)
+            (collected_in self.old).streams) }
         ensures err { IfErr result (λ v. (v ≡ shares) × ¬ (vec_len shares ≡ L.parts)) }
         ensures same { profiler_of self.new ≡ profiler_of self.old }
     {

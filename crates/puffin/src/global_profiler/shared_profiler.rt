@@ -3,16 +3,15 @@ ghost use Rattle.std.specs.Prelude.{◌≡◌, ◌+◌, ◌<◌, ◌≤◌, ◌^
 ghost use Rattle.std.specs.FinMap as map;
 ghost use Rattle.std.specs.List.{list_any};
 ghost use Rattle.std.specs.Arc.{arc_value};
-ghost use Rattle.history.specs.Entries.{events};
 ghost use Rattle.puffin_data.specs.Honesty.{IsHonestReport, facts_of_ref};
 ghost use Rattle.puffin_threads.specs.Thread.ThreadKey.{key_of};
 ghost use Rattle.puffin_threads.specs.Details.{details_seen, lacks_id, AllHaveIds};
-ghost use Rattle.puffin_frames.specs.Frame.Contents.{frame_details};
+ghost use Rattle.puffin_frames.specs.Frame.Contents.{Streams, frame_details};
 ghost use Rattle.puffin_frames.specs.Frame.Sums.{total_scopes};
 ghost use Rattle.puffin.specs.Profiler.{collected_of};
 ghost use Rattle.puffin.specs.Shares.{with_reported, CountsFrame, SpellsItsScopes};
 ghost use Rattle.puffin.specs.SharedCauses.{IsReportCause, IsScopesCause, IsFrameCause, IsAddingCause, IsSinkCause, IsDetailsCause};
-ghost use Rattle.puffin.specs.Happenings.{History, reported, pending_of};
+ghost use Rattle.puffin.specs.Happenings.{History, reported};
 ghost use Rattle.puffin.specs.Members.{IsNewMember, Told, TakesFrame, all_reported, all_handed};
 ghost use Rattle.puffin.specs.Leaving.{accounts_of};
 ghost use Rattle.puffin.specs.Recounted.{Recounts};
@@ -86,8 +85,7 @@ impl<L: Ledger + History, M: Ledger> SharedProfiler<L, M> {
         log: NewLog<Event>,
     ) -> std::result::Result<(SharedProfiler<L, M>, Vec<Share<L, M>>), (Error, GlobalProfiler)>
         requires fresh { ((collected_of profiler).reported ≡ 0)
-            × ((collected_of profiler).emitted ≡ 0)
-            × ((collected_of profiler).streams ≡ map.empty) }
+            × ((collected_of profiler).emitted ≡ 0) }
         requires some { 0 < n }
         requires reported { (reported.name ≡ L.name)
             × (reported.parts ≡ L.parts)
@@ -297,9 +295,9 @@ impl<L: Ledger + History, M: Ledger> SharedProfiler<L, M> {
         ensures reported { IfOk result (λ s. s.reported ≡ all_reported shares.items) }
         ensures handed { IfOk result (λ s. s.handed ≡ all_handed shares.items) }
         ensures history { IfOk result (λ s.
-            (log : History)
-            × Recounts (vec_len shares) (accounts_of shares.items) log
-            × (s.pending ≡ total_scopes (map.values (pending_of (events log))))) }
+            (log : History) × (streams : Streams)
+            × Recounts (vec_len shares) (accounts_of shares.items) log streams
+            × (s.pending ≡ total_scopes (map.values streams))) }
         ensures err { IfErr result (λ v. (v ≡ shares) × ¬ (vec_len shares ≡ L.parts)) }
     {
         self.lock(rt).settle(shares)

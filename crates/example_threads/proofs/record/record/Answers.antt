@@ -43,8 +43,8 @@ all g c =
     let three : HasDone jobs.2 d = subst (λ (job : Job). HasDone job d) c.in_ok-third.ensures c.in_ok-join-3.ensures in
     let shares : c.push-4.new.self.items ≡ a ∷ b ∷ d ∷ own ∷ [] = search rules in
     let history = c.in-Ok-settle.ensures.history in
-    let known = subst (λ (all : List Member). Recounts (vec_len c.push-4.new.self) (accounts_of all) history.0) shares history.1 in
-    all_shown (record { frames = c.in_ok-own-2.frames; settled = c.in-Ok-settle.settled }) (vec_len c.push-4.new.self) history.0 a b d own jobs.0 jobs.1 jobs.2 known history.2 one two three c.in_ok-own-2.ensures c.requires.apart
+    let known = subst (λ (all : List Member). Recounts (vec_len c.push-4.new.self) (accounts_of all) history.0 history.1) shares history.2 in
+    all_shown (record { frames = c.in_ok-own-2.frames; settled = c.in-Ok-settle.settled }) (vec_len c.push-4.new.self) history.0 history.1 a b d own jobs.0 jobs.1 jobs.2 known history.3 one two three c.in_ok-own-2.ensures c.requires.apart
 
 pub returns-clause-first : goal.returns-clause-first
 returns-clause-first g c = (all g c).0

@@ -32,4 +32,4 @@ returns-clause-taken g c =
     let is : c.in_ok-frame.field-0.frame ≡ Some f = search rules in
     let collects : Collects a (Some f) b = subst (λ o. Collects a o b) is c.in_ok-frame.ensures.collected.ok in
     let due = pending_there a.streams (events old.log.entries) old.stands in
-    (old.log.entries, frame_due f a b (events old.log.entries) collects due, told_frame _ _ (unpacked_in (arc_value f)) _ _ (search rules) (unpacked_is f a b collects ∙ due))
+    (old.log.entries, a.streams, due, frame_due f a b collects, told_frame _ _ (unpacked_in (arc_value f)) _ _ (search rules) (unpacked_is f a b collects))

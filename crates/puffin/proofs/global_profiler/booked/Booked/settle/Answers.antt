@@ -6,13 +6,10 @@ use Rattle.puffin.specs.Profiler.{collected_of}
 use Rattle.puffin.specs.Happenings.{Happening, History, Stands}
 use Rattle.puffin.specs.Members.{Member, account_of}
 use Rattle.puffin.specs.Leaving.{accounts_of, AreAuthors}
-use Rattle.puffin.proofs.Growing.{pending_there, left_stands}
+use Rattle.puffin.proofs.Growing.{left_stands}
 use Rattle.puffin.proofs.LeavingShares.{all_authors}
 use Rattle.puffin.proofs.SpelledThreads.{recounted}
 use Rattle.puffin.proofs.global_profiler.booked.Booked.settle.Goals as goal
-
-pub returns-then-len-n-clause-left_pending : goal.returns-then-len-n-clause-left_pending
-returns-then-len-n-clause-left_pending g c = pending_there _ _ c.args.self.now.stands
 
 pub invariant_of-self : goal.invariant_of-self
 invariant_of-self g c =
@@ -36,6 +33,3 @@ returns-clause-history g c =
     subst (λ (ms : List Member). AreAuthors n (accounts_of ms) old.log.entries) (sym split) (subst (λ (k : ℕ). AreAuthors k (accounts_of (c.pop.new.self.items ++ c.in-Some.last ∷ [])) old.log.entries) many e.authors) in
     recounted n (accounts_of items) old.log.entries (collected_of old.profiler).streams old.stands
     (all_authors n (accounts_of items) old.log.entries (length-map items account_of ∙ sym c.args.shares.ok.0) are (subst (λ (k : ℕ). HasAuthors k old.log.entries) many e.has))
-
-pub returns-clause-left_pending : goal.returns-clause-left_pending
-returns-clause-left_pending g c = pending_there _ _ c.args.self.now.stands

@@ -2,4 +2,4 @@ use Rattle.puffin.proofs.SettledShares.{knows_all}
 use Rattle.puffin.proofs.global_profiler.shared_profiler.SharedProfiler.settle.Goals as goal
 
 pub returns-clause-history : goal.returns-clause-history
-returns-clause-history g c = knows_all c.settle.result _ _ _ _ c.settle.ensures.history c.settle.ensures.pending c.settle.ensures.left_pending
+returns-clause-history g c = knows_all c.settle.result _ _ _ _ c.settle.ensures.history c.settle.ensures.pending
