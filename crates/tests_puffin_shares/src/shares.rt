@@ -1,10 +1,12 @@
 //! A profiler that is shared, as most tests here begin with.
 
-ghost use Rattle.std.specs.Prelude.{◌≡◌, ◌<◌};
+ghost use Rattle.std.specs.Prelude.{◌≡◌, ◌<◌, IfOk};
+ghost use Rattle.puffin_data.specs.Forest.{Forest};
+ghost use Rattle.puffin_data.specs.Honesty.{IsHonest};
 ghost use Rattle.puffin.specs.Profiler.{collected_of};
 
 use crate::equal::equal;
-use puffin::data::{Form, ScopeId};
+use puffin::data::{Form, ScopeId, StreamInfo};
 use puffin::frame_data::FrameData;
 use puffin::global_profiler::{
     Emitted, Event, GlobalProfiler, History, NewLog, Share, SharedProfiler, SharedReporter,
@@ -14,6 +16,8 @@ use std::alloc::Global;
 use std::process::Abort;
 use std::sync::ledger::{Blank, Ledger};
 use std::sync::{Arc, Wait};
+use tests_support::samples::ONE_SCOPE;
+use tests_support::streams::stream_of;
 
 /// A profiler, the share of whoever takes frames, and those of all others.
 pub(crate) type Opened<L, M> = (SharedProfiler<L, M>, Share<L, M>, Vec<Share<L, M>>);
@@ -89,4 +93,11 @@ pub(crate) fn next_frame<L: Ledger + History, M: Ledger, R: Wait + Abort>(
     let Emitted { frame, refused } = profiler.new_frame(rt, share).expect(rt, "a frame");
     equal(rt, refused, 0);
     frame.expect(rt, "a frame")
+}
+
+/// The info of one scope.
+pub(crate) fn one_scope(alloc: Global) -> puffin::Result<StreamInfo>
+    ensures { IfOk result (λ info. (f : Forest) × IsHonest info f) }
+{
+    StreamInfo::parse(alloc, stream_of(alloc, &ONE_SCOPE)?)
 }

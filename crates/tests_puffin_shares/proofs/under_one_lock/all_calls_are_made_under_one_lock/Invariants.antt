@@ -1,5 +1,5 @@
--- The two ledgers of the run and its history, told apart by the blanks and by the log.
-use Rattle.tests_history.proofs.calls.all_other_calls_are_made.Given as goal
+-- The two ledgers and the history of the run, told apart by the blanks and the log.
+use Rattle.tests_puffin_shares.proofs.under_one_lock.all_calls_are_made_under_one_lock.Given as goal
 
 abbrev pub ghosts-called-L-Ledger : goal.ghosts-called-L-Ledger
 ghosts-called-L-Ledger g a = record { name = a.reported.name; parts = a.reported.parts }

@@ -1,5 +1,5 @@
--- The two ledgers of the run and its history, told apart by the blanks and by the log.
-use Rattle.tests_history.proofs.shares.three_shares_know_the_history.Given as goal
+-- The two ledgers and the history of the run, told apart by the blanks and the log.
+use Rattle.tests_puffin_shares.proofs.settling.a_report_without_scopes_comes_before_the_shares.Given as goal
 
 abbrev pub ghosts-settled-L-Ledger : goal.ghosts-settled-L-Ledger
 ghosts-settled-L-Ledger g a = record { name = a.reported.name; parts = a.reported.parts }
