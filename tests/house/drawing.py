@@ -24,7 +24,6 @@ WORDS = {
     "puffin_collector": "pending scopes",
     "puffin_scopes": "guards, places",
     "puffin": "profiler, sinks, lock",
-    "puffin_history": "one history of threads",
     "puffin_accounts": "users' proofs",
     "puffin_session": "commands, replies",
     "puffin_report": "counts, reports",
