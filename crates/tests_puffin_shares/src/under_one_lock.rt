@@ -5,7 +5,7 @@ ghost use Rattle.std.specs.Prelude.{◌≡◌};
 use crate::equal::equal;
 use crate::shares::{one_scope, opened};
 use puffin::global_profiler::{
-    Booked, Event, GlobalProfiler, History, NewLog, Settled, Share, Sink,
+    Booked, Emitted, Event, GlobalProfiler, History, NewLog, Settled, Share, Sink,
 };
 use puffin::profile_view::FrameView;
 use puffin::scope_details::{ScopeDetails, ScopeIds};
@@ -54,18 +54,11 @@ fn are_taken<L: Ledger + History, M: Ledger, R: Wait + Abort>(
     share: &mut Share<L, M>,
 ) {
     booked.emit_scope_snapshot();
-    let emitted = booked.new_frame(rt, share).expect(rt, "no fault");
-    equal(rt, emitted.refused, 0);
-    let frame = emitted.frame.expect(rt, "a frame");
+    let Emitted { frame, refused } = booked.new_frame(rt, share).expect(rt, "no fault");
+    equal(rt, refused, 0);
+    let frame = frame.expect(rt, "a frame");
     equal(rt, (frame.meta().num_scopes, frame.full_delta), (2, true));
     assert!(rt; lists(&frame, &[(1, "u"), (2, "v"), (1, "u")]));
-    assert!(rt;
-        booked
-            .new_frame(rt, share)
-            .expect(rt, "no fault")
-            .frame
-            .is_none()
-    );
 }
 
 /// A view is a sink while a frame is added.
