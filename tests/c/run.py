@@ -9,21 +9,17 @@ what CC names. What else isn't there (a C++ compiler, cargo, valgrind, the threa
 named, and so are puffin-tool and puffin-look. The last line is 'N passed, M failed'.
 """
 
-import os
+import concurrent.futures
 import pathlib
 import re
 import shutil
-import subprocess
 import sys
 import tempfile
 
 from .. import common
+from . import installing
+from .programs import BINDINGS, C_COMPILER, HEADER, HERE, STRICT, Programs, is_there, run
 
-HERE = pathlib.Path(__file__).resolve().parent
-HEADER = common.ROOT / "crates" / "puffin_c"
-BINDINGS = common.ROOT / "bindings"
-C_COMPILER = os.environ.get("CC", "cc")
-STRICT = ["-Wall", "-Wextra", "-Werror", "-I", HEADER]
 WRAPPED = ["-Wl,--wrap=malloc", "-Wl,--wrap=realloc"]
 # frames of the long session
 FRAMES = 100_000
@@ -58,45 +54,14 @@ def viewed():
     return "".join(f"{line}\n" for line in lines).encode()
 
 
-def run(*words, cwd=None, **variables):
-    words = [str(word) for word in words]
-    variables = {name: str(value) for name, value in variables.items()}
-    return subprocess.run(words, capture_output=True, timeout=300, cwd=cwd, env={**os.environ, **variables})
-
-
-def is_there(program):
-    """Whether a program is installed; says so if it isn't."""
-    if not shutil.which(program):
-        print(f"left out: {program}")
-    return bool(shutil.which(program))
-
-
 def numbers(said):
     """The numbers in the last line that calls.c prints, `allocations N refused M`, or zeros if there is no such line."""
     found = re.search(rb"^allocations (\d+) refused (\d+)\n\Z", said, re.M)
     return (int(found[1]), int(found[2])) if found else (0, 0)
 
 
-class Programs:
-    """The programs over the C interface, built and run in a folder."""
-
-    def __init__(self, place, library, kit, tool, look):
-        self.count = common.Count()
-        self.place = place
-        self.library = library
-        self.kit = kit
-        self.tool = tool
-        self.look = look
-
-    def check(self, what, is_fine, told=b""):
-        if not self.count.add(is_fine):
-            print(f"failed: {what}\n{told.decode()}")
-        return is_fine
-
-    def built(self, what, *words):
-        """Whether these words build a program."""
-        got = run(*words)
-        return self.check(f"{what} is built", got.returncode == 0, got.stderr)
+class Calls(Programs):
+    """The programs over the calls of puffin.h."""
 
     def check_report(self, what, thread, is_told):
         """What the program TOOL prints of the file that was written."""
@@ -245,41 +210,6 @@ class Programs:
             got = run("valgrind", "--error-exitcode=9", "--leak-check=full", "-q", program, 200, self.place)
             self.check("long.c by valgrind", got.returncode == 0, got.stderr)
 
-    def installed(self):
-        """What bindings/c/install.py installs, used by pkg-config and by CMake."""
-        prefix = self.place / "prefix"
-        got = run(sys.executable, BINDINGS / "c" / "install.py", prefix, self.library, self.kit)
-        if not self.check("the library is installed", got.returncode == 0, got.stderr):
-            return
-        if is_there("pkg-config"):
-            where = {"PKG_CONFIG_PATH": prefix / "lib" / "pkgconfig"}
-            flags = run("pkg-config", "--cflags", "--libs", "--static", "puffin", **where).stdout.decode().split()
-            words = [C_COMPILER, "-std=gnu11", HERE / "first.c", *flags, "-o", self.place / "by_pkg_config"]
-            if self.built("first.c by pkg-config", *words):
-                got = run(self.place / "by_pkg_config", self.place / "file", LD_LIBRARY_PATH=prefix / "lib")
-                self.check("first.c by pkg-config", got.returncode == 0, got.stderr)
-        if is_there("cmake"):
-            self.by_cmake(prefix)
-        shared = prefix / "lib" / "libpuffin.so"
-        if shared.is_file() and is_there("nm"):
-            names = {line.split()[-1] for line in run("nm", "-D", "--defined-only", shared).stdout.splitlines()}
-            hidden = [name for name in names if not name.startswith(b"puffin_")]
-            self.check("libpuffin.so shows only puffin_*", names and not hidden, b" ".join(hidden))
-
-    def by_cmake(self, prefix):
-        source = self.place / "cmake"
-        source.mkdir()
-        (source / "CMakeLists.txt").write_text(
-            "cmake_minimum_required(VERSION 3.10)\nproject(first C)\nfind_package(puffin 0.20 REQUIRED)\n"
-            f"add_executable(first {HERE / 'first.c'})\ntarget_link_libraries(first puffin::puffin)\n"
-        )
-        made = run("cmake", "-S", source, "-B", source / "build", f"-DCMAKE_PREFIX_PATH={prefix}")
-        if self.check("cmake finds puffin", made.returncode == 0, made.stderr):
-            made = run("cmake", "--build", source / "build")
-            if self.check("first.c is built by cmake", made.returncode == 0, made.stdout):
-                got = run(source / "build" / "first", self.place / "file")
-                self.check("first.c by cmake", got.returncode == 0, got.stderr)
-
     def bindings(self):
         """The Rust crate: its tests, and its examples, which profile themselves."""
         if not is_there("cargo"):
@@ -297,37 +227,55 @@ class Programs:
         self.check("rounds.rs", got.returncode == 0 and got.stdout == wanted, got.stdout + got.stderr)
 
 
+def calls_of(programs):
+    programs.headers()
+    programs.calls()
+    programs.viewer()
+    programs.clock()
+    programs.cost()
+    programs.first()
+    programs.sizes(C_COMPILER, [])
+    programs.sizes("c++", ["-x", "c++"])
+    programs.scopes()
+
+
+def second_calls_of(programs):
+    """What the archive of the second compiler is tried with."""
+    programs.calls()
+    programs.viewer()
+    programs.first()
+    programs.sizes(C_COMPILER, [])
+    programs.long()
+
+
+# what runs beside each other, each in a folder of its own
+LANES = (calls_of, Calls.long, Calls.bindings, installing.check)
+
+
 def main():
     library, kit, *rest = (pathlib.Path(word).resolve() for word in sys.argv[1:6])
     tool, look, second = (*rest, None, None, None)[:3]
-    with tempfile.TemporaryDirectory() as folder:
-        programs = Programs(pathlib.Path(folder), library, kit, tool, look)
-        if not shutil.which(C_COMPILER) or not all(it.is_file() for it in (tool, look) if it):
-            programs.check("this needs a C compiler (cc, or what CC names), and each program that is named", False)
-            return programs.count.end()
-        for name, it in (("puffin-tool", tool), ("puffin-look", look)):
-            if not it:
-                print(f"left out: {name}")
-        programs.headers()
-        programs.calls()
-        programs.viewer()
-        programs.clock()
-        programs.cost()
-        programs.first()
-        programs.sizes(C_COMPILER, [])
-        programs.sizes("c++", ["-x", "c++"])
-        programs.scopes()
-        programs.long()
-        programs.installed()
-        programs.bindings()
-        if second:
-            programs.library = second
-            programs.calls()
-            programs.viewer()
-            programs.first()
-            programs.sizes(C_COMPILER, [])
-            programs.long()
-    return programs.count.end()
+    count = common.Count()
+    if not shutil.which(C_COMPILER) or not all(it.is_file() for it in (tool, look) if it):
+        print("failed: this needs a C compiler (cc, or what CC names), and each program that is named")
+        count.add(False)
+        return count.end()
+    for name, it in (("puffin-tool", tool), ("puffin-look", look)):
+        if not it:
+            print(f"left out: {name}")
+    lanes = [(lane, library) for lane in LANES] + [(second_calls_of, second)] * bool(second)
+    with tempfile.TemporaryDirectory() as folder, concurrent.futures.ThreadPoolExecutor(len(lanes)) as threads:
+        all_programs = []
+        for number, (lane, archive) in enumerate(lanes):
+            place = pathlib.Path(folder, str(number))
+            place.mkdir()
+            all_programs.append(Calls(place, archive, kit, tool, look))
+        for done in [threads.submit(lane, programs) for (lane, _), programs in zip(lanes, all_programs)]:
+            done.result()
+    for programs in all_programs:
+        count.passed += programs.count.passed
+        count.failed += programs.count.failed
+    return count.end()
 
 
 if __name__ == "__main__":
