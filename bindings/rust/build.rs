@@ -5,15 +5,15 @@ use std::{env, path::PathBuf, process};
 
 fn link(variable: &str) {
     println!("cargo:rerun-if-env-changed={variable}");
-    let Some(path) = env::var_os(variable).map(PathBuf::from) else {
+    let path = env::var_os(variable).map(PathBuf::from).unwrap_or_else(|| {
         eprintln!("set {variable} to the path of a library, as docs/C.md says");
         process::exit(1);
-    };
-    let stem = path.file_stem().and_then(|name| name.to_str()).and_then(|name| name.strip_prefix("lib"));
-    let (Some(name), Some(folder)) = (stem, path.parent()) else {
+    });
+    let name = path.file_stem().and_then(|name| name.to_str()).and_then(|name| name.strip_prefix("lib"));
+    let (name, folder) = name.zip(path.parent()).unwrap_or_else(|| {
         eprintln!("{variable}: {} isn't a library like libNAME.a", path.display());
         process::exit(1);
-    };
+    });
     println!("cargo:rerun-if-changed={}", path.display());
     println!("cargo:rustc-link-search=native={}", folder.display());
     println!("cargo:rustc-link-lib=static={name}");

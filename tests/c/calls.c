@@ -75,9 +75,9 @@ static void *record(void *given) {
     const uint8_t *name = (const uint8_t *)work->name;
     pthread_mutex_lock(&lock);
     CALL(puffin_thread_open(&thread, &ids, name, strlen(work->name), work->long_texts));
+    CALL(puffin_register_function(&profiler, TEXT("record"), TEXT("calls.c"), 50, &whole));
+    CALL(puffin_register_scope(&profiler, TEXT("part"), TEXT("record"), TEXT("calls.c"), 60, &part));
     pthread_mutex_unlock(&lock);
-    CALL(puffin_register_function(&thread, TEXT("record"), TEXT("calls.c"), 50, &whole));
-    CALL(puffin_register_scope(&thread, TEXT("part"), TEXT("record"), TEXT("calls.c"), 60, &part));
     int64_t now = work->start;
     for (int round = 0; round < 2; round++) {
         CALL(puffin_begin(&thread, now, whole, NULL, 0, &outer));
@@ -114,13 +114,17 @@ static void refusals(void) {
     is("close", puffin_thread_close(&none), PUFFIN_NOT_OPEN);
     is("close", puffin_profiler_close(&nothing), PUFFIN_NOT_OPEN);
     is("begin", puffin_begin(&none, 0, 0, TEXT("\xff"), &number), PUFFIN_NOT_OPEN);
+    is("what no beginning gives", number, PUFFIN_NO_SCOPE);
+    number = 7;
     is("end", puffin_end(&none, 0, 0), PUFFIN_NOT_OPEN);
     is("end", puffin_end(&none, 0, 1), PUFFIN_NOT_OPEN);
     is("discard", puffin_thread_discard(&none, &number), PUFFIN_NOT_OPEN);
     is("switch", puffin_set_scopes_on(&none, true), PUFFIN_NOT_OPEN);
     is("what is closed is off", puffin_scopes_on(&none), false);
-    is("register", puffin_register_function(&none, TEXT("\xff"), TEXT(""), 0, &id), PUFFIN_NOT_OPEN);
-    is("register", puffin_register_scope(&none, TEXT("\xff"), TEXT(""), TEXT(""), 0, &id), PUFFIN_NOT_OPEN);
+    is("register", puffin_register_function(&nothing, TEXT("\xff"), TEXT(""), 0, &id), PUFFIN_NOT_OPEN);
+    is("register", puffin_register_scope(&nothing, TEXT("\xff"), TEXT(""), TEXT(""), 0, &id), PUFFIN_NOT_OPEN);
+    is("limit", puffin_set_max_bytes(&none, 0), PUFFIN_NOT_OPEN);
+    is("limit", puffin_set_max_pending(&nothing, 0), PUFFIN_NOT_OPEN);
     is("report", puffin_report(&none, &profiler), PUFFIN_NOT_OPEN);
     is("new frame", puffin_new_frame(&nothing, &frame), PUFFIN_NOT_OPEN);
     is("snapshot", puffin_snapshot(&nothing), PUFFIN_NOT_OPEN);
@@ -137,22 +141,24 @@ static void refusals(void) {
     is("open again", puffin_profiler_open(&profiler, &ids), PUFFIN_IS_OPEN);
     is("no id", puffin_begin(&thread, 0, 0, TEXT(""), &number), PUFFIN_NO_ID);
     is("no text", puffin_begin(&thread, 0, 1, TEXT("\xff"), &number), PUFFIN_NOT_TEXT);
-    REFUSED("no text", puffin_register_function(&thread, TEXT("f"), TEXT("\xff"), 0, &id), PUFFIN_NOT_TEXT);
-    REFUSED("no text", puffin_register_scope(&thread, TEXT("s"), TEXT("\xff"), TEXT(""), 0, &id), PUFFIN_NOT_TEXT);
+    number = 7;
+    REFUSED("no text", puffin_register_function(&profiler, TEXT("f"), TEXT("\xff"), 0, &id), PUFFIN_NOT_TEXT);
+    REFUSED("no text", puffin_register_scope(&profiler, TEXT("s"), TEXT("\xff"), TEXT(""), 0, &id), PUFFIN_NOT_TEXT);
     is("end of nothing", puffin_end(&thread, 0, 1), PUFFIN_MISMATCHED_END);
     is("end of no scope", puffin_end(&thread, 0, PUFFIN_NO_SCOPE), PUFFIN_OK);
     CALL(puffin_thread_close(&thread));
     is("what a refusal leaves", number + id + out[0] + frame.index, 28);
 }
 
-/* A report that is refused again and again is given up: its scope is gone, and the name of its function stays. */
+/* The bytes of one scope: id 1, from 5 to 9, without a text. */
+static const uint8_t one_scope[31] = {'(', 1, 0, 0, 0, 5, 0, 0, 0, 0, 0, 0, 0, 0, 0, 0, 0, 0, 0, 0, 0, 0, ')', 9};
+
+/* A report that is refused again and again is given up. */
 static void discarding(void) {
     PuffinThread thread = {0};
     uint64_t scope = 0, scopes = 7;
-    uint32_t id = 0;
     CALL(puffin_thread_open(&thread, &ids, TEXT("main"), true));
-    CALL(puffin_register_function(&thread, TEXT("kept name"), TEXT("calls.c"), 7, &id));
-    CALL(puffin_begin(&thread, 1000, id, TEXT("given up"), &scope));
+    CALL(puffin_begin(&thread, 1000, 1, TEXT("given up"), &scope));
     is("discard", puffin_thread_discard(&thread, &scopes), PUFFIN_SCOPES_OPEN);
     is("what a refusal leaves", scopes, 7);
     is("end", puffin_end(&thread, 1001, scope), PUFFIN_OK);
@@ -167,17 +173,98 @@ static void discarding(void) {
     CALL(puffin_thread_close(&thread));
 }
 
-/* Two threads that were opened with the same ids draw different ones. */
+/* Two profilers that were opened with the same ids draw different ones. */
 static void sharing(void) {
-    PuffinThread one = {0}, other = {0};
+    PuffinProfiler other = {0};
     uint32_t first = 0, second = 0;
-    CALL(puffin_thread_open(&one, &ids, TEXT("one"), false));
-    CALL(puffin_thread_open(&other, &ids, TEXT("other"), false));
-    CALL(puffin_register_function(&one, TEXT("one"), TEXT("calls.c"), 1, &first));
+    CALL(puffin_profiler_open(&other, &ids));
+    CALL(puffin_register_function(&profiler, TEXT("one"), TEXT("calls.c"), 1, &first));
     CALL(puffin_register_function(&other, TEXT("other"), TEXT("calls.c"), 2, &second));
-    is("the threads' ids differ", first != second, true);
-    CALL(puffin_thread_close(&one));
-    CALL(puffin_thread_close(&other));
+    is("the ids differ", first != second && first != 0 && second != 0, true);
+    CALL(puffin_profiler_close(&other));
+}
+
+/* Whether these bytes have this text. */
+static bool has(const uint8_t *bytes, uint64_t size, const char *text) {
+    for (uint64_t at = 0; at + strlen(text) <= size; at++) {
+        if (memcmp(bytes + at, text, strlen(text)) == 0) {
+            return true;
+        }
+    }
+    return false;
+}
+
+/* Whether the view's file has this text. */
+static bool has_text(PuffinProfiler *of, const char *text) {
+    static uint8_t bytes[4096];
+    uint64_t size = 0, got = 0;
+    CALL(puffin_file_begin(of, &size));
+    CALL(puffin_file_next(of, bytes, sizeof bytes, &got));
+    return has(bytes, got, text);
+}
+
+static void record_one(PuffinThread *thread, PuffinProfiler *to, uint32_t id, PuffinFrame *frame) {
+    uint64_t scope = 0;
+    CALL(puffin_begin_str(thread, 10, id, NULL, &scope));
+    is("end", puffin_end(thread, 20, scope), PUFFIN_OK);
+    CALL(puffin_report(thread, to));
+    CALL(puffin_new_frame(to, frame));
+}
+
+/* The next frame lists what was registered, whichever thread uses it, and whether any does. */
+static void naming(void) {
+    PuffinThread main_thread = {0}, worker = {0};
+    PuffinProfiler own = {0};
+    PuffinFrame frame = {0};
+    uint64_t outer = 0;
+    uint32_t id = 0, part = 0, unused = 0;
+    CALL(puffin_profiler_open(&own, &ids));
+    CALL(puffin_thread_open_str(&main_thread, &ids, "main", false));
+    CALL(puffin_thread_open_str(&worker, &ids, "worker", false));
+    CALL(puffin_register_function_str(&own, "first name", "calls.c", 7, &id));
+    CALL(puffin_register_scope(&own, (const uint8_t *)"a\0z", 3, TEXT("first name"), NULL, 0, 8, &unused));
+    CALL(puffin_thread_close(&main_thread));
+    record_one(&worker, &own, id, &frame);
+    is("scopes", frame.scopes, 1);
+    is("a name that was registered before", has_text(&own, "first name"), true);
+    is("a name that no scope has", has_text(&own, "a"), true);
+    /* while a scope is open on another thread */
+    CALL(puffin_thread_open_str(&main_thread, &ids, "main", false));
+    CALL(puffin_begin(&main_thread, 5, id, NULL, 0, &outer));
+    CALL(puffin_register_scope_str(&own, "later name", "first name", NULL, 9, &part));
+    record_one(&worker, &own, part, &frame);
+    is("a name that was registered later", has_text(&own, "later name"), true);
+    CALL(puffin_thread_close(&main_thread));
+    CALL(puffin_thread_close(&worker));
+    CALL(puffin_profiler_close(&own));
+}
+
+/* What is over a limit is refused for memory, and nothing else. */
+static void limits(void) {
+    PuffinThread thread = {0};
+    PuffinProfiler own = {0};
+    PuffinFrame frame = {0};
+    uint64_t scope = 7, scopes = 0;
+    CALL(puffin_profiler_open(&own, &ids));
+    CALL(puffin_thread_open_str(&thread, &ids, "limited", false));
+    is("limit", puffin_set_max_bytes(&thread, 100), PUFFIN_OK);
+    is("a scope over the limit", puffin_begin(&thread, 1, 1, NULL, 0, &scope), PUFFIN_MEMORY);
+    is("what it gives", scope, PUFFIN_NO_SCOPE);
+    is("its end", puffin_end(&thread, 2, scope), PUFFIN_OK);
+    is("limit", puffin_set_max_bytes(&thread, 1000), PUFFIN_OK);
+    is("limit", puffin_set_max_pending(&own, 30), PUFFIN_OK);
+    CALL(puffin_begin(&thread, 3, 1, NULL, 0, &scope));
+    is("end", puffin_end(&thread, 4, scope), PUFFIN_OK);
+    is("a report over the limit", puffin_report(&thread, &own), PUFFIN_MEMORY);
+    is("scopes over the limit", puffin_user_scopes_str(&own, true, 5, "gpu", one_scope, 31, false), PUFFIN_MEMORY);
+    is("limit", puffin_set_max_pending(&own, 31), PUFFIN_OK);
+    CALL(puffin_report(&thread, &own));
+    CALL(puffin_new_frame(&own, &frame));
+    is("scopes", frame.scopes, 1);
+    is("waiting scopes", puffin_thread_discard(&thread, &scopes), PUFFIN_OK);
+    is("scopes", scopes, 0);
+    CALL(puffin_thread_close(&thread));
+    CALL(puffin_profiler_close(&own));
 }
 
 /* Scopes that are off begin nothing, and what is open is ended. */
@@ -205,9 +292,6 @@ static void switching(void) {
     is("what is closed is off", puffin_scopes_on(&thread), false);
 }
 
-/* The bytes of one scope: id 1, from 5 to 9, without a text. */
-static const uint8_t one_scope[31] = {'(', 1, 0, 0, 0, 5, 0, 0, 0, 0, 0, 0, 0, 0, 0, 0, 0, 0, 0, 0, 0, 0, ')', 9};
-
 static void counting(void) {
     PuffinCount count = {0};
     CALL(puffin_count(NULL, 0, false, &count));
@@ -219,7 +303,6 @@ static void counting(void) {
     is("depth", count.depth, 1);
     is("start", (uint64_t)count.start_ns, 5);
     is("stop", (uint64_t)count.stop_ns, 9);
-    is("tries", count.tries, 1);
     is("cut bytes", puffin_count(one_scope, 30, false, &count), PUFFIN_PREMATURE_END);
     is("what a refusal leaves", count.scopes, 1);
 }
@@ -613,7 +696,7 @@ static void reading(const char *path) {
     CALL(puffin_report_file(file, size, true, 1000, TEXT("main"), out, sizeof out, &lines));
     fwrite(out, 1, lines, stdout);
     CALL(puffin_report_file(file, size, true, 5, TEXT("gpu"), out, sizeof out, &lines));
-    is("a report of the program's own scopes", lines > 9 && memcmp(out + 9, TEXT("record pieces 1 total 4 ")) == 0, true);
+    is("a report of the program's own scopes", has(out, lines, " pieces 1 total 4 "), true);
     uint8_t few[3] = {0};
     CALL(puffin_report_file(file, size, true, 1000, TEXT("main"), few, 2, &lines));
     is("a report's beginning", few[0] == 'f' && few[1] == 'r' && few[2] == 0, true);
@@ -646,6 +729,8 @@ int main(int argc, char **argv) {
     }
     discarding();
     sharing();
+    naming();
+    limits();
     user_scopes();
     CALL(puffin_snapshot(&profiler));
     CALL(puffin_new_frame(&profiler, &frame));

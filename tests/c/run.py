@@ -17,7 +17,7 @@ import sys
 import tempfile
 
 from .. import common
-from . import installing
+from . import headers, installing
 from .programs import BINDINGS, C_COMPILER, HEADER, HERE, STRICT, Programs, is_there, run
 
 WRAPPED = ["-Wl,--wrap=malloc", "-Wl,--wrap=realloc"]
@@ -27,7 +27,9 @@ FRAMES = 100_000
 READINGS = 20_000
 # the most instructions that the beginning and the end of a scope may take, with the loop that makes the calls and a report every
 # 128 scopes, but without those of the C library
-INSTRUCTIONS = {"on": 188, "text": 216, "off": 10}
+INSTRUCTIONS = {"on": 188, "text": 216, "off": 10, "zone": 225, "zone-off": 10}
+# the damaged files of that of calls.c: each cut of two frames, each byte changed in eight ways, and one more
+DAMAGED = b"files 11144\n"
 # the words of puffin-look
 LOOKED = ("threads", "frames", "frame", "trace", "folded")
 CALLS_REPORT = (
@@ -113,13 +115,25 @@ class Calls(Programs):
         """The threads, frames and scopes of the file that calls.c wrote."""
         words = ["-std=c11", *STRICT, HERE / "viewer.c", self.library, self.kit]
         program = self.place / "viewer"
-        if not self.built("viewer.c", C_COMPILER, *words, "-o", program):
-            return
-        got = run(program, self.place / "file")
-        self.check("viewer.c", got.returncode == 0 and got.stdout == viewed(), got.stderr + got.stdout)
-        if is_there("valgrind"):
-            got = run("valgrind", "--error-exitcode=9", "--leak-check=full", "-q", program, self.place / "file")
-            self.check("viewer.c by valgrind", got.returncode == 0, got.stderr)
+        if self.built("viewer.c", C_COMPILER, *words, "-o", program):
+            self.ran("viewer.c", program, self.place / "file", printed=viewed())
+            self.ran_by_valgrind("viewer.c", program, self.place / "file")
+
+    def damaged(self):
+        """The listings over damaged files of the file that calls.c wrote, where the address sanitizer is there also watched by it."""
+        words = ["-std=gnu11", *STRICT, "-O1", HERE / "damaged.c", self.library, self.kit]
+        for name, more in (("damaged.c", []), ("damaged.c with the address sanitizer", ["-fsanitize=address,undefined", "-g"])):
+            program = self.place / "damaged"
+            if more and run(C_COMPILER, *more, *words, "-o", program).returncode:
+                print("left out: the address sanitizer")
+            elif self.built(name, C_COMPILER, *more, *words, "-o", program):
+                self.ran(name, program, self.place / "file", printed=DAMAGED)
+
+    def totals(self):
+        """A thread's merged scopes."""
+        words = ["-std=c99", *STRICT, HERE / "totals.c", self.library, self.kit]
+        if self.built("totals.c", C_COMPILER, *words, "-o", self.place / "totals"):
+            self.ran("totals.c", self.place / "totals", printed=2 * b"1 90 ns per frame\n  1 20 ns per frame\n")
 
     def clock(self):
         """Two threads read the clock of puffin.h in turn."""
@@ -129,23 +143,25 @@ class Calls(Programs):
             self.check("clock.c", got.returncode == 0 and got.stdout == b"readings %d\n" % (2 * READINGS), got.stderr)
 
     def cost(self):
-        """The instructions of scopes that are on, without and with a text, and of scopes that are off."""
-        words = ["-std=c11", *STRICT, "-O2", HERE / "cost.c", self.library, self.kit]
-        if not self.built("cost.c", C_COMPILER, *words, "-o", self.place / "cost") or not is_there("valgrind"):
+        """The instructions of scopes that are on, without and with a text, of scopes that are off, and of zones."""
+        program = self.place / "cost"
+        words = ["-std=gnu11", *STRICT, "-O2", HERE / "cost.c", self.library, self.kit]
+        if not self.built("cost.c", C_COMPILER, *words, "-o", program) or not is_there("valgrind"):
             return
         for kind, most in INSTRUCTIONS.items():
-            few, many = (self.instructions(kind, number) for number in (1280, 12800))
-            each = (many - few) / (12800 - 1280)
-            print(f"instructions of a scope, {kind}: {each:.1f}")
-            self.check(f"a scope, {kind}, takes at most {most} instructions", 0 < each < most + 0.5, str(each).encode())
+            reported = "off" not in kind
+            few, many = (self.instructions(program, [kind, it], b"%d\n" % (it * reported)) for it in (1280, 12800))
+            self.is_cheap(kind, (many - few) / (12800 - 1280), most)
 
-    def instructions(self, kind, number):
-        """How many instructions of its own cost.c takes for so many scopes."""
+    def is_cheap(self, kind, each, most):
+        print(f"instructions of a scope, {kind}: {each:.1f}")
+        self.check(f"a scope, {kind}, takes at most {most} instructions", 0 < each < most + 0.5, str(each).encode())
+
+    def instructions(self, program, words, printed):
+        """How many instructions of its own a program takes."""
         counted = self.place / "callgrind"
-        program = self.place / "cost"
-        got = run("valgrind", "--tool=callgrind", f"--callgrind-out-file={counted}", program, kind, number)
-        reported = 0 if kind == "off" else number
-        self.check(f"cost.c {kind} {number}", got.returncode == 0 and got.stdout == b"%d\n" % reported, got.stderr)
+        words = ["--tool=callgrind", f"--callgrind-out-file={counted}", program, *words]
+        self.ran(f"{program.name} by callgrind", "valgrind", *words, printed=printed)
         lines = run("callgrind_annotate", "--threshold=100", counted).stdout.decode().splitlines()
         own = [line.split()[0] for line in lines if line.endswith(f"[{program}]")]
         return sum(int(number.replace(",", "")) for number in own)
@@ -171,22 +187,11 @@ class Calls(Programs):
             got = run(self.place / "sizes")
             self.check(f"sizes.c by {compiler}", got.returncode == 0, got.stdout)
 
-    def headers(self):
-        """The headers by themselves, as the strictest programs compile them."""
-        strict = ["-Wall", "-Wextra", "-Werror", "-pedantic", "-I", HEADER, "-fsyntax-only"]
-        source = self.place / "header"
-        source.write_text('#include "puffin.h"\n')
-        self.built("puffin.h as C99", C_COMPILER, "-std=c99", *strict, "-x", "c", source)
-        if is_there("c++"):
-            self.built("puffin.h as C++17", "c++", "-std=c++17", *strict, "-x", "c++", source)
-            source.write_text('#include "puffin.hpp"\n')
-            self.built("puffin.hpp", "c++", "-std=c++17", "-fno-exceptions", *strict, "-x", "c++", source)
-
     def scopes(self):
         """The program over puffin.hpp, on two threads; also where the sanitizer watches them."""
         if not is_there("c++"):
             return
-        words = ["-std=c++17", *STRICT, "-pedantic", HERE / "scopes.cc", self.library, self.kit, "-lpthread"]
+        words = ["-std=c++11", *STRICT, "-pedantic", HERE / "scopes.cc", self.library, self.kit, "-lpthread"]
         for name, more in (("scopes.cc", []), ("scopes.cc with the thread sanitizer", ["-fsanitize=thread", "-g"])):
             program = self.place / "scopes"
             if more and run("c++", *more, *words, "-o", program).returncode:
@@ -205,7 +210,7 @@ class Calls(Programs):
         self.check("long.c", got.returncode == 0 and got.stdout == b"frames %d\n" % FRAMES, got.stderr)
         got = run(program, 3, self.place)
         self.check("long.c of three frames", got.returncode == 0 and got.stdout == b"frames 3\n", got.stderr)
-        self.looked("long", self.place / "part0.puffin", 1)
+        self.looked("long", self.place / "long.puffin", 1)
         if is_there("valgrind"):
             got = run("valgrind", "--error-exitcode=9", "--leak-check=full", "-q", program, 200, self.place)
             self.check("long.c by valgrind", got.returncode == 0, got.stderr)
@@ -216,21 +221,24 @@ class Calls(Programs):
             return
         crate = {"cwd": BINDINGS / "rust", "CARGO_TARGET_DIR": self.place / "target"}
         crate |= {"PUFFIN_LIBRARY": self.library, "PUFFIN_KIT_LIBRARY": self.kit}
-        got = run("cargo", "test", "--offline", "--quiet", **crate)
-        self.check("the tests of bindings/rust", got.returncode == 0, got.stdout + got.stderr)
-        got = run("cargo", "run", "--offline", "--quiet", "--example", "turns", self.place / "file", **crate)
-        self.check("turns.rs", got.returncode == 0, got.stderr)
+        self.ran("the tests of bindings/rust", "cargo", "test", "--offline", "--quiet", **crate)
+        example = ["cargo", "run", "--offline", "--quiet", "--example"]
+        self.ran("turns.rs", *example, "turns", self.place / "file", **crate)
         is_told = lambda told: told.startswith(b"frames 3\n")
         self.check_report("puffin-tool reads the file of turns.rs", "1000:main-loop", is_told)
-        got = run("cargo", "run", "--offline", "--quiet", "--example", "rounds", self.place / "file", **crate)
         wanted = b"frame 0 scopes 18\nframe 1 scopes 18\nframe 2 scopes 18\nrefused 0\n"
-        self.check("rounds.rs", got.returncode == 0 and got.stdout == wanted, got.stdout + got.stderr)
-
+        self.ran("rounds.rs", *example, "rounds", self.place / "file", printed=wanted, **crate)
+        self.ran("off.rs", "cargo", "build", "--offline", "--quiet", "--release", "--example", "off", **crate)
+        off = self.place / "target" / "release" / "examples" / "off"
+        if off.is_file() and is_there("valgrind"):
+            few, many = (self.instructions(off, [turns], b"turns %d\n" % turns) for turns in (1000, 11000))
+            self.is_cheap("off, by Rust", (many - few) / 10000, INSTRUCTIONS["off"])
 
 def calls_of(programs):
-    programs.headers()
     programs.calls()
     programs.viewer()
+    programs.damaged()
+    programs.totals()
     programs.clock()
     programs.cost()
     programs.first()
@@ -249,7 +257,7 @@ def second_calls_of(programs):
 
 
 # what runs beside each other, each in a folder of its own
-LANES = (calls_of, Calls.long, Calls.bindings, installing.check)
+LANES = (calls_of, Calls.long, Calls.bindings, installing.check, headers.without_warnings, headers.check)
 
 
 def main():

@@ -4,7 +4,7 @@ use puffin_c::{profile_function, profile_scope};
 
 fn step(number: u32) {
     profile_function!();
-    std::hint::black_box(number);
+    assert!(number < 4);
 }
 
 fn round() {

@@ -1,0 +1,99 @@
+"""What the headers have inline: zones, the file writer and texts, without a warning in each standard, and watched by sanitizers."""
+
+from .programs import C_COMPILER, HEADER, HERE, STRICT, is_there, run
+
+WARNINGS = ["-Wall", "-Wextra", "-Wpedantic", "-Wconversion", "-Wshadow", "-Werror", "-I", HEADER]
+C_STANDARDS = ("c99", "gnu99", "c11", "c17", "gnu17", "c2x")
+CXX_STANDARDS = ("c++11", "c++14", "c++17", "gnu++17", "c++20", "c++2b")
+WRAPPED = "-Wl,--wrap=write,--wrap=rename,--wrap=close,--wrap=fsync"
+SANITIZERS = {"the address sanitizer": "address,undefined", "the thread sanitizer": "thread"}
+
+
+def without_warnings(programs):
+    """The headers as the strictest programs compile them."""
+    for compiler in filter(is_there, {C_COMPILER, "gcc", "clang"}):
+        for standard in C_STANDARDS:
+            # the names of POSIX, which puffin_writer.h and puffin_zones.h need
+            posix = [] if standard.startswith("gnu") else ["-D_POSIX_C_SOURCE=200809L"]
+            for off in ([], ["-DPUFFIN_OFF"]):
+                words = [compiler, f"-std={standard}", *posix, *off, *WARNINGS, "-O2", "-c", "-o", "/dev/null"]
+                programs.built(f"game.c as {standard} by {compiler}", *words, HERE / "game.c")
+            bare = programs.place / "bare.c"
+            bare.write_text('#include "puffin.h"\nint main(void) { return (int)puffin_interface() - PUFFIN_INTERFACE; }\n')
+            programs.built(f"puffin.h as {standard}", compiler, f"-std={standard}", *WARNINGS, "-c", "-o", "/dev/null", bare)
+    for compiler in filter(is_there, ("g++", "clang++")):
+        for standard in CXX_STANDARDS:
+            words = [compiler, f"-std={standard}", *WARNINGS, "-Wold-style-cast", "-O2", "-c", "-o", "/dev/null"]
+            for off in ([], ["-DPUFFIN_OFF"]):
+                programs.built(f"game.cc as {standard} by {compiler}", *words, *off, HERE / "game.cc")
+            programs.built(f"puffin.hpp as {standard}", *words, "-fno-exceptions", "-x", "c++", HEADER / "puffin.hpp")
+    ignored = programs.place / "ignored.c"
+    ignored.write_text('#include "puffin.h"\nint main(void) { PuffinIds ids = {0}; puffin_ids_open(&ids); return 0; }\n')
+    got = run(C_COMPILER, *STRICT, "-c", "-o", "/dev/null", ignored)
+    programs.check("a result that has to be looked at", got.returncode != 0 and b"unused-result" in got.stderr, got.stderr)
+
+
+def watched(programs, name, build, *words, printed=None, by_valgrind=True):
+    """Runs a program by itself, by valgrind, and built with each sanitizer. `build` makes it with more words for the compiler."""
+    program = programs.place / name
+    if build(program, []):
+        programs.ran(name, program, *words, printed=printed)
+        if by_valgrind:
+            programs.ran_by_valgrind(name, program, *words)
+    for what, sanitizer in SANITIZERS.items():
+        bare = programs.place / "bare.c"
+        bare.write_text("int main(void) { return 0; }\n")
+        if run(C_COMPILER, f"-fsanitize={sanitizer}", bare, "-o", programs.place / "bare").returncode:
+            print(f"left out: {what}")
+        elif build(program, [f"-fsanitize={sanitizer}", "-g"]):
+            programs.ran(f"{name} with {what}", program, *words, printed=printed)
+
+
+def writer(programs):
+    """The files of PuffinWriter."""
+
+    def build(program, words):
+        words = ["-std=gnu11", *STRICT, "-O1", *words, HERE / "writer.c", programs.library, programs.kit, WRAPPED]
+        return programs.built("writer.c", C_COMPILER, *words, "-o", program)
+
+    watched(programs, "writer", build, programs.place, printed=b"killed 289 times\n", by_valgrind=False)
+
+
+def zones(programs):
+    """Zones on many threads; C and C++ files share one session."""
+    if not is_there("c++"):
+        return
+
+    def build(program, words):
+        part = programs.place / "zones_c.o"
+        words = [*STRICT, "-O1", *words]
+        made = programs.built("zones_c.c", C_COMPILER, "-std=gnu99", *words, "-c", HERE / "zones_c.c", "-o", part)
+        more = [HERE / "zones.cc", part, programs.library, programs.kit, "-pthread", "-o", program]
+        return made and programs.built("zones.cc", "c++", "-std=c++11", *words, *more)
+
+    watched(programs, "zones", build, programs.place, printed=b"zones\n")
+
+
+def games(programs):
+    """The whole programs of docs/C.md, and the same where zones aren't compiled in: these need no library."""
+    for compiler, source, standard in ((C_COMPILER, "game.c", "gnu99"), ("c++", "game.cc", "c++11")):
+        if not is_there(compiler):
+            continue
+        words = [compiler, f"-std={standard}", *STRICT, HERE / source]
+        program, file = programs.place / "game", programs.place / "game.puffin"
+        if programs.built(source, *words, programs.library, programs.kit, "-pthread", "-o", program):
+            programs.ran(source, program, cwd=programs.place)
+            programs.check(f"the file of {source}", file.is_file() and file.read_bytes().startswith(b"PUF0"))
+            if programs.tool:
+                told = run(programs.tool, "count", file).stdout
+                programs.check(f"puffin-tool counts the file of {source}", told.startswith(b"frames 100 scopes 200"), told)
+            file.unlink(missing_ok=True)
+        if programs.built(f"{source} with PUFFIN_OFF", *words, "-DPUFFIN_OFF", "-o", program):
+            programs.ran(f"{source} with PUFFIN_OFF", program, cwd=programs.place)
+            programs.check(f"{source} with PUFFIN_OFF writes no file", not file.exists())
+
+
+def check(programs):
+    games(programs)
+    writer(programs)
+    zones(programs)
