@@ -17,6 +17,16 @@
  *   join orders them.
  * - Make no call from a signal handler, or in a forked child of a process with threads.
  * - malloc, realloc and free must belong together, and must align memory as the C standard demands.
+ * - Leave each call as much stack as it takes at most, whatever bytes and scopes it gets:
+ *     1 KiB: puffin_version, puffin_interface, puffin_fault_name, puffin_ids_open, puffin_ids_close, puffin_thread_open,
+ *       puffin_thread_close, puffin_profiler_open, puffin_profiler_close, puffin_begin, puffin_end, puffin_set_scopes_on,
+ *       puffin_set_max_bytes, puffin_set_max_pending, puffin_set_limits, puffin_snapshot, puffin_thread_discard, puffin_view_clear,
+ *       puffin_count
+ *     4 KiB: puffin_register_function, puffin_register_scope, puffin_report, puffin_user_scopes, puffin_file_begin,
+ *       puffin_file_next, puffin_frame_begin, puffin_frame_next, puffin_scopes, puffin_check_file, puffin_frame_streams,
+ *       puffin_file_threads
+ *     8 KiB: puffin_new_frame
+ *     192 KiB: puffin_merge_view, puffin_merge_file
  */
 #ifndef PUFFIN_H
 #define PUFFIN_H
@@ -92,7 +102,8 @@ enum {
     PUFFIN_FILE_BAD_SCOPES = 74,
     PUFFIN_FILE_BAD_RANGE = 75,
     PUFFIN_FILE_PART_TOO_LONG = 76, /* a part of a packet has 2^32 bytes or more */
-    PUFFIN_FILE_REFUSED = 77        /* + 256 * one of the faults from 1 to 17 */
+    PUFFIN_FILE_REFUSED = 77        /* + 256 * PUFFIN_MISSING_ID or, of a merge, the fault of a stream (1 to 3), PUFFIN_TOO_LARGE
+                                       or PUFFIN_TOO_DEEP */
 };
 
 /* Copies the name that a number has here to the front of name, as much of it as fits, and returns the size of the whole name in
@@ -119,13 +130,6 @@ PUFFIN_RESULT_ uint32_t puffin_count(const uint8_t *bytes, size_t size, bool lon
  * the fault, or before memory ran out. The fault is in the next frame, which begins at *offset, or at the file's beginning if
  * *offset is 0: in the last part that was read, which ends at *read. */
 PUFFIN_RESULT_ uint32_t puffin_check_file(const uint8_t *file, size_t size, uint64_t *frames, uint64_t *offset, uint64_t *read);
-
-/* Reports on a file for the thread with this name and this start, or with this name and no start if has_start isn't set.
- * Copies the report to the front of out, as much of it as fits, and sets *size to the size of the whole report in bytes.
- * Fails with PUFFIN_NOT_TEXT if the name isn't UTF-8, whatever the file contains. Otherwise fails with the first fault in the
- * file. */
-PUFFIN_RESULT_ uint32_t puffin_report_file(const uint8_t *file, size_t file_size, bool has_start, int64_t start_ns, const uint8_t *name,
-                            size_t name_size, uint8_t *out, size_t room, uint64_t *size);
 
 /* ---- the scopes of a stream, one after the other */
 
@@ -202,7 +206,8 @@ typedef struct PuffinMerged {
 /* Merges the scopes of the thread with this name and this start, or with this name and no start if has_start isn't set, over the
  * frames of a file. Lists the merged scopes, each before those in it: copies them to the front of merged, at most room of them,
  * and their texts, one behind the other, to the front of texts. Sets *sizes to how many merged scopes and bytes of texts there
- * are; there are none if no frame has the thread. Fails like puffin_report_file. */
+ * are; there are none if no frame has the thread. Fails with PUFFIN_NOT_TEXT if the name isn't UTF-8, whatever the file contains.
+ * Otherwise fails with the first fault in the file. */
 PUFFIN_RESULT_ uint32_t puffin_merge_file(const uint8_t *file, size_t file_size, bool has_start, int64_t start_ns, const uint8_t *name,
                            size_t name_size, PuffinMerged *merged, size_t room, uint8_t *texts, size_t texts_room,
                            PuffinLists *sizes);
@@ -225,7 +230,8 @@ typedef struct PuffinThread {
     bool is_open_, is_on_;
 } PuffinThread;
 
-/* The texts of the thread's scopes are cut to at most 127 bytes, or 16,383 if long_texts is set. */
+/* Opens a handle for the scopes of one thread, which is to report to profilers that were opened with these ids. The texts of the
+ * scopes are cut to at most 127 bytes, or 16,383 if long_texts is set. */
 PUFFIN_RESULT_ uint32_t puffin_thread_open(PuffinThread *thread, PuffinIds *ids, const uint8_t *name, size_t name_size, bool long_texts);
 /* Drops the scopes that weren't reported. */
 uint32_t puffin_thread_close(PuffinThread *thread);
@@ -233,8 +239,9 @@ uint32_t puffin_thread_close(PuffinThread *thread);
  * there were. Fails while a scope is open. */
 uint32_t puffin_thread_discard(PuffinThread *thread, uint64_t *scopes);
 
-/* Limits the bytes of a thread's scopes: open ones, those that wait for a report, and what is kept free for their ends. puffin_begin
- * fails with PUFFIN_MEMORY if its scope would need more. There is no limit at first. */
+/* Sets how many bytes of scopes the thread may hold, open ones and closed ones that no report took. A scope takes 31 bytes and its
+ * text; puffin_begin asks for 31 bytes and the longest text (127 or 16,383), and fails with PUFFIN_MEMORY where that is more than is
+ * left. The scopes before it stay. At first there is no such limit. */
 uint32_t puffin_set_max_bytes(PuffinThread *thread, uint64_t bytes);
 
 /* Begins a scope with this id and text at this time, and sets *scope to its offset, which puffin_end takes, or to PUFFIN_NO_SCOPE
@@ -277,9 +284,9 @@ typedef struct PuffinProfiler {
 PUFFIN_RESULT_ uint32_t puffin_profiler_open(PuffinProfiler *profiler, PuffinIds *ids);
 uint32_t puffin_profiler_close(PuffinProfiler *profiler);
 
-/* Register a function, or a scope within a function under a name of its own, and set *id. Pass 0 if the line is unknown. The
- * profiler knows the names at once, and the next frame that it makes lists them: register each place once, before its first
- * scope, with the profiler that the thread's scopes are reported to. If the call fails, an id may be used up. */
+/* Registers a function, or a scope within a function under a name of its own, and sets *id, under which any thread begins it. The
+ * next frame that is made lists it, so a file has its name. Call it once for each place in the code, between any two other calls.
+ * Pass 0 if the line is unknown. If the call fails, an id may be used up, and a later frame may list the scope under it. */
 PUFFIN_RESULT_ uint32_t puffin_register_function(PuffinProfiler *profiler, const uint8_t *function, size_t function_size,
                                   const uint8_t *file, size_t file_size, uint32_t line, uint32_t *id);
 PUFFIN_RESULT_ uint32_t puffin_register_scope(PuffinProfiler *profiler, const uint8_t *name, size_t name_size, const uint8_t *function,
@@ -305,8 +312,8 @@ uint32_t puffin_snapshot(PuffinProfiler *profiler);
 
 /* Sets how many recent and how many slow frames the view keeps at most. This takes effect when the next frame is added. */
 uint32_t puffin_set_limits(PuffinProfiler *profiler, size_t recent, size_t slow);
-/* Limits the bytes that may wait for the next frame: puffin_report and puffin_user_scopes fail with PUFFIN_MEMORY if there would
- * be more. There is no limit at first. */
+/* Sets how many bytes of scopes may wait for the next frame, of all threads together. puffin_report and puffin_user_scopes fail with
+ * PUFFIN_MEMORY where there would be more; what waits stays. At first there is no such limit. */
 uint32_t puffin_set_max_pending(PuffinProfiler *profiler, uint64_t bytes);
 /* Drops all frames of the view, recent and slow, and keeps its limits. What waits for the next frame stays. */
 uint32_t puffin_view_clear(PuffinProfiler *profiler);
@@ -366,12 +373,6 @@ PUFFIN_RESULT_ PUFFIN_INLINE_ uint32_t puffin_file_threads_(const uint8_t *file,
 PUFFIN_RESULT_ PUFFIN_INLINE_ uint32_t puffin_check_file_(const uint8_t *file, size_t size, uint64_t *frames, uint64_t *offset,
                                            uint64_t *read) {
     return puffin_check_file(puffin_bytes_(file), size, frames, offset, read);
-}
-PUFFIN_RESULT_ PUFFIN_INLINE_ uint32_t puffin_report_file_(const uint8_t *file, size_t file_size, bool has_start, int64_t start_ns,
-                                            const uint8_t *name, size_t name_size, uint8_t *out, size_t room,
-                                            uint64_t *size) {
-    return puffin_report_file(puffin_bytes_(file), file_size, has_start, start_ns, puffin_bytes_(name), name_size, out, room,
-                              size);
 }
 PUFFIN_RESULT_ PUFFIN_INLINE_ uint32_t puffin_merge_file_(const uint8_t *file, size_t file_size, bool has_start, int64_t start_ns,
                                            const uint8_t *name, size_t name_size, PuffinMerged *merged, size_t room,
@@ -436,7 +437,6 @@ PUFFIN_INLINE_ size_t puffin_fault_name_(uint32_t fault, char *name, size_t room
 #define puffin_frame_streams puffin_frame_streams_
 #define puffin_file_threads puffin_file_threads_
 #define puffin_check_file puffin_check_file_
-#define puffin_report_file puffin_report_file_
 #define puffin_merge_file puffin_merge_file_
 #define puffin_merge_view puffin_merge_view_
 #define puffin_thread_open puffin_thread_open_

@@ -1,5 +1,5 @@
-/* Compares the header with the library: the versions, and the places of the fields of PuffinCount, as the numbers that the library
- * writes there tell them. It is a C program and a C++ one. */
+/* Compares the header's structs with the library's: their sizes, which are proved of the library's, and the places of the fields of
+ * a count, as the numbers that it writes there tell them. It is a C program and a C++ one. */
 #include "puffin.h"
 #include <stdio.h>
 
@@ -34,6 +34,16 @@ int main(void) {
     is("minor version", version.minor, PUFFIN_VERSION_MINOR);
     is("patch version", version.patch, PUFFIN_VERSION_PATCH);
     is("interface", puffin_interface(), PUFFIN_INTERFACE);
+    is("PuffinCount", sizeof(PuffinCount), 32);
+    is("PuffinFrame", sizeof(PuffinFrame), 48);
+    is("PuffinIds", sizeof(PuffinIds), 16);
+    is("PuffinThread", sizeof(PuffinThread), 16);
+    is("PuffinProfiler", sizeof(PuffinProfiler), 16);
+    is("PuffinLists", sizeof(PuffinLists), 16);
+    is("PuffinScope", sizeof(PuffinScope), 48);
+    is("PuffinStream", sizeof(PuffinStream), 64);
+    is("PuffinFileThread", sizeof(PuffinFileThread), 48);
+    is("PuffinMerged", sizeof(PuffinMerged), 72);
     is("count", puffin_count(bytes, sizeof bytes, false, &count), PUFFIN_OK);
     is("scopes", count.scopes, 3);
     is("depth", count.depth, 2);

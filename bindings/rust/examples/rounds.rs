@@ -1,5 +1,6 @@
 //! Profiles itself: rounds of work on two threads, written to the file that the first argument names.
 
+// listing: rounds
 use puffin_c::{profile_function, profile_scope};
 
 fn step(number: u32) {
@@ -14,6 +15,7 @@ fn round() {
         step(number);
     }
 }
+// end of listing
 
 fn main() -> Result<(), Box<dyn std::error::Error>> {
     for _ in 0..3 {

@@ -150,12 +150,15 @@ mod tests {
         assert_eq!(names, faults_of_the_header());
     }
 
+    /// Numbers that faults hold.
+    const HOLDING: [(&str, u32); 3] = [("FILE_UNKNOWN_KIND", 9), ("FILE_COMPRESSED", 1), ("FILE_REFUSED", 14)];
+
     #[test]
     fn the_library_has_the_same_names() {
         for &(name, number) in NAMES {
-            let held = if name == "FILE_REFUSED" { 256 * 14 } else { 0 };
+            let held = 256 * HOLDING.iter().find(|(it, _)| *it == name).map_or(0, |it| it.1);
             let fault = told(number + held).unwrap_err();
-            let more = if held > 0 { " + 256 * PUFFIN_TOO_DEEP" } else { "" };
+            let more = if name == "FILE_REFUSED" { " + 256 * PUFFIN_TOO_DEEP" } else { "" };
             assert_eq!(fault.to_string(), format!("PUFFIN_{name}{more}"));
             assert_eq!(fault.kind(), told(number).unwrap_err());
         }
