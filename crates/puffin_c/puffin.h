@@ -32,6 +32,11 @@ extern "C" {
 
 /* ---- versions: of this header, and of the library that is linked */
 
+/* The version of the interface: of the calls, their parameters and the structs. A program that may meet another library than its
+ * header's compares this number with puffin_interface(), and makes no other call if they differ. */
+#define PUFFIN_INTERFACE 2
+uint32_t puffin_interface(void);
+
 #define PUFFIN_VERSION_MAJOR 0
 #define PUFFIN_VERSION_MINOR 20
 #define PUFFIN_VERSION_PATCH 0
@@ -76,7 +81,8 @@ enum {
     PUFFIN_FILE_BAD_SCOPES = 74,
     PUFFIN_FILE_BAD_RANGE = 75,
     PUFFIN_FILE_PART_TOO_LONG = 76, /* a part of a packet has 2^32 bytes or more */
-    PUFFIN_FILE_REFUSED = 77        /* + 256 * one of the faults from 1 to 17 */
+    PUFFIN_FILE_REFUSED = 77        /* + 256 * PUFFIN_MISSING_ID or, of a merge, the fault of a stream (1 to 3), PUFFIN_TOO_LARGE
+                                       or PUFFIN_TOO_DEEP */
 };
 
 /* Copies the name that a number has here to the front of name, as much of it as fits, and returns the size of the whole name in
@@ -92,11 +98,10 @@ enum { PUFFIN_FAULT_NAME_ROOM = 64 };
 typedef struct PuffinCount {
     uint64_t scopes, depth;    /* the number of scopes, and the greatest nesting depth */
     int64_t start_ns, stop_ns; /* the least start and the greatest stop, or INT64_MAX and INT64_MIN if there is no scope */
-    uint64_t tries;            /* the number of attempts to read a scope */
 } PuffinCount;
 
 /* Counts the scopes of a stream, which has long texts if long_texts is set. Fails with the first fault in the bytes, or with
- * PUFFIN_MEMORY; only count->tries is set then. */
+ * PUFFIN_MEMORY. */
 uint32_t puffin_count(const uint8_t *bytes, size_t size, bool long_texts, PuffinCount *count);
 
 /* Reads a file, and sets *frames to the number of its frames, *offset to the offset at which the last of them ends, and *read to
@@ -104,13 +109,6 @@ uint32_t puffin_count(const uint8_t *bytes, size_t size, bool long_texts, Puffin
  * the fault, or before memory ran out. The fault is in the next frame, which begins at *offset, or at the file's beginning if
  * *offset is 0: in the last part that was read, which ends at *read. */
 uint32_t puffin_check_file(const uint8_t *file, size_t size, uint64_t *frames, uint64_t *offset, uint64_t *read);
-
-/* Reports on a file for the thread with this name and this start, or with this name and no start if has_start isn't set.
- * Copies the report to the front of out, as much of it as fits, and sets *size to the size of the whole report in bytes.
- * Fails with PUFFIN_NOT_TEXT if the name isn't UTF-8, whatever the file contains. Otherwise fails with the first fault in the
- * file. */
-uint32_t puffin_report_file(const uint8_t *file, size_t file_size, bool has_start, int64_t start_ns, const uint8_t *name,
-                            size_t name_size, uint8_t *out, size_t room, uint64_t *size);
 
 /* ---- the scopes of a stream, one after the other */
 
@@ -187,7 +185,8 @@ typedef struct PuffinMerged {
 /* Merges the scopes of the thread with this name and this start, or with this name and no start if has_start isn't set, over the
  * frames of a file. Lists the merged scopes, each before those in it: copies them to the front of merged, at most room of them,
  * and their texts, one behind the other, to the front of texts. Sets *sizes to how many merged scopes and bytes of texts there
- * are; there are none if no frame has the thread. Fails like puffin_report_file. */
+ * are; there are none if no frame has the thread. Fails with PUFFIN_NOT_TEXT if the name isn't UTF-8, whatever the file contains.
+ * Otherwise fails with the first fault in the file. */
 uint32_t puffin_merge_file(const uint8_t *file, size_t file_size, bool has_start, int64_t start_ns, const uint8_t *name,
                            size_t name_size, PuffinMerged *merged, size_t room, uint8_t *texts, size_t texts_room,
                            PuffinLists *sizes);
@@ -210,20 +209,18 @@ typedef struct PuffinThread {
     bool is_open_, is_on_;
 } PuffinThread;
 
-/* The texts of the thread's scopes are cut to at most 127 bytes, or 16,383 if long_texts is set. */
+/* Opens a handle for the scopes of one thread, which is to report to profilers that were opened with these ids. The texts of the
+ * scopes are cut to at most 127 bytes, or 16,383 if long_texts is set. */
 uint32_t puffin_thread_open(PuffinThread *thread, PuffinIds *ids, const uint8_t *name, size_t name_size, bool long_texts);
 /* Drops the scopes that weren't reported. */
 uint32_t puffin_thread_close(PuffinThread *thread);
 /* Gives up a thread's waiting scopes, for example those of a report that is refused again and again, and sets *scopes to how many
- * there were. The names that were registered stay for the next report. Fails while a scope is open. */
+ * there were. Fails while a scope is open. */
 uint32_t puffin_thread_discard(PuffinThread *thread, uint64_t *scopes);
-
-/* Register a function, or a scope within a function under a name of its own, and set *id. Pass 0 if the line is unknown. If
- * the call fails, an id may be used up. */
-uint32_t puffin_register_function(PuffinThread *thread, const uint8_t *function, size_t function_size,
-                                  const uint8_t *file, size_t file_size, uint32_t line, uint32_t *id);
-uint32_t puffin_register_scope(PuffinThread *thread, const uint8_t *name, size_t name_size, const uint8_t *function,
-                               size_t function_size, const uint8_t *file, size_t file_size, uint32_t line, uint32_t *id);
+/* Sets how many bytes of scopes the thread may hold, open ones and closed ones that no report took. A scope takes 31 bytes and its
+ * text; puffin_begin asks for 31 bytes and the longest text (127 or 16,383), and fails with PUFFIN_MEMORY where that is more than is
+ * left. The scopes before it stay. At first there is no such limit. */
+uint32_t puffin_set_max_bytes(PuffinThread *thread, uint64_t bytes);
 
 /* Begins a scope with this id and text at this time, and sets *scope to its offset, which puffin_end takes. A negative time
  * counts as 0, and a time before the thread's last one counts as the last one. */
@@ -264,6 +261,14 @@ typedef struct PuffinProfiler {
 uint32_t puffin_profiler_open(PuffinProfiler *profiler, PuffinIds *ids);
 uint32_t puffin_profiler_close(PuffinProfiler *profiler);
 
+/* Registers a function, or a scope within a function under a name of its own, and sets *id, under which any thread begins it. The
+ * next frame that is made lists it, so a file has its name. Call it once for each place in the code, between any two other calls.
+ * Pass 0 if the line is unknown. If the call fails, an id may be used up, and a later frame may list the scope under it. */
+uint32_t puffin_register_function(PuffinProfiler *profiler, const uint8_t *function, size_t function_size,
+                                  const uint8_t *file, size_t file_size, uint32_t line, uint32_t *id);
+uint32_t puffin_register_scope(PuffinProfiler *profiler, const uint8_t *name, size_t name_size, const uint8_t *function,
+                               size_t function_size, const uint8_t *file, size_t file_size, uint32_t line, uint32_t *id);
+
 /* Reports a thread's waiting scopes to a profiler: those that ended since the thread's last accepted report. Does nothing if
  * no scope is waiting or open. If the call fails, the scopes keep waiting. */
 uint32_t puffin_report(PuffinThread *thread, PuffinProfiler *profiler);
@@ -284,6 +289,9 @@ uint32_t puffin_snapshot(PuffinProfiler *profiler);
 
 /* Sets how many recent and how many slow frames the view keeps at most. This takes effect when the next frame is added. */
 uint32_t puffin_set_limits(PuffinProfiler *profiler, size_t recent, size_t slow);
+/* Sets how many bytes of scopes may wait for the next frame, of all threads together. puffin_report and puffin_user_scopes fail with
+ * PUFFIN_MEMORY where there would be more; what waits stays. At first there is no such limit. */
+uint32_t puffin_set_max_pending(PuffinProfiler *profiler, uint64_t bytes);
 /* Drops all frames of the view, recent and slow, and keeps its limits. What waits for the next frame stays. */
 uint32_t puffin_view_clear(PuffinProfiler *profiler);
 
@@ -306,24 +314,6 @@ uint32_t puffin_file_next(PuffinProfiler *profiler, uint8_t *out, size_t room, u
 uint32_t puffin_frame_begin(PuffinProfiler *profiler, uint64_t *size);
 /* Copies that packet's next bytes to the front of out, as many as fit, and sets *size to how many were copied: 0 at the end. */
 uint32_t puffin_frame_next(PuffinProfiler *profiler, uint8_t *out, size_t room, uint64_t *size);
-
-/* ---- sizes in bytes of these structs, for a program that compares its header with the library */
-
-enum {
-    PUFFIN_SIZE_OF_COUNT,
-    PUFFIN_SIZE_OF_FRAME,
-    PUFFIN_SIZE_OF_IDS,
-    PUFFIN_SIZE_OF_THREAD,
-    PUFFIN_SIZE_OF_PROFILER,
-    PUFFIN_SIZE_OF_LISTS,
-    PUFFIN_SIZE_OF_SCOPE,
-    PUFFIN_SIZE_OF_STREAM,
-    PUFFIN_SIZE_OF_FILE_THREAD,
-    PUFFIN_SIZE_OF_MERGED,
-    PUFFIN_SIZES /* how many sizes this header knows */
-};
-/* Copies the sizes to the front of sizes, at most room of them, and returns how many the library has. */
-size_t puffin_sizes(uint64_t *sizes, size_t room);
 
 /* ---- empty texts: the calls above get a pointer that isn't NULL. Scopes that are off: no call is made, and the answer is the
  * library's own. */
@@ -360,12 +350,6 @@ PUFFIN_INLINE_ uint32_t puffin_check_file_(const uint8_t *file, size_t size, uin
                                            uint64_t *read) {
     return puffin_check_file(puffin_bytes_(file), size, frames, offset, read);
 }
-PUFFIN_INLINE_ uint32_t puffin_report_file_(const uint8_t *file, size_t file_size, bool has_start, int64_t start_ns,
-                                            const uint8_t *name, size_t name_size, uint8_t *out, size_t room,
-                                            uint64_t *size) {
-    return puffin_report_file(puffin_bytes_(file), file_size, has_start, start_ns, puffin_bytes_(name), name_size, out, room,
-                              size);
-}
 PUFFIN_INLINE_ uint32_t puffin_merge_file_(const uint8_t *file, size_t file_size, bool has_start, int64_t start_ns,
                                            const uint8_t *name, size_t name_size, PuffinMerged *merged, size_t room,
                                            uint8_t *texts, size_t texts_room, PuffinLists *sizes) {
@@ -386,14 +370,14 @@ PUFFIN_INLINE_ uint32_t puffin_thread_open_(PuffinThread *thread, PuffinIds *ids
                                             bool long_texts) {
     return puffin_thread_open(thread, ids, puffin_bytes_(name), name_size, long_texts);
 }
-PUFFIN_INLINE_ uint32_t puffin_register_function_(PuffinThread *thread, const uint8_t *function, size_t function_size,
+PUFFIN_INLINE_ uint32_t puffin_register_function_(PuffinProfiler *profiler, const uint8_t *function, size_t function_size,
                                                   const uint8_t *file, size_t file_size, uint32_t line, uint32_t *id) {
-    return puffin_register_function(thread, puffin_bytes_(function), function_size, puffin_bytes_(file), file_size, line, id);
+    return puffin_register_function(profiler, puffin_bytes_(function), function_size, puffin_bytes_(file), file_size, line, id);
 }
-PUFFIN_INLINE_ uint32_t puffin_register_scope_(PuffinThread *thread, const uint8_t *name, size_t name_size,
+PUFFIN_INLINE_ uint32_t puffin_register_scope_(PuffinProfiler *profiler, const uint8_t *name, size_t name_size,
                                                const uint8_t *function, size_t function_size, const uint8_t *file,
                                                size_t file_size, uint32_t line, uint32_t *id) {
-    return puffin_register_scope(thread, puffin_bytes_(name), name_size, puffin_bytes_(function), function_size,
+    return puffin_register_scope(profiler, puffin_bytes_(name), name_size, puffin_bytes_(function), function_size,
                                  puffin_bytes_(file), file_size, line, id);
 }
 PUFFIN_INLINE_ uint32_t puffin_begin_(PuffinThread *thread, int64_t now_ns, uint32_t id, const uint8_t *text,
@@ -420,7 +404,6 @@ PUFFIN_INLINE_ uint32_t puffin_user_scopes_(PuffinProfiler *profiler, bool has_s
 #define puffin_frame_streams puffin_frame_streams_
 #define puffin_file_threads puffin_file_threads_
 #define puffin_check_file puffin_check_file_
-#define puffin_report_file puffin_report_file_
 #define puffin_merge_file puffin_merge_file_
 #define puffin_merge_view puffin_merge_view_
 #define puffin_thread_open puffin_thread_open_

@@ -8,7 +8,7 @@
  *     ids.open();
  *     profiler.open(ids);
  *     thread.open(ids, "main");
- *     thread.register_function("load", __FILE__, __LINE__, id);
+ *     profiler.register_function("load", __FILE__, __LINE__, id);
  *     {
  *         PUFFIN_SCOPE(thread, id, "image-12.png");
  *     }
@@ -66,15 +66,6 @@ class Thread {
     std::uint32_t open(Ids &ids, std::string_view name, bool long_texts = false) noexcept {
         return puffin_thread_open(&handle, ids.get(), bytes_of(name), name.size(), long_texts);
     }
-    std::uint32_t register_function(std::string_view function, std::string_view file, std::uint32_t line,
-                                    std::uint32_t &id) noexcept {
-        return puffin_register_function(&handle, bytes_of(function), function.size(), bytes_of(file), file.size(), line, &id);
-    }
-    std::uint32_t register_scope(std::string_view name, std::string_view function, std::string_view file,
-                                 std::uint32_t line, std::uint32_t &id) noexcept {
-        return puffin_register_scope(&handle, bytes_of(name), name.size(), bytes_of(function), function.size(), bytes_of(file),
-                                     file.size(), line, &id);
-    }
     std::uint32_t begin(std::int64_t now_ns, std::uint32_t id, std::string_view text, std::uint64_t &scope) noexcept {
         return puffin_begin(&handle, now_ns, id, bytes_of(text), text.size(), &scope);
     }
@@ -121,6 +112,15 @@ class Profiler {
     std::uint32_t open(Ids &ids) noexcept { return puffin_profiler_open(&handle, ids.get()); }
     std::uint32_t set_limits(std::size_t recent, std::size_t slow) noexcept {
         return puffin_set_limits(&handle, recent, slow);
+    }
+    std::uint32_t register_function(std::string_view function, std::string_view file, std::uint32_t line,
+                                    std::uint32_t &id) noexcept {
+        return puffin_register_function(&handle, bytes_of(function), function.size(), bytes_of(file), file.size(), line, &id);
+    }
+    std::uint32_t register_scope(std::string_view name, std::string_view function, std::string_view file,
+                                 std::uint32_t line, std::uint32_t &id) noexcept {
+        return puffin_register_scope(&handle, bytes_of(name), name.size(), bytes_of(function), function.size(), bytes_of(file),
+                                     file.size(), line, &id);
     }
     std::uint32_t report(Thread &thread) noexcept { return puffin_report(thread.get(), &handle); }
     std::uint32_t new_frame(PuffinFrame &frame) noexcept { return puffin_new_frame(&handle, &frame); }

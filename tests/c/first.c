@@ -20,7 +20,7 @@ int main(int argc, char **argv) {
     puffin_ids_open(&ids);
     puffin_thread_open(&thread, &ids, TEXT("main"), false);
     puffin_profiler_open(&profiler, &ids);
-    puffin_register_function(&thread, TEXT("load"), TEXT("load.c"), 12, &id);
+    puffin_register_function(&profiler, TEXT("load"), TEXT("load.c"), 12, &id);
     puffin_begin(&thread, puffin_now_ns(), id, TEXT("image-12.png"), &scope);
     puffin_end(&thread, puffin_now_ns(), scope);
     puffin_report(&thread, &profiler);   /* the closed scopes go to the profiler */

@@ -96,7 +96,7 @@ int main(int argc, char **argv) {
         char name[20];
         int size = snprintf(name, sizeof name, "name %d", i);
         const uint8_t *text = (const uint8_t *)name, *file_name = (const uint8_t *)"long.c";
-        CALL(puffin_register_function(&thread, text, (size_t)size, file_name, 6, 0, &names[i]));
+        CALL(puffin_register_function(&profiler, text, (size_t)size, file_name, 6, 0, &names[i]));
     }
     for (int i = 0; i < 2; i++) {
         snprintf(path[i], sizeof path[i], "%s/part%d.puffin", argc > 2 ? argv[2] : ".", i);

@@ -38,7 +38,6 @@ CALLS_REPORT = (
     b"frames 1\n",
     b"record pieces 2 total 800 per_frame 800 max 400 ",
     b"  part (step) pieces 4 total 200 per_frame 200 max 50 ",
-    b"allocations ",
 )
 
 
@@ -56,6 +55,11 @@ def viewed():
     frame = ["frame 0 scopes 13", "  5:gpu scopes 1 depth 1", "    5 4"]
     lines = threads + frame + viewed_thread(1000, "main") + viewed_thread(1500, "worker")
     return "".join(f"{line}\n" for line in lines).encode()
+
+
+def is_calls_report(told):
+    lines = told.splitlines(keepends=True)
+    return len(lines) == len(CALLS_REPORT) and all(map(bytes.startswith, lines, CALLS_REPORT))
 
 
 def run(*words, cwd=None, **variables):
@@ -112,10 +116,7 @@ class Programs:
             return
         got = run(program, self.place / "file")
         self.check("calls.c", got.returncode == 0, got.stderr)
-        lines = got.stdout.splitlines(keepends=True)
-        is_fine = len(lines) == len(CALLS_REPORT) and all(map(bytes.startswith, lines, CALLS_REPORT))
-        self.check("the report of calls.c", is_fine, got.stdout)
-        self.check_report("puffin-tool reports the file so", "1000:main", lambda told: told == b"".join(lines[:-1]))
+        self.check_report("puffin-tool reports the file of calls.c", "1000:main", is_calls_report)
         self.looked("calls", self.place / "file", 0)
         self.refusals(program, got.stdout)
 

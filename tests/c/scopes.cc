@@ -24,9 +24,9 @@ static void work(const char *name) {
     {
         std::lock_guard<std::mutex> held(lock);
         CALL(thread.open(ids, name));
+        CALL(profiler.register_function("work", __FILE__, __LINE__, whole));
+        CALL(profiler.register_scope("part", "work", __FILE__, __LINE__, part));
     }
-    CALL(thread.register_function("work", __FILE__, __LINE__, whole));
-    CALL(thread.register_scope("part", "work", __FILE__, __LINE__, part));
     {
         PUFFIN_SCOPE(thread, whole, std::string_view());
         for (int step = 0; step < 3; step++) {

@@ -122,10 +122,10 @@ impl Place {
         let begun = with_local(|local| {
             let mut id = self.id.load(Ordering::Relaxed);
             if id == 0 {
-                id = match name {
-                    Some(name) => local.thread.register_scope(name, function, file, line)?,
-                    None => local.thread.register_function(function, file, line)?,
-                };
+                id = with_shared(|shared| match name {
+                    Some(name) => shared.profiler.register_scope(name, function, file, line),
+                    None => shared.profiler.register_function(function, file, line),
+                })?;
                 self.id.store(id, Ordering::Relaxed);
             }
             let scope = local.thread.begin(now_ns(), id, text)?;

@@ -122,42 +122,6 @@ impl Thread {
         Ok(Thread(handle))
     }
 
-    /// Registers a function, and returns its id. Pass 0 if the line is unknown.
-    pub fn register_function(&mut self, function: &str, file: &str, line: u32) -> Result<u32, Fault> {
-        let mut id = 0;
-        told(unsafe {
-            raw::puffin_register_function(
-                &mut self.0,
-                function.as_ptr(),
-                function.len(),
-                file.as_ptr(),
-                file.len(),
-                line,
-                &mut id,
-            )
-        })?;
-        Ok(id)
-    }
-
-    /// Registers a scope within a function, under a name of its own, and returns its id.
-    pub fn register_scope(&mut self, name: &str, function: &str, file: &str, line: u32) -> Result<u32, Fault> {
-        let mut id = 0;
-        told(unsafe {
-            raw::puffin_register_scope(
-                &mut self.0,
-                name.as_ptr(),
-                name.len(),
-                function.as_ptr(),
-                function.len(),
-                file.as_ptr(),
-                file.len(),
-                line,
-                &mut id,
-            )
-        })?;
-        Ok(id)
-    }
-
     /// Begins a scope. While scopes are off, none begins, and this returns at once.
     #[inline]
     pub fn begin(&mut self, now_ns: i64, id: u32, text: &str) -> Result<Scope, Fault> {
@@ -189,7 +153,7 @@ impl Thread {
     }
 
     /// Gives up the closed scopes that weren't reported, for example because a report is refused again and again, and returns
-    /// how many there were. The names that were registered stay for the next report. Fails while a scope is open.
+    /// how many there were. Fails while a scope is open.
     pub fn discard(&mut self) -> Result<u64, Fault> {
         let mut scopes = 0;
         told(unsafe { raw::puffin_thread_discard(&mut self.0, &mut scopes) })?;
@@ -226,6 +190,42 @@ impl Profiler {
         let mut handle = Handle::new();
         told(unsafe { raw::puffin_profiler_open(&mut handle, &mut ids.0) })?;
         Ok(Profiler(handle))
+    }
+
+    /// Registers a function, and returns its id. Pass 0 if the line is unknown.
+    pub fn register_function(&mut self, function: &str, file: &str, line: u32) -> Result<u32, Fault> {
+        let mut id = 0;
+        told(unsafe {
+            raw::puffin_register_function(
+                &mut self.0,
+                function.as_ptr(),
+                function.len(),
+                file.as_ptr(),
+                file.len(),
+                line,
+                &mut id,
+            )
+        })?;
+        Ok(id)
+    }
+
+    /// Registers a scope within a function, under a name of its own, and returns its id.
+    pub fn register_scope(&mut self, name: &str, function: &str, file: &str, line: u32) -> Result<u32, Fault> {
+        let mut id = 0;
+        told(unsafe {
+            raw::puffin_register_scope(
+                &mut self.0,
+                name.as_ptr(),
+                name.len(),
+                function.as_ptr(),
+                function.len(),
+                file.as_ptr(),
+                file.len(),
+                line,
+                &mut id,
+            )
+        })?;
+        Ok(id)
     }
 
     /// Sets how many recent and how many slow frames the view keeps at most, from the next frame on.
@@ -284,23 +284,14 @@ impl Drop for Profiler {
 /// The letters that a file begins with.
 pub const FILE_START: &[u8; 4] = b"PUF0";
 
-/// The sizes of the library's structs must be those of the declarations here.
 #[cfg(test)]
 mod tests {
     use super::*;
-    use std::mem::size_of;
 
+    /// The declarations here are those of this version of the interface.
     #[test]
-    fn structs_have_the_library_s_sizes() {
-        let mut sizes = [0; 10];
-        assert_eq!(unsafe { raw::puffin_sizes(sizes.as_mut_ptr(), sizes.len()) }, sizes.len());
-        assert_eq!(sizes[1], size_of::<RawFrame>() as u64);
-        assert_eq!(sizes[2..5], [size_of::<Handle>() as u64; 3]);
-        assert_eq!(sizes[5], size_of::<raw::Lists>() as u64);
-        assert_eq!(sizes[6], size_of::<raw::RawScope>() as u64);
-        assert_eq!(sizes[7], size_of::<raw::RawStream>() as u64);
-        assert_eq!(sizes[8], size_of::<raw::RawFileThread>() as u64);
-        assert_eq!(sizes[9], size_of::<raw::RawMerged>() as u64);
+    fn the_library_has_this_interface() {
+        assert_eq!(unsafe { raw::puffin_interface() }, 2);
     }
 
     #[test]

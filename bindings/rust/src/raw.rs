@@ -117,7 +117,7 @@ pub struct Version {
 extern "C" {
     pub fn puffin_version() -> Version;
     #[cfg_attr(not(test), allow(dead_code))]
-    pub fn puffin_sizes(sizes: *mut u64, room: usize) -> usize;
+    pub fn puffin_interface() -> u32;
     pub fn puffin_fault_name(fault: u32, name: *mut u8, room: usize) -> usize;
     pub fn puffin_check_file(file: *const u8, size: usize, frames: *mut u64, offset: *mut u64, read: *mut u64) -> u32;
     pub fn puffin_ids_open(ids: *mut Handle) -> u32;
@@ -125,7 +125,7 @@ extern "C" {
     pub fn puffin_thread_open(thread: *mut Handle, ids: *mut Handle, name: *const u8, size: usize, long_texts: bool) -> u32;
     pub fn puffin_thread_close(thread: *mut Handle) -> u32;
     pub fn puffin_register_function(
-        thread: *mut Handle,
+        profiler: *mut Handle,
         function: *const u8,
         function_size: usize,
         file: *const u8,
@@ -134,7 +134,7 @@ extern "C" {
         id: *mut u32,
     ) -> u32;
     pub fn puffin_register_scope(
-        thread: *mut Handle,
+        profiler: *mut Handle,
         name: *const u8,
         name_size: usize,
         function: *const u8,

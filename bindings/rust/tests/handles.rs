@@ -22,7 +22,7 @@ fn two_threads_report_to_one_profiler() {
         for mut thread in threads {
             let profiler = &profiler;
             scope.spawn(move || {
-                let id = thread.register_function("work", "handles.rs", 7).unwrap();
+                let id = profiler.lock().unwrap().register_function("work", "handles.rs", 7).unwrap();
                 work(&mut thread, id, 1000);
                 profiler.lock().unwrap().report(&mut thread).unwrap();
             });
@@ -45,7 +45,7 @@ fn a_file_is_seen_frame_by_frame() {
     let mut ids = Ids::new().unwrap();
     let mut profiler = Profiler::new(&mut ids).unwrap();
     let mut thread = Thread::new(&mut ids, "main", true).unwrap();
-    let id = thread.register_function("work", "handles.rs", 7).unwrap();
+    let id = profiler.register_function("work", "handles.rs", 7).unwrap();
     for start in [1000, 2000] {
         work(&mut thread, id, start);
         profiler.report(&mut thread).unwrap();
