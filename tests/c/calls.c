@@ -461,12 +461,12 @@ static void naming(void) {
     CALL(puffin_thread_open_str(&main_thread, &ids, "main", false));
     CALL(puffin_thread_open_str(&worker, &ids, "worker", false));
     CALL(puffin_register_function_str(&own, "first name", "calls.c", 7, &id));
-    CALL(puffin_register_scope(&own, (const uint8_t *)"a\0z", 3, TEXT("first name"), NULL, 0, 8, &unused));
+    CALL(puffin_register_scope(&own, TEXT("a zero\0in a name"), TEXT("first name"), NULL, 0, 8, &unused));
     CALL(puffin_thread_close(&main_thread));
     record_one(&worker, &own, id, &frame);
     is("scopes", frame.scopes, 1);
     is("a name that was registered before", has_text(&own, "first name"), true);
-    is("a name that no scope has", has_text(&own, "a"), true);
+    is("a name that no scope has, with a zero", has_text(&own, "in a name"), true);
     /* while a scope is open on another thread */
     CALL(puffin_thread_open_str(&main_thread, &ids, "main", false));
     CALL(puffin_begin(&main_thread, 5, id, NULL, 0, &outer));
