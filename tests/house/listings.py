@@ -26,7 +26,7 @@ def part(file, name):
     return textwrap.dedent(found[0]) if len(found) == 1 else None
 
 
-def faults():
+def listings_that_are_old():
     """What is wrong with the listings."""
     runner = "".join(path.read_text() for path in sorted((common.ROOT / "tests" / "c").glob("*.py")))
     found = list(LISTING.finditer(PAGE.read_text()))
@@ -55,6 +55,6 @@ def write():
 if __name__ == "__main__":
     if sys.argv[1:] == ["--write"]:
         write()
-    told = list(faults())
+    told = list(listings_that_are_old())
     print(*told, sep="\n")
     sys.exit(bool(told))

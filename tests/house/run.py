@@ -172,7 +172,7 @@ def broken_links():
 
 
 RULES = (
-    listings.faults,
+    listings.listings_that_are_old,
     wide_clauses,
     proofs_cited_from_above,
     edits_that_do_not_apply,

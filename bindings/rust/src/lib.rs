@@ -281,6 +281,15 @@ mod tests {
     }
 
     #[test]
+    fn structs_have_the_library_s_sizes() {
+        use std::mem::size_of;
+        let of_handle_and_lists = [size_of::<Handle>(), size_of::<raw::Lists>()];
+        let of_file = [size_of::<RawFrame>(), size_of::<raw::RawStream>(), size_of::<raw::RawScope>()];
+        let of_threads = [size_of::<raw::RawFileThread>(), size_of::<raw::RawMerged>()];
+        assert_eq!((of_handle_and_lists, of_file, of_threads), ([16, 16], [48, 64, 48], [48, 72]));
+    }
+
+    #[test]
     fn handles_can_be_sent() {
         fn is_send<T: Send>() {}
         is_send::<Ids>();
