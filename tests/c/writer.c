@@ -23,6 +23,10 @@ static void step(void) {
 ssize_t __real_write(int file, const void *bytes, size_t size);
 ssize_t __wrap_write(int file, const void *bytes, size_t size) {
     step();
+    if (steps % 5 == 0) {
+        errno = EINTR;
+        return -1;
+    }
     if (disk >= 0 && (int64_t)size > disk) {
         size = (size_t)disk;
         errno = ENOSPC;
@@ -247,6 +251,28 @@ static void full_disk(int64_t room) {
     end();
 }
 
+/* A frame that is left out, since it couldn't be written, has a name that is new: the next frame lists it. */
+static void lost_names(void) {
+    PuffinWriter writer = new_writer();
+    PuffinFrame frame;
+    uint64_t frames = 0, offset, got;
+    clear();
+    begin();
+    writer.max_frames = 0;
+    CALL(puffin_writer_open(&writer));
+    for (uint64_t number = 0; number < 8; number++) {
+        record(number);
+        disk = number == 6 ? 0 : -1;
+        is("a frame", puffin_writer_frame(&writer, &profiler, &frame), number == 6 ? PUFFIN_NOT_WRITTEN : PUFFIN_OK);
+    }
+    CALL(puffin_writer_close(&writer));
+    size_t size = read_file("work.puffin");
+    CALL(puffin_check_file(file, size, &frames, &offset, &got));
+    is("frames", frames, 7);
+    is("the later name", memmem(file, size, "the later name", 14) != NULL, true);
+    end();
+}
+
 /* The same by the system, which lets no file grow further. */
 static void limited_file(void) {
     PuffinWriter writer = new_writer();
@@ -347,15 +373,16 @@ int main(int argc, char **argv) {
     folder = argc > 1 ? argv[1] : ".";
     long killed = kills(false), synced = kills(true);
     is("kills of a run", killed > 100, true);
-    /* each frame, the first bytes of each file, and its folder, which is closed too */
-    is("kills of a run that syncs", (uint64_t)(synced - killed), FRAMES + 3 * ((FRAMES + IN_A_FILE - 1) / IN_A_FILE));
+    /* each frame is synced, the first bytes of each file, and its folder, which is closed too */
+    is("kills of a run that syncs", synced - killed >= FRAMES + 3 * ((FRAMES + IN_A_FILE - 1) / IN_A_FILE), true);
     for (int64_t room = 0; room < 1500; room += 7) {
         full_disk(room);
     }
+    lost_names();
     limited_file();
     folders();
     bytes_of_files();
     clear();
-    printf("killed %ld times\n", killed + synced);
+    puts("writer");
     return 0;
 }

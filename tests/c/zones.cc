@@ -1,6 +1,7 @@
 /* Zones on many threads, in two sessions of one program, with zones of a C file; the folder for files is the first argument. */
 #include "puffin.hpp"
 #include <algorithm>
+#include <atomic>
 #include <cstdio>
 #include <cstdlib>
 #include <stdexcept>
@@ -106,6 +107,38 @@ static void threads(puffin::Session &session) {
     CALL(puffin_check_file(file.data(), file.size(), &frames, &offset, &read));
 }
 
+/* A place for each number, which four threads reach at once. */
+template <int number> static void place(std::atomic<int> &arrived) {
+    for (arrived++; arrived < 4 * (number + 1);) {
+        std::this_thread::yield();
+    }
+    PUFFIN_ZONE("shared place");
+}
+template <int number> struct Places {
+    static void reach(std::atomic<int> &arrived) {
+        Places<number - 1>::reach(arrived);
+        place<number - 1>(arrived);
+    }
+};
+template <> struct Places<0> {
+    static void reach(std::atomic<int> &) {}
+};
+
+static void shared_places(puffin::Session &session) {
+    std::atomic<int> arrived(0);
+    std::vector<std::thread> all;
+    for (int number = 0; number < 4; number++) {
+        all.emplace_back([&arrived] { Places<100>::reach(arrived); });
+    }
+    for (auto &it : all) {
+        it.join();
+    }
+    is("zones of shared places", scopes_of_frame(session), 400);
+    CALL(session.save(folder + "/zones.puffin"));
+    read_file(folder + "/zones.puffin");
+    is("shared places", count_of("shared place"), 100);
+}
+
 static int evaluated;
 static const char *text() {
     evaluated++;
@@ -153,6 +186,7 @@ static void named(puffin::Session &session) {
     CALL(session.save(folder + "/zones.puffin"));
     read_file(folder + "/zones.puffin");
     is("the first name", count_of(std::string(62, 'x') + "\xC3"), 0);
+    is("the first name, cut", count_of(std::string(62, 'x')), 1);
     is("the second name", count_of("anew"), 1);
 }
 
@@ -203,6 +237,7 @@ static void first_session() {
     CALL(session.open_fault());
     is("a second session", second.open_fault(), PUFFIN_IS_OPEN);
     threads(session);
+    shared_places(session);
     switched(session);
     thrown(session);
     named(session);
@@ -224,8 +259,17 @@ static void sessions() {
             PUFFIN_ZONE("open at the end");
             puffin_session_close();
         }
+        const std::uint64_t refused = puffin_zones_refused();
         puffin::Session session;
         CALL(session.open_fault());
+        {
+            PUFFIN_ZONE("of the second session");
+            puffin_session_close();
+            CALL(puffin_session_open());
+            PUFFIN_ZONE("within a zone of another session");
+        }
+        is("a zone that can't begin", puffin_zones_refused() - refused, 1);
+        is("zones of another session", scopes_of_frame(session), 0);
         work(2);
         std::thread(work, 1).join();
         is("zones of the next session", scopes_of_frame(session), 9);
@@ -246,7 +290,7 @@ int main(int argc, char **argv) {
     first_session();
     const std::uint64_t refused = puffin_zones_refused();
     sessions();
-    is("refused", puffin_zones_refused() - refused, 0);
+    is("refused", puffin_zones_refused() - refused, 1);
     std::puts("zones");
     return 0;
 }
