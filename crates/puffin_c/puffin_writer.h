@@ -1,7 +1,7 @@
 /* Writes a profiler's frames to .puffin files as they come, for programs that run for hours. Header only; POSIX.
  *
- * Each file begins with a frame that lists all names, so it can be read by itself. A file has its name only once its first four
- * letters are in it; until then it is game.puffin.part. So whenever the program is killed, each file that has a name is read up to
+ * Each file begins with a frame that lists all names, so it can be read by itself. A file game.puffin has its name only once its
+ * first four letters are in it; until then it is game.puffin.part. So whenever the program is killed, each file that has a name is read up to
  * its last whole frame, and no frame is lost that a call returned PUFFIN_OK for (if the machine stops too: with `syncs`).
  *
  * The calls return 0 or the number of a fault, like those of puffin.h. PUFFIN_NOT_WRITTEN means that the system refused something;
@@ -17,6 +17,9 @@
 #include <stdlib.h>
 #include <sys/stat.h>
 #include <unistd.h>
+#ifndef O_CLOEXEC
+#error "puffin_writer.h needs POSIX: compile for gnu99 or newer, or define _POSIX_C_SOURCE as 200809L"
+#endif
 #ifdef __cplusplus
 extern "C" {
 #endif

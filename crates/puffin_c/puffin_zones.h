@@ -64,6 +64,11 @@ PUFFIN_INLINE_ uint64_t puffin_zones_refused(void) {
     return 0;
 }
 #else
+#if !defined(__GNUC__)
+#error "puffin_zones.h needs GCC or clang; with PUFFIN_OFF defined any compiler takes it"
+#elif !defined(CLOCK_MONOTONIC) || defined(PUFFIN_NO_CLOCK)
+#error "puffin_zones.h needs a clock: compile for gnu99 or newer, or define _POSIX_C_SOURCE as 200809L, and not PUFFIN_NO_CLOCK"
+#endif
 
 /* What all files of a program share. */
 #define PUFFIN_SHARED_ __attribute__((weak))
@@ -241,7 +246,9 @@ PUFFIN_INLINE_ void puffin_zones_name_(const char *name, size_t size) {
         }
     }
     memset(own->name, 0, sizeof own->name);
-    memcpy(own->name, name, size);
+    if (size > 0) {
+        memcpy(own->name, name, size);
+    }
     own->is_renamed = true;
     if (own->depth == 0) {
         puffin_zones_leave_(own);
@@ -250,7 +257,7 @@ PUFFIN_INLINE_ void puffin_zones_name_(const char *name, size_t size) {
 /* Names this thread, from its next outermost zone on. A name is cut to 63 bytes. A thread without a name has the system's name for
  * it, but that which opens the session is "main". */
 PUFFIN_INLINE_ void puffin_zones_thread(const char *name) {
-    puffin_zones_name_(name, strlen(name));
+    puffin_zones_name_(name, puffin_text_size_(name));
 }
 
 /* Opens the session of the program. Fails with PUFFIN_IS_OPEN, or PUFFIN_MEMORY. */

@@ -11,36 +11,38 @@ SANITIZERS = {"the address sanitizer": "address,undefined", "the thread sanitize
 
 def without_warnings(programs):
     """The headers as the strictest programs compile them."""
-    for compiler in filter(is_there, {C_COMPILER, "gcc", "clang"}):
+    bare = programs.place / "bare.c"
+    bare.write_text('#include "puffin.h"\nint main(void) { return (int)puffin_interface() - PUFFIN_INTERFACE; }\n')
+    for compiler in filter(is_there, (C_COMPILER, "clang")):
         for standard in C_STANDARDS:
-            # the names of POSIX, which puffin_writer.h and puffin_zones.h need
+            # the names of POSIX, which puffin_writer.h and puffin_zones.h need, and puffin.h does not
             posix = [] if standard.startswith("gnu") else ["-D_POSIX_C_SOURCE=200809L"]
-            for off in ([], ["-DPUFFIN_OFF"]):
-                words = [compiler, f"-std={standard}", *posix, *off, *WARNINGS, "-O2", "-c", "-o", "/dev/null"]
-                programs.built(f"game.c as {standard} by {compiler}", *words, HERE / "game.c")
-            bare = programs.place / "bare.c"
-            bare.write_text('#include "puffin.h"\nint main(void) { return (int)puffin_interface() - PUFFIN_INTERFACE; }\n')
-            programs.built(f"puffin.h as {standard}", compiler, f"-std={standard}", *WARNINGS, "-c", "-o", "/dev/null", bare)
+            words = [compiler, f"-std={standard}", *WARNINGS, "-O2", "-c", "-o", "/dev/null"]
+            programs.built(f"game.c as {standard} by {compiler}", *words, *posix, HERE / "game.c")
+            if posix:
+                programs.built(f"puffin.h as {standard} by {compiler}", *words, bare)
+        programs.built(f"game.c with PUFFIN_OFF by {compiler}", *words, "-DPUFFIN_OFF", *posix, HERE / "game.c")
     for compiler in filter(is_there, ("g++", "clang++")):
         for standard in CXX_STANDARDS:
-            words = [compiler, f"-std={standard}", *WARNINGS, "-Wold-style-cast", "-O2", "-c", "-o", "/dev/null"]
-            for off in ([], ["-DPUFFIN_OFF"]):
-                programs.built(f"game.cc as {standard} by {compiler}", *words, *off, HERE / "game.cc")
-            programs.built(f"puffin.hpp as {standard}", *words, "-fno-exceptions", "-x", "c++", HEADER / "puffin.hpp")
+            words = [compiler, f"-std={standard}", *WARNINGS, "-Wold-style-cast", "-fno-exceptions", "-c", "-o", "/dev/null"]
+            programs.built(f"game.cc as {standard} by {compiler}", *words, HERE / "game.cc")
+        programs.built(f"game.cc with PUFFIN_OFF by {compiler}", *words, "-DPUFFIN_OFF", HERE / "game.cc")
+        programs.built(f"scopes.cc as C++17 by {compiler}", compiler, "-std=c++17", *STRICT, "-c", "-o", "/dev/null", HERE / "scopes.cc")
     ignored = programs.place / "ignored.c"
     ignored.write_text('#include "puffin.h"\nint main(void) { PuffinIds ids = {0}; puffin_ids_open(&ids); return 0; }\n')
     got = run(C_COMPILER, *STRICT, "-c", "-o", "/dev/null", ignored)
     programs.check("a result that has to be looked at", got.returncode != 0 and b"unused-result" in got.stderr, got.stderr)
 
 
-def watched(programs, name, build, *words, printed=None, by_valgrind=True):
-    """Runs a program by itself, by valgrind, and built with each sanitizer. `build` makes it with more words for the compiler."""
+def watched(programs, name, build, *words, printed=None, sanitizers=SANITIZERS, by_valgrind=False):
+    """Runs a program by itself, and built with each sanitizer. `build` makes it with more words for the compiler."""
     program = programs.place / name
     if build(program, []):
         programs.ran(name, program, *words, printed=printed)
         if by_valgrind:
             programs.ran_by_valgrind(name, program, *words)
-    for what, sanitizer in SANITIZERS.items():
+    for what in sanitizers:
+        sanitizer = SANITIZERS[what]
         bare = programs.place / "bare.c"
         bare.write_text("int main(void) { return 0; }\n")
         if run(C_COMPILER, f"-fsanitize={sanitizer}", bare, "-o", programs.place / "bare").returncode:
@@ -56,7 +58,7 @@ def writer(programs):
         words = ["-std=gnu11", *STRICT, "-O1", *words, HERE / "writer.c", programs.library, programs.kit, WRAPPED]
         return programs.built("writer.c", C_COMPILER, *words, "-o", program)
 
-    watched(programs, "writer", build, programs.place, printed=b"writer\n", by_valgrind=False)
+    watched(programs, "writer", build, programs.place, printed=b"writer\n", sanitizers=["the address sanitizer"])
 
 
 def zones(programs):
@@ -71,7 +73,7 @@ def zones(programs):
         more = [HERE / "zones.cc", part, programs.library, programs.kit, "-pthread", "-o", program]
         return made and programs.built("zones.cc", "c++", "-std=c++11", *words, *more)
 
-    watched(programs, "zones", build, programs.place, printed=b"zones\n")
+    watched(programs, "zones", build, programs.place, printed=b"zones\n", by_valgrind=True)
 
 
 def games(programs):

@@ -46,6 +46,9 @@ static bool are_off() {
     CALL(thread.set_scopes_on(false));
     {
         PUFFIN_SCOPE(thread, 1, "off");
+#if __cplusplus >= 201703L
+        PUFFIN_SCOPE(thread, 1, std::string_view("off"));
+#endif
     }
     CALL(thread.discard(scopes));
     return !thread.are_scopes_on() && scopes == 0;
@@ -66,7 +69,8 @@ static bool is_moved() {
 
 /* The packet of the frame behind the letters of a file is a file, which has both threads. */
 static bool is_seen() {
-    std::vector<std::uint8_t> file(PUFFIN_FILE_START, PUFFIN_FILE_START + 4);
+    const std::string start = PUFFIN_FILE_START;
+    std::vector<std::uint8_t> file(start.begin(), start.end());
     auto append = [&file](const std::uint8_t *bytes, std::size_t size) { file.insert(file.end(), bytes, bytes + size); };
     CALL(profiler.packet(append));
     PuffinFileThread threads[3];

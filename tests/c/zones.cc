@@ -128,15 +128,15 @@ static void shared_places(puffin::Session &session) {
     std::atomic<int> arrived(0);
     std::vector<std::thread> all;
     for (int number = 0; number < 4; number++) {
-        all.emplace_back([&arrived] { Places<100>::reach(arrived); });
+        all.emplace_back([&arrived] { Places<20>::reach(arrived); });
     }
     for (auto &it : all) {
         it.join();
     }
-    is("zones of shared places", scopes_of_frame(session), 400);
+    is("zones of shared places", scopes_of_frame(session), 80);
     CALL(session.save(folder + "/zones.puffin"));
     read_file(folder + "/zones.puffin");
-    is("shared places", count_of("shared place"), 100);
+    is("shared places", count_of("shared place"), 20);
 }
 
 static int evaluated;
