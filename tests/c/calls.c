@@ -726,7 +726,6 @@ int main(int argc, char **argv) {
     counting();
     listing();
     limiting();
-    naming();
     switching();
     for (int i = 0; i < 2; i++) {
         pthread_create(&threads[i], NULL, record, &works[i]);
@@ -739,6 +738,7 @@ int main(int argc, char **argv) {
     }
     discarding();
     sharing();
+    naming();
     user_scopes();
     CALL(puffin_new_frame(&profiler, &frame));
     is("frame", frame.is_some, true);

@@ -86,9 +86,9 @@ def games(programs):
         if programs.built(source, *words, programs.library, programs.kit, "-pthread", "-o", program):
             programs.ran(source, program, cwd=programs.place)
             programs.check(f"the file of {source}", file.is_file() and file.read_bytes().startswith(b"PUF0"))
-            if programs.tool:
-                told = run(programs.tool, "count", file).stdout
-                programs.check(f"puffin-tool counts the file of {source}", told.startswith(b"frames 100 scopes 200"), told)
+            if programs.look:
+                told = run(programs.look, "folded", file).stdout
+                programs.check(f"puffin-look shows the zones of {source}", b"turn" in told and b"turn;update " in told, told)
             file.unlink(missing_ok=True)
         if programs.built(f"{source} with PUFFIN_OFF", *words, "-DPUFFIN_OFF", "-o", program):
             programs.ran(f"{source} with PUFFIN_OFF", program, cwd=programs.place)
