@@ -1,12 +1,11 @@
 """What the headers have inline: zones, the file writer and texts, without a warning in each standard, and watched by sanitizers."""
 
-from .programs import C_COMPILER, HEADER, HERE, STRICT, is_there, run
+from .programs import ADDRESSES, C_COMPILER, HEADER, HERE, STRICT, is_there, run
 
 WARNINGS = ["-Wall", "-Wextra", "-Wpedantic", "-Wconversion", "-Wshadow", "-Werror", "-I", HEADER]
 C_STANDARDS = ("c99", "gnu99", "c11", "c17", "gnu17", "c2x")
 CXX_STANDARDS = ("c++11", "c++14", "c++17", "gnu++17", "c++20", "c++2b")
 WRAPPED = "-Wl,--wrap=write,--wrap=rename,--wrap=close,--wrap=fsync"
-SANITIZERS = {"the address sanitizer": "address,undefined", "the thread sanitizer": "thread"}
 
 
 def without_warnings(programs):
@@ -34,46 +33,20 @@ def without_warnings(programs):
     programs.check("a result that has to be looked at", got.returncode != 0 and b"unused-result" in got.stderr, got.stderr)
 
 
-def watched(programs, name, build, *words, printed=None, sanitizers=SANITIZERS, by_valgrind=False):
-    """Runs a program by itself, and built with each sanitizer. `build` makes it with more words for the compiler."""
-    program = programs.place / name
-    if build(program, []):
-        programs.ran(name, program, *words, printed=printed)
-        if by_valgrind:
-            programs.ran_by_valgrind(name, program, *words)
-    for what in sanitizers:
-        sanitizer = SANITIZERS[what]
-        bare = programs.place / "bare.c"
-        bare.write_text("int main(void) { return 0; }\n")
-        if run(C_COMPILER, f"-fsanitize={sanitizer}", bare, "-o", programs.place / "bare").returncode:
-            print(f"left out: {what}")
-        elif build(program, [f"-fsanitize={sanitizer}", "-g"]):
-            programs.ran(f"{name} with {what}", program, *words, printed=printed)
-
-
 def writer(programs):
     """The files of PuffinWriter."""
-
-    def build(program, words):
-        words = ["-std=gnu11", *STRICT, "-O1", *words, HERE / "writer.c", programs.library, programs.kit, WRAPPED]
-        return programs.built("writer.c", C_COMPILER, *words, "-o", program)
-
-    watched(programs, "writer", build, programs.place, printed=b"writer\n", sanitizers=["the address sanitizer"])
+    words = ["-std=gnu11", *STRICT, "-O1", HERE / "writer.c", programs.library, programs.kit, WRAPPED]
+    programs.watched("writer.c", C_COMPILER, *words, given=[programs.place], printed=b"writer\n", by=[ADDRESSES])
 
 
 def zones(programs):
     """Zones on many threads; C and C++ files share one session."""
-    if not is_there("c++"):
-        return
-
-    def build(program, words):
-        part = programs.place / "zones_c.o"
-        words = [*STRICT, "-O1", *words]
-        made = programs.built("zones_c.c", C_COMPILER, "-std=gnu99", *words, "-c", HERE / "zones_c.c", "-o", part)
-        more = [HERE / "zones.cc", part, programs.library, programs.kit, "-pthread", "-o", program]
-        return made and programs.built("zones.cc", "c++", "-std=c++11", *words, *more)
-
-    watched(programs, "zones", build, programs.place, printed=b"zones\n", by_valgrind=True)
+    part = programs.place / "zones_c.o"
+    words = ["-std=gnu99", *STRICT, "-c", HERE / "zones_c.c", "-o", part]
+    if is_there("c++") and programs.built("zones_c.c", C_COMPILER, *words):
+        words = ["-std=c++11", *STRICT, "-O1", HERE / "zones.cc", part, programs.library, programs.kit, "-pthread"]
+        program = programs.watched("zones.cc", "c++", *words, given=[programs.place], printed=b"zones\n")
+        programs.ran_by_valgrind("zones.cc", program, programs.place)
 
 
 def games(programs):

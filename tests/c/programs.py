@@ -12,6 +12,7 @@ HEADER = common.ROOT / "crates" / "puffin_c"
 BINDINGS = common.ROOT / "bindings"
 C_COMPILER = os.environ.get("CC", "cc")
 STRICT = ["-Wall", "-Wextra", "-Werror", "-I", HEADER]
+ADDRESSES, THREADS = "address,undefined", "thread"
 
 
 def run(*words, cwd=None, **variables):
@@ -54,6 +55,21 @@ class Programs:
         is_fine = got.returncode == 0 and printed in (None, got.stdout)
         self.check(what, is_fine, got.stdout + got.stderr)
         return got.stdout
+
+    def watched(self, name, compiler, *words, given=(), printed=None, by=(ADDRESSES, THREADS)):
+        """Builds a program with these words, and once more with each sanitizer that the compiler has, and runs each."""
+        program = self.place / name.partition(".")[0]
+        if self.built(name, compiler, *words, "-o", program):
+            self.ran(name, program, *given, printed=printed)
+        bare = self.place / "bare.c"
+        bare.write_text("int main(void) { return 0; }\n")
+        for sanitizer in by:
+            watched = self.place / f"{program.name}_{sanitizer}"
+            if run(C_COMPILER, f"-fsanitize={sanitizer}", bare, "-o", watched).returncode:
+                print(f"left out: -fsanitize={sanitizer}")
+            elif self.built(f"{name} with -fsanitize={sanitizer}", compiler, f"-fsanitize={sanitizer}", "-g", *words, "-o", watched):
+                self.ran(f"{name} with -fsanitize={sanitizer}", watched, *given, printed=printed)
+        return program
 
     def ran_by_valgrind(self, what, *words):
         """Runs a program again where valgrind is there, and looks whether valgrind finds fault with it."""

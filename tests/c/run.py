@@ -18,7 +18,7 @@ import tempfile
 
 from .. import common
 from . import headers, installing, measuring
-from .programs import BINDINGS, C_COMPILER, HEADER, HERE, STRICT, Programs, is_there, run
+from .programs import ADDRESSES, BINDINGS, C_COMPILER, HEADER, HERE, STRICT, Programs, is_there, run
 
 WRAPPED = ["-Wl,--wrap=malloc", "-Wl,--wrap=realloc"]
 # frames of the long session
@@ -76,14 +76,12 @@ class Calls(Programs):
     def calls(self):
         """The C program: each call, and each allocation refused in turn."""
         words = ["-std=c11", *STRICT, "-O1", HERE / "calls.c", self.library, self.kit, *WRAPPED, "-lpthread"]
-        program = self.place / "calls"
-        if not self.built("calls.c", C_COMPILER, *words, "-o", program):
-            return
-        got = run(program, self.place / "file")
-        self.check("calls.c", got.returncode == 0, got.stderr)
-        self.check_report("puffin-tool reports the file of calls.c", "1000:main", is_calls_report)
-        self.looked("calls", self.place / "file", 0)
-        self.refusals(program, got.stdout)
+        program = self.watched("calls.c", C_COMPILER, *words, given=[self.place / "file"])
+        if program.is_file():
+            usual = self.ran("calls.c", program, self.place / "file")
+            self.check_report("puffin-tool reports the file of calls.c", "1000:main", is_calls_report)
+            self.looked("calls", self.place / "file", 0)
+            self.refusals(program, usual)
 
     def looked(self, source, file, index):
         """What each word of puffin-look prints of the file of a C program; of the word `frame`, the frame with this index."""
@@ -104,11 +102,8 @@ class Calls(Programs):
             calls += told
             self.check(f"allocation {refused} refused", got.returncode == 0 and made >= refused and told <= 1, got.stderr + got.stdout)
         self.check("some call is refused for memory", calls > 0)
-        if not is_there("valgrind"):
-            return
         for refused in (0, number // 3, number - 2):
-            got = run("valgrind", "--error-exitcode=9", "--leak-check=full", "-q", program, self.place / "file", refused)
-            self.check(f"valgrind, allocation {refused} refused", got.returncode == 0, got.stderr)
+            self.ran_by_valgrind(f"calls.c, allocation {refused} refused,", program, self.place / "file", refused)
 
     def viewer(self):
         """The threads, frames and scopes of the file that calls.c wrote."""
@@ -119,17 +114,12 @@ class Calls(Programs):
             self.ran_by_valgrind("viewer.c", program, self.place / "file")
 
     def damaged(self):
-        """The listings over damaged files of the file that calls.c wrote, where the address sanitizer is there also watched by it."""
-        words = ["-std=gnu11", *STRICT, "-O1", HERE / "damaged.c", self.library, self.kit]
+        """The listings over damaged files of the file that calls.c wrote."""
         # the file twice over is cut at each byte, and each byte is changed in eight ways; one more file has many streams
         size = 2 * (self.place / "file").stat().st_size - 4
         printed = b"files %d\n" % (size + 1 + 8 * size + 1)
-        for name, more in (("damaged.c", []), ("damaged.c with the address sanitizer", ["-fsanitize=address,undefined", "-g"])):
-            program = self.place / "damaged"
-            if more and run(C_COMPILER, *more, *words, "-o", program).returncode:
-                print("left out: the address sanitizer")
-            elif self.built(name, C_COMPILER, *more, *words, "-o", program):
-                self.ran(name, program, self.place / "file", printed=printed)
+        words = ["-std=gnu11", *STRICT, "-O1", HERE / "damaged.c", self.library, self.kit]
+        self.watched("damaged.c", C_COMPILER, *words, given=[self.place / "file"], printed=printed, by=[ADDRESSES])
 
     def totals(self):
         """A thread's merged scopes."""
@@ -190,17 +180,10 @@ class Calls(Programs):
             self.check(f"sizes.c by {compiler}", got.returncode == 0, got.stdout)
 
     def scopes(self):
-        """The program over puffin.hpp, on two threads; also where the sanitizer watches them."""
-        if not is_there("c++"):
-            return
-        words = ["-std=c++11", *STRICT, "-pedantic", HERE / "scopes.cc", self.library, self.kit, "-lpthread"]
-        for name, more in (("scopes.cc", []), ("scopes.cc with the thread sanitizer", ["-fsanitize=thread", "-g"])):
-            program = self.place / "scopes"
-            if more and run("c++", *more, *words, "-o", program).returncode:
-                print("left out: the thread sanitizer")
-            elif self.built(name, "c++", *more, *words, "-o", program):
-                got = run(program, self.place / "file")
-                self.check(name, got.returncode == 0, got.stderr)
+        """The program over puffin.hpp, on two threads."""
+        if is_there("c++"):
+            words = ["-std=c++11", *STRICT, "-pedantic", HERE / "scopes.cc", self.library, self.kit, "-lpthread"]
+            self.watched("scopes.cc", "c++", *words, given=[self.place / "file"])
 
     def long(self):
         """A long session, in files that are read as soon as they are whole, and in little memory."""
@@ -208,14 +191,10 @@ class Calls(Programs):
         program = self.place / "long"
         if not self.built("long.c", C_COMPILER, *words, "-o", program):
             return
-        got = run(program, FRAMES, self.place)
-        self.check("long.c", got.returncode == 0 and got.stdout == b"frames %d\n" % FRAMES, got.stderr)
-        got = run(program, 3, self.place)
-        self.check("long.c of three frames", got.returncode == 0 and got.stdout == b"frames 3\n", got.stderr)
+        for frames in (FRAMES, 3):
+            self.ran(f"long.c of {frames} frames", program, frames, self.place, printed=b"frames %d\n" % frames)
         self.looked("long", self.place / "long.puffin", 1)
-        if is_there("valgrind"):
-            got = run("valgrind", "--error-exitcode=9", "--leak-check=full", "-q", program, 200, self.place)
-            self.check("long.c by valgrind", got.returncode == 0, got.stderr)
+        self.ran_by_valgrind("long.c", program, 200, self.place)
 
     def bindings(self):
         """The Rust crate: its tests, and its examples, which profile themselves."""
