@@ -1,4 +1,5 @@
 /* The calls of libpuffin_c.a, for C programs, from C99 on, and for C++ programs, from C++11 on. docs/C.md says how to link it.
+ * puffin_zones.h has scopes without handles, puffin_writer.h writes files as frames come, and puffin.hpp has both for C++.
  *
  * Each call that returns a uint32_t returns 0, or the number of a fault (below). A call that fails changes nothing, unless its
  * comment says otherwise.
@@ -18,13 +19,12 @@
  * - Make no call from a signal handler, or in a forked child of a process with threads.
  * - malloc, realloc and free must belong together, and must align memory as the C standard demands.
  * - Leave each call as much stack as it takes at most, whatever bytes and scopes it gets:
- *     1 KiB: puffin_version, puffin_interface, puffin_fault_name, puffin_ids_open, puffin_ids_close, puffin_thread_open,
- *       puffin_thread_close, puffin_profiler_open, puffin_profiler_close, puffin_begin, puffin_end, puffin_set_scopes_on,
- *       puffin_set_max_bytes, puffin_set_max_pending, puffin_set_limits, puffin_snapshot, puffin_thread_discard, puffin_view_clear,
- *       puffin_count
- *     4 KiB: puffin_register_function, puffin_register_scope, puffin_report, puffin_user_scopes, puffin_file_begin,
- *       puffin_file_next, puffin_frame_begin, puffin_frame_next, puffin_scopes, puffin_check_file, puffin_frame_streams,
- *       puffin_file_threads
+ *     1 KiB: puffin_version, puffin_interface, puffin_fault_name, puffin_ids_open, puffin_thread_open, puffin_profiler_open,
+ *       puffin_begin, puffin_end, puffin_set_scopes_on, puffin_set_max_bytes, puffin_set_max_pending, puffin_set_limits,
+ *       puffin_snapshot, puffin_thread_discard, puffin_count
+ *     4 KiB: puffin_ids_close, puffin_thread_close, puffin_profiler_close, puffin_view_clear, puffin_register_function,
+ *       puffin_register_scope, puffin_report, puffin_user_scopes, puffin_file_begin, puffin_file_next, puffin_frame_begin,
+ *       puffin_frame_next, puffin_scopes, puffin_check_file, puffin_frame_streams, puffin_file_threads
  *     8 KiB: puffin_new_frame
  *     192 KiB: puffin_merge_view, puffin_merge_file
  */

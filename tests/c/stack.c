@@ -1,18 +1,18 @@
 /* Prints how many bytes of stack each call of puffin.h takes, on a stack that is painted before: of scopes that are nested as deep as
- * they may be, and deeper. Each line has a call and its bytes. */
+ * they may be, and deeper, and of frames of many threads and names. Each line has bytes and calls. */
 #define _GNU_SOURCE
 #include "puffin.h"
 #include <pthread.h>
 #include <stdio.h>
 #include <stdlib.h>
 
-enum { DEEP = 1024, DEEPER = 20000, STACK = 4 << 20, PAINT = 0xA5 };
+enum { DEEP = 1024, DEEPER = 20000, WIDE = 3000, STACK = 4 << 20, PAINT = 0xA5 };
 
 static PuffinIds ids;
 static PuffinThread thread;
 static PuffinProfiler profiler;
-static uint8_t *file, *deeper_file, *stream, *deeper_stream;
-static uint64_t file_size, deeper_file_size;
+static uint8_t *file, *deeper_file, *wide_file, *stream, *deeper_stream;
+static uint64_t file_size, deeper_file_size, wide_file_size;
 static void (*measured)(void);
 static uint8_t *stack;
 static size_t bytes_taken;
@@ -106,6 +106,12 @@ static void reading(uint32_t (*begin)(PuffinProfiler *, uint64_t *), uint32_t (*
 }
 static void file_reading(void) { reading(puffin_file_begin, puffin_file_next); }
 static void frame_reading(void) { reading(puffin_frame_begin, puffin_frame_next); }
+/* Closes the handles that have most in them: the last calls. */
+static void close_all(void) {
+    LOOKED_AT(puffin_thread_close(&thread));
+    LOOKED_AT(puffin_profiler_close(&profiler));
+    LOOKED_AT(puffin_ids_close(&ids));
+}
 static void count(void) {
     PuffinCount got;
     LOOKED_AT(puffin_count(deeper_stream, 31 * DEEPER, false, &got));
@@ -117,20 +123,24 @@ static void scopes(void) {
 static void check_file(void) {
     uint64_t frames, offset, got;
     LOOKED_AT(puffin_check_file(deeper_file, deeper_file_size, &frames, &offset, &got));
+    LOOKED_AT(puffin_check_file(wide_file, wide_file_size, &frames, &offset, &got));
 }
 static void frame_streams(void) {
     PuffinFrame frame;
     uint64_t next;
     PuffinLists sizes;
     LOOKED_AT(puffin_frame_streams(deeper_file, deeper_file_size, 0, &frame, &next, NULL, 0, NULL, 0, &sizes));
+    LOOKED_AT(puffin_frame_streams(wide_file, wide_file_size, 0, &frame, &next, NULL, 0, NULL, 0, &sizes));
 }
 static void file_threads(void) {
     PuffinLists sizes;
     LOOKED_AT(puffin_file_threads(deeper_file, deeper_file_size, NULL, 0, NULL, 0, &sizes));
+    LOOKED_AT(puffin_file_threads(wide_file, wide_file_size, NULL, 0, NULL, 0, &sizes));
 }
 static void merge_file(void) {
     PuffinLists sizes;
     LOOKED_AT(puffin_merge_file_str(file, file_size, true, 5, "deep", NULL, 0, NULL, 0, &sizes));
+    LOOKED_AT(puffin_merge_file_str(wide_file, wide_file_size, true, 5, "2", NULL, 0, NULL, 0, &sizes));
     LOOKED_AT(puffin_merge_file_str(deeper_file, deeper_file_size, true, 5, "deep", NULL, 0, NULL, 0, &sizes));
 }
 static void merge_view(void) {
@@ -165,6 +175,7 @@ static const struct {
     {"puffin_frame_streams", frame_streams},
     {"puffin_file_threads", file_threads},
     {"puffin_merge_file", merge_file},
+    {"puffin_thread_close puffin_profiler_close puffin_ids_close", close_all},
 };
 
 /* The bytes of scopes that are nested so deep. */
@@ -183,11 +194,24 @@ static uint8_t *nested(size_t deep) {
     return bytes;
 }
 
+/* Scopes and a name for each of many threads, which wait for a frame. */
+static uint32_t wait_wide(void) {
+    uint32_t fault = PUFFIN_OK, id;
+    for (int i = 0; i < WIDE; i++) {
+        char name[20];
+        snprintf(name, sizeof name, "%d", i * 7919 % WIDE);
+        fault |= puffin_register_function_str(&profiler, name, "stack.c", 1, &id);
+        fault |= puffin_user_scopes_str(&profiler, true, WIDE - i, name, stream + 22 * (DEEP - 1), 31, false);
+    }
+    return fault;
+}
+
 /* The file of one frame of these scopes, which the view has too. */
 static uint8_t *file_of(const uint8_t *bytes, size_t size, uint64_t *file_bytes) {
     PuffinFrame frame;
     uint8_t *made;
-    uint32_t fault = puffin_view_clear(&profiler) | puffin_user_scopes_str(&profiler, true, 5, "deep", bytes, size, false);
+    uint32_t fault = puffin_view_clear(&profiler);
+    fault |= bytes ? puffin_user_scopes_str(&profiler, true, 5, "deep", bytes, size, false) : wait_wide();
     fault |= puffin_new_frame(&profiler, &frame) | puffin_file_begin(&profiler, file_bytes);
     made = malloc(*file_bytes);
     fault |= puffin_file_next(&profiler, made, *file_bytes, file_bytes);
@@ -204,11 +228,18 @@ int main(void) {
     if (puffin_ids_open(&ids) | puffin_profiler_open(&profiler, &ids) | puffin_thread_open_str(&thread, &ids, "main", false)) {
         return 3;
     }
+    wide_file = file_of(NULL, 0, &wide_file_size);
     deeper_file = file_of(deeper_stream, 31 * DEEPER, &deeper_file_size);
     file = file_of(stream, 31 * DEEP, &file_size);
     for (size_t i = 0; i < sizeof calls / sizeof *calls; i++) {
-        if (calls[i].function == report || calls[i].function == discard) {
+        if (calls[i].function == report || calls[i].function == discard || calls[i].function == close_all) {
             begin_and_end();
+        }
+        if ((calls[i].function == new_frame || calls[i].function == close_all) && wait_wide() != PUFFIN_OK) {
+            return 3;
+        }
+        if (calls[i].function == close_all) {
+            new_frame();
         }
         printf("%zu %s\n", bytes_of(calls[i].function), calls[i].name);
     }
