@@ -65,10 +65,28 @@ static void check(const char *path, uint64_t wanted) {
     }
 }
 
+static char newest[512], older[512];
+
+/* Looks at the frame with this number: it is written, a file that is whole has all of its frames, and memory doesn't grow. */
+static void look(unsigned long number, const PuffinFrame *frame, const PuffinWriter *writer) {
+    static long early;
+    if (!frame->is_some || frame->index != number || writer->frames != number % FRAMES_OF_A_FILE + 1) {
+        fail("the frame's index", frame->index);
+    }
+    if (writer->frames == FRAMES_OF_A_FILE) {
+        check(newest, FRAMES_OF_A_FILE);
+    }
+    if (number == FRAMES_OF_A_FILE + 100) {
+        early = kilobytes();
+        check(older, FRAMES_OF_A_FILE);
+    }
+    if (number % 1000 == 0 && early && kilobytes() - early > 1024) {
+        fail("kilobytes more than after the first file", (unsigned long long)(kilobytes() - early));
+    }
+}
+
 int main(int argc, char **argv) {
     unsigned long frames = argc > 2 ? strtoul(argv[1], NULL, 10) : 0;
-    char newest[512], older[512];
-    long early = 0;
     PuffinFrame frame;
     snprintf(newest, sizeof newest, "%s/long.puffin", argc > 2 ? argv[2] : ".");
     snprintf(older, sizeof older, "%s/long.1.puffin", argc > 2 ? argv[2] : ".");
@@ -82,9 +100,9 @@ int main(int argc, char **argv) {
     }
     /* listing: writer */
     PuffinWriter writer = {0};
-    writer.path = newest;       /* "long.puffin" */
-    writer.max_frames = 10000;  /* then the next file begins, with all names */
-    writer.older_files = 1;     /* the one before it stays, as "long.1.puffin" */
+    writer.path = newest;                     /* "long.puffin" */
+    writer.max_frames = 10000;                /* then the next file begins, with all names */
+    writer.older_files = 1;                   /* the one before it stays, as "long.1.puffin" */
     CALL(puffin_set_limits(&profiler, 1, 0)); /* the view keeps the newest frame alone */
     CALL(puffin_writer_open(&writer));
     for (unsigned long number = 0; number < frames; number++) {
@@ -92,22 +110,10 @@ int main(int argc, char **argv) {
         if (puffin_writer_frame(&writer, &profiler, &frame) == PUFFIN_NOT_WRITTEN) {
             fprintf(stderr, "%s: %s\n", writer.failed, strerror(writer.error)); /* the next frame tries again */
         }
-        /* end of listing */
-        if (!frame.is_some || frame.index != number || writer.frames != number % FRAMES_OF_A_FILE + 1) {
-            fail("the frame's index", frame.index);
-        }
-        if (writer.frames == FRAMES_OF_A_FILE) {
-            check(newest, FRAMES_OF_A_FILE);
-        }
-        if (number == FRAMES_OF_A_FILE + 100) {
-            early = kilobytes();
-            check(older, FRAMES_OF_A_FILE);
-        }
-    }
-    if (early && kilobytes() - early > 1024) {
-        fail("kilobytes more than after the first file", (unsigned long long)(kilobytes() - early));
+        look(number, &frame, &writer);
     }
     CALL(puffin_writer_close(&writer));
+    /* end of listing */
     check(newest, (frames + FRAMES_OF_A_FILE - 1) % FRAMES_OF_A_FILE + 1);
     CALL(puffin_thread_close(&thread));
     CALL(puffin_profiler_close(&profiler));

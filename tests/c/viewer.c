@@ -6,11 +6,11 @@
 #include <stdio.h>
 #include <stdlib.h>
 
+/* listing: frames */
 static void *room_for(uint64_t number, size_t size) {
     return calloc(number ? (size_t)number : 1, size);
 }
 
-/* listing: frames */
 /* Prints the scopes of a stream. Returns 0, or a fault. */
 static uint32_t print_scopes(const uint8_t *stream, uint64_t size, bool long_texts) {
     PuffinLists sizes;
