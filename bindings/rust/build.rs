@@ -1,9 +1,10 @@
 //! Names the libraries to link: `PUFFIN_LIBRARY` is the path of `libpuffin_c.a`, and `PUFFIN_KIT_LIBRARY` that of the kit's
-//! `liblibc_c.a`.
+//! `liblibc_c.a`. An installed `libpuffin.a` has what is needed of both.
 
 use std::{env, path::PathBuf, process};
 
-fn link(variable: &str) {
+/// Links the library that a variable names, and returns the library's name.
+fn link(variable: &str) -> String {
     println!("cargo:rerun-if-env-changed={variable}");
     let path = env::var_os(variable).map(PathBuf::from).unwrap_or_else(|| {
         eprintln!("set {variable} to the path of a library, as docs/C.md says");
@@ -17,9 +18,11 @@ fn link(variable: &str) {
     println!("cargo:rerun-if-changed={}", path.display());
     println!("cargo:rustc-link-search=native={}", folder.display());
     println!("cargo:rustc-link-lib=static={name}");
+    name.to_string()
 }
 
 fn main() {
-    link("PUFFIN_LIBRARY");
-    link("PUFFIN_KIT_LIBRARY");
+    if link("PUFFIN_LIBRARY") != "puffin" {
+        link("PUFFIN_KIT_LIBRARY");
+    }
 }

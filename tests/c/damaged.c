@@ -10,6 +10,7 @@
 
 #undef main
 #include <string.h>
+#include <sys/resource.h>
 #include <unistd.h>
 
 static long files, faults;
@@ -56,6 +57,7 @@ static size_t of_many_streams(uint8_t *bytes, size_t room, int number) {
 
 int main(int argc, char **argv) {
     static uint8_t bytes[1 << 17];
+    const struct rlimit minute = {60, 60};
     FILE *read = argc > 1 ? fopen(argv[1], "rb") : NULL;
     size_t one = read ? fread(bytes, 1, 8000, read) : 0, size;
     if (one < 100 || fclose(read)) {
@@ -65,7 +67,7 @@ int main(int argc, char **argv) {
     if (!freopen("/dev/null", "w", stdout)) {
         return 2;
     }
-    alarm(60); /* a loop that doesn't end is ended so */
+    setrlimit(RLIMIT_CPU, &minute); /* a loop that doesn't end is ended so */
     memcpy(bytes + one, bytes + 4, one - 4);
     size = 2 * one - 4;
     long sound = 0;

@@ -1,5 +1,5 @@
-"""Installs the library into folders of its own, and builds and runs a program by what pkg-config and CMake read there. No path is
-set when a program runs."""
+"""Installs the library into folders of its own, and builds and runs programs by what pkg-config, CMake and cargo find there. No path
+is set when a program runs."""
 
 import pathlib
 import re
@@ -93,6 +93,10 @@ def check(programs):
         shared_library(programs, libraries)
     if is_there("cmake"):
         by_cmake(programs, prefix)
+    if is_there("cargo"):
+        where = {"PUFFIN_LIBRARY": libraries / "libpuffin.a", "CARGO_TARGET_DIR": programs.place / "target"}
+        words = ["cargo", "run", "--offline", "--quiet", "--example", "rounds", programs.place / "file"]
+        programs.ran("rounds.rs by the installed archive", *words, cwd=BINDINGS / "rust", **where)
     # under DESTDIR, whose path stands in no file: what is there may be moved
     if install(programs, "--prefix", "/usr", "--libdir", "lib/x86_64-linux-gnu", DESTDIR=staged):
         moved = programs.place / "moved"
