@@ -86,7 +86,8 @@ def install(given):
         # from the text's own folder, so that an installed tree may be moved, unless the libraries lie elsewhere
         inside = given.prefix in libraries.parents
         up = os.path.relpath(given.prefix, libraries / folder) if inside else None
-        words = {"VERSION": version(), "MAJOR": version().split(".")[0], "LIBDIR": str(libraries.relative_to(given.prefix)) if inside else str(libraries)}
+        words = {"VERSION": version(), "MAJOR": version().split(".")[0]}
+        words["LIBDIR"] = str(libraries.relative_to(given.prefix) if inside else libraries)
         words["PC_PREFIX"] = f"${{pcfiledir}}/{up}" if inside else str(given.prefix)
         words["PC_LIBDIR"] = "${prefix}/" + words["LIBDIR"] if inside else words["LIBDIR"]
         words["CMAKE_PREFIX"] = f"${{CMAKE_CURRENT_LIST_DIR}}/{up}" if inside else str(given.prefix)

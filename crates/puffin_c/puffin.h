@@ -123,13 +123,15 @@ typedef struct PuffinCount {
 
 /* Counts the scopes of a stream, which has long texts if long_texts is set. Fails with the first fault in the bytes, or with
  * PUFFIN_MEMORY. */
-PUFFIN_RESULT_ uint32_t puffin_count(const uint8_t *bytes, size_t size, bool long_texts, PuffinCount *count);
+PUFFIN_RESULT_
+uint32_t puffin_count(const uint8_t *bytes, size_t size, bool long_texts, PuffinCount *count);
 
 /* Reads a file, and sets *frames to the number of its frames, *offset to the offset at which the last of them ends, and *read to
  * how many bytes were read. Fails with the first fault in the file; *frames is then the number of frames that were read before
  * the fault, or before memory ran out. The fault is in the next frame, which begins at *offset, or at the file's beginning if
  * *offset is 0: in the last part that was read, which ends at *read. */
-PUFFIN_RESULT_ uint32_t puffin_check_file(const uint8_t *file, size_t size, uint64_t *frames, uint64_t *offset, uint64_t *read);
+PUFFIN_RESULT_
+uint32_t puffin_check_file(const uint8_t *file, size_t size, uint64_t *frames, uint64_t *offset, uint64_t *read);
 
 /* ---- the scopes of a stream, one after the other */
 
@@ -148,7 +150,8 @@ typedef struct PuffinScope {
 /* Lists the scopes of a stream, each before its children. Copies them to the front of scopes, at most room of them, and their
  * texts, one behind the other, to the front of texts. Sets *sizes to how many scopes and bytes of texts there are: a program may
  * ask with no room first. Fails like puffin_count. */
-PUFFIN_RESULT_ uint32_t puffin_scopes(const uint8_t *bytes, size_t size, bool long_texts, PuffinScope *scopes, size_t room, uint8_t *texts,
+PUFFIN_RESULT_
+uint32_t puffin_scopes(const uint8_t *bytes, size_t size, bool long_texts, PuffinScope *scopes, size_t room, uint8_t *texts,
                        size_t texts_room, PuffinLists *sizes);
 
 /* ---- the frames of a file, one after the other */
@@ -173,7 +176,8 @@ typedef struct PuffinStream {
  * streams, at most room of them, and the name of each thread, followed by its stream, to the front of bytes. Sets *sizes to how
  * many streams and bytes there are. puffin_scopes lists the scopes of a stream. At the file's end, only frame->is_some is set, to
  * false, *sizes to 0, and *next. Fails with PUFFIN_INVALID_OFFSET past the file's end, or with the frame's fault. */
-PUFFIN_RESULT_ uint32_t puffin_frame_streams(const uint8_t *file, size_t size, uint64_t offset, PuffinFrame *frame, uint64_t *next,
+PUFFIN_RESULT_
+uint32_t puffin_frame_streams(const uint8_t *file, size_t size, uint64_t offset, PuffinFrame *frame, uint64_t *next,
                               PuffinStream *streams, size_t room, uint8_t *bytes, size_t bytes_room, PuffinLists *sizes);
 
 /* What the frames of a file have of one thread. Its name is at name_at in the bytes of all names. has_start tells whether it is
@@ -187,7 +191,8 @@ typedef struct PuffinFileThread {
 /* Lists the threads of a file, ordered by start and name. Copies them to the front of threads, at most room of them, and their
  * names, one behind the other, to the front of names. Sets *sizes to how many threads and bytes of names there are. Fails with the
  * first fault in the file. */
-PUFFIN_RESULT_ uint32_t puffin_file_threads(const uint8_t *file, size_t size, PuffinFileThread *threads, size_t room, uint8_t *names,
+PUFFIN_RESULT_
+uint32_t puffin_file_threads(const uint8_t *file, size_t size, PuffinFileThread *threads, size_t room, uint8_t *names,
                              size_t names_room, PuffinLists *sizes);
 
 /* ---- the scopes of one thread, merged over frames */
@@ -208,7 +213,8 @@ typedef struct PuffinMerged {
  * and their texts, one behind the other, to the front of texts. Sets *sizes to how many merged scopes and bytes of texts there
  * are; there are none if no frame has the thread. Fails with PUFFIN_NOT_TEXT if the name isn't UTF-8, whatever the file contains.
  * Otherwise fails with the first fault in the file. */
-PUFFIN_RESULT_ uint32_t puffin_merge_file(const uint8_t *file, size_t file_size, bool has_start, int64_t start_ns, const uint8_t *name,
+PUFFIN_RESULT_
+uint32_t puffin_merge_file(const uint8_t *file, size_t file_size, bool has_start, int64_t start_ns, const uint8_t *name,
                            size_t name_size, PuffinMerged *merged, size_t room, uint8_t *texts, size_t texts_room,
                            PuffinLists *sizes);
 
@@ -219,7 +225,8 @@ typedef struct PuffinIds {
     bool is_open_;
 } PuffinIds;
 
-PUFFIN_RESULT_ uint32_t puffin_ids_open(PuffinIds *ids);
+PUFFIN_RESULT_
+uint32_t puffin_ids_open(PuffinIds *ids);
 /* Threads and profilers that were opened with the handle keep the ids. */
 uint32_t puffin_ids_close(PuffinIds *ids);
 
@@ -232,7 +239,8 @@ typedef struct PuffinThread {
 
 /* Opens a handle for the scopes of one thread, which is to report to profilers that were opened with these ids. The texts of the
  * scopes are cut to at most 127 bytes, or 16,383 if long_texts is set. */
-PUFFIN_RESULT_ uint32_t puffin_thread_open(PuffinThread *thread, PuffinIds *ids, const uint8_t *name, size_t name_size, bool long_texts);
+PUFFIN_RESULT_
+uint32_t puffin_thread_open(PuffinThread *thread, PuffinIds *ids, const uint8_t *name, size_t name_size, bool long_texts);
 /* Drops the scopes that weren't reported. */
 uint32_t puffin_thread_close(PuffinThread *thread);
 /* Gives up a thread's waiting scopes, for example those of a report that is refused again and again, and sets *scopes to how many
@@ -281,15 +289,18 @@ typedef struct PuffinProfiler {
 } PuffinProfiler;
 
 /* The view keeps the last 1,000 frames and the 256 slowest ones, unless puffin_set_limits sets other limits. */
-PUFFIN_RESULT_ uint32_t puffin_profiler_open(PuffinProfiler *profiler, PuffinIds *ids);
+PUFFIN_RESULT_
+uint32_t puffin_profiler_open(PuffinProfiler *profiler, PuffinIds *ids);
 uint32_t puffin_profiler_close(PuffinProfiler *profiler);
 
 /* Registers a function, or a scope within a function under a name of its own, and sets *id, under which any thread begins it. The
  * next frame that is made lists it, so a file has its name. Call it once for each place in the code, between any two other calls.
  * Pass 0 if the line is unknown. If the call fails, an id may be used up, and a later frame may list the scope under it. */
-PUFFIN_RESULT_ uint32_t puffin_register_function(PuffinProfiler *profiler, const uint8_t *function, size_t function_size,
+PUFFIN_RESULT_
+uint32_t puffin_register_function(PuffinProfiler *profiler, const uint8_t *function, size_t function_size,
                                   const uint8_t *file, size_t file_size, uint32_t line, uint32_t *id);
-PUFFIN_RESULT_ uint32_t puffin_register_scope(PuffinProfiler *profiler, const uint8_t *name, size_t name_size, const uint8_t *function,
+PUFFIN_RESULT_
+uint32_t puffin_register_scope(PuffinProfiler *profiler, const uint8_t *name, size_t name_size, const uint8_t *function,
                                size_t function_size, const uint8_t *file, size_t file_size, uint32_t line, uint32_t *id);
 
 /* Reports a thread's waiting scopes to a profiler: those that ended since the thread's last accepted report. Does nothing if
@@ -299,13 +310,15 @@ uint32_t puffin_report(PuffinThread *thread, PuffinProfiler *profiler);
 /* Appends the scopes of a stream to those that wait for the next frame. They are added under the thread with this name and
  * this start, or with this name and no start if has_start isn't set. The thread needn't exist. See puffin_count for bytes and
  * long_texts. Fails with the first fault in the bytes. */
-PUFFIN_RESULT_ uint32_t puffin_user_scopes(PuffinProfiler *profiler, bool has_start, int64_t start_ns, const uint8_t *name,
+PUFFIN_RESULT_
+uint32_t puffin_user_scopes(PuffinProfiler *profiler, bool has_start, int64_t start_ns, const uint8_t *name,
                             size_t name_size, const uint8_t *bytes, size_t size, bool long_texts);
 
 /* Makes a frame of everything that was reported since the last one, adds it to the view, and fills in *frame. If the call
  * fails, nothing is lost: if the view has no memory for the frame, the frame waits, and the next call adds it instead of
  * making a new one. */
-PUFFIN_RESULT_ uint32_t puffin_new_frame(PuffinProfiler *profiler, PuffinFrame *frame);
+PUFFIN_RESULT_
+uint32_t puffin_new_frame(PuffinProfiler *profiler, PuffinFrame *frame);
 /* Makes the next frame list every known scope, not only the new ones. A program that begins a new file calls it, so that the
  * file has all names. */
 uint32_t puffin_snapshot(PuffinProfiler *profiler);
@@ -321,22 +334,27 @@ uint32_t puffin_view_clear(PuffinProfiler *profiler);
 /* Merges the scopes of one thread over the newest frames of the view: over as many as frames says, or over all recent ones if
  * there are fewer. 1 means the newest frame. Gives the merged scopes like puffin_merge_file. Fails with PUFFIN_NOT_TEXT if the
  * name isn't UTF-8, or with PUFFIN_TOO_DEEP or PUFFIN_TOO_LARGE if the scopes can't be merged. */
-PUFFIN_RESULT_ uint32_t puffin_merge_view(PuffinProfiler *profiler, size_t frames, bool has_start, int64_t start_ns, const uint8_t *name,
+PUFFIN_RESULT_
+uint32_t puffin_merge_view(PuffinProfiler *profiler, size_t frames, bool has_start, int64_t start_ns, const uint8_t *name,
                            size_t name_size, PuffinMerged *merged, size_t room, uint8_t *texts, size_t texts_room,
                            PuffinLists *sizes);
 
 /* Makes a .puffin file in memory from the view's frames, and sets *size to its size in bytes. */
-PUFFIN_RESULT_ uint32_t puffin_file_begin(PuffinProfiler *profiler, uint64_t *size);
+PUFFIN_RESULT_
+uint32_t puffin_file_begin(PuffinProfiler *profiler, uint64_t *size);
 /* Copies that file's next bytes to the front of out, as many as fit, and sets *size to how many were copied: 0 at the end. */
-PUFFIN_RESULT_ uint32_t puffin_file_next(PuffinProfiler *profiler, uint8_t *out, size_t room, uint64_t *size);
+PUFFIN_RESULT_
+uint32_t puffin_file_next(PuffinProfiler *profiler, uint8_t *out, size_t room, uint64_t *size);
 
 /* A file consists of these four letters and of packets, so a program can write it as frames come. */
 #define PUFFIN_FILE_START "PUF0"
 /* Makes the packet of the view's newest frame in memory, and sets *size to its size in bytes, or to 0 if the view keeps no
  * recent frame. */
-PUFFIN_RESULT_ uint32_t puffin_frame_begin(PuffinProfiler *profiler, uint64_t *size);
+PUFFIN_RESULT_
+uint32_t puffin_frame_begin(PuffinProfiler *profiler, uint64_t *size);
 /* Copies that packet's next bytes to the front of out, as many as fit, and sets *size to how many were copied: 0 at the end. */
-PUFFIN_RESULT_ uint32_t puffin_frame_next(PuffinProfiler *profiler, uint8_t *out, size_t room, uint64_t *size);
+PUFFIN_RESULT_
+uint32_t puffin_frame_next(PuffinProfiler *profiler, uint8_t *out, size_t room, uint64_t *size);
 
 /* ---- empty texts: the calls above get a pointer that isn't NULL. Scopes that are off: no call is made, and the answer is the
  * library's own. */
@@ -345,17 +363,20 @@ PUFFIN_INLINE_ const uint8_t *puffin_bytes_(const uint8_t *bytes) {
     static const uint8_t none = 0;
     return bytes ? bytes : &none;
 }
-PUFFIN_RESULT_ PUFFIN_INLINE_ uint32_t puffin_count_(const uint8_t *bytes, size_t size, bool long_texts, PuffinCount *count) {
+PUFFIN_RESULT_
+PUFFIN_INLINE_ uint32_t puffin_count_(const uint8_t *bytes, size_t size, bool long_texts, PuffinCount *count) {
     return puffin_count(puffin_bytes_(bytes), size, long_texts, count);
 }
-PUFFIN_RESULT_ PUFFIN_INLINE_ uint32_t puffin_scopes_(const uint8_t *bytes, size_t size, bool long_texts, PuffinScope *scopes, size_t room,
+PUFFIN_RESULT_
+PUFFIN_INLINE_ uint32_t puffin_scopes_(const uint8_t *bytes, size_t size, bool long_texts, PuffinScope *scopes, size_t room,
                                        uint8_t *texts, size_t texts_room, PuffinLists *sizes) {
     PuffinScope none;
     uint8_t no_text;
     return puffin_scopes(puffin_bytes_(bytes), size, long_texts, scopes ? scopes : &none, room, texts ? texts : &no_text,
                          texts_room, sizes);
 }
-PUFFIN_RESULT_ PUFFIN_INLINE_ uint32_t puffin_frame_streams_(const uint8_t *file, size_t size, uint64_t offset, PuffinFrame *frame,
+PUFFIN_RESULT_
+PUFFIN_INLINE_ uint32_t puffin_frame_streams_(const uint8_t *file, size_t size, uint64_t offset, PuffinFrame *frame,
                                               uint64_t *next, PuffinStream *streams, size_t room, uint8_t *bytes,
                                               size_t bytes_room, PuffinLists *sizes) {
     PuffinStream none;
@@ -363,18 +384,21 @@ PUFFIN_RESULT_ PUFFIN_INLINE_ uint32_t puffin_frame_streams_(const uint8_t *file
     return puffin_frame_streams(puffin_bytes_(file), size, offset, frame, next, streams ? streams : &none, room,
                                 bytes ? bytes : &no_byte, bytes_room, sizes);
 }
-PUFFIN_RESULT_ PUFFIN_INLINE_ uint32_t puffin_file_threads_(const uint8_t *file, size_t size, PuffinFileThread *threads, size_t room,
+PUFFIN_RESULT_
+PUFFIN_INLINE_ uint32_t puffin_file_threads_(const uint8_t *file, size_t size, PuffinFileThread *threads, size_t room,
                                              uint8_t *names, size_t names_room, PuffinLists *sizes) {
     PuffinFileThread none;
     uint8_t no_name;
     return puffin_file_threads(puffin_bytes_(file), size, threads ? threads : &none, room, names ? names : &no_name,
                                names_room, sizes);
 }
-PUFFIN_RESULT_ PUFFIN_INLINE_ uint32_t puffin_check_file_(const uint8_t *file, size_t size, uint64_t *frames, uint64_t *offset,
+PUFFIN_RESULT_
+PUFFIN_INLINE_ uint32_t puffin_check_file_(const uint8_t *file, size_t size, uint64_t *frames, uint64_t *offset,
                                            uint64_t *read) {
     return puffin_check_file(puffin_bytes_(file), size, frames, offset, read);
 }
-PUFFIN_RESULT_ PUFFIN_INLINE_ uint32_t puffin_merge_file_(const uint8_t *file, size_t file_size, bool has_start, int64_t start_ns,
+PUFFIN_RESULT_
+PUFFIN_INLINE_ uint32_t puffin_merge_file_(const uint8_t *file, size_t file_size, bool has_start, int64_t start_ns,
                                            const uint8_t *name, size_t name_size, PuffinMerged *merged, size_t room,
                                            uint8_t *texts, size_t texts_room, PuffinLists *sizes) {
     PuffinMerged none;
@@ -382,7 +406,8 @@ PUFFIN_RESULT_ PUFFIN_INLINE_ uint32_t puffin_merge_file_(const uint8_t *file, s
     return puffin_merge_file(puffin_bytes_(file), file_size, has_start, start_ns, puffin_bytes_(name), name_size,
                              merged ? merged : &none, room, texts ? texts : &no_text, texts_room, sizes);
 }
-PUFFIN_RESULT_ PUFFIN_INLINE_ uint32_t puffin_merge_view_(PuffinProfiler *profiler, size_t frames, bool has_start, int64_t start_ns,
+PUFFIN_RESULT_
+PUFFIN_INLINE_ uint32_t puffin_merge_view_(PuffinProfiler *profiler, size_t frames, bool has_start, int64_t start_ns,
                                            const uint8_t *name, size_t name_size, PuffinMerged *merged, size_t room,
                                            uint8_t *texts, size_t texts_room, PuffinLists *sizes) {
     PuffinMerged none;
@@ -390,15 +415,18 @@ PUFFIN_RESULT_ PUFFIN_INLINE_ uint32_t puffin_merge_view_(PuffinProfiler *profil
     return puffin_merge_view(profiler, frames, has_start, start_ns, puffin_bytes_(name), name_size, merged ? merged : &none,
                              room, texts ? texts : &no_text, texts_room, sizes);
 }
-PUFFIN_RESULT_ PUFFIN_INLINE_ uint32_t puffin_thread_open_(PuffinThread *thread, PuffinIds *ids, const uint8_t *name, size_t name_size,
+PUFFIN_RESULT_
+PUFFIN_INLINE_ uint32_t puffin_thread_open_(PuffinThread *thread, PuffinIds *ids, const uint8_t *name, size_t name_size,
                                             bool long_texts) {
     return puffin_thread_open(thread, ids, puffin_bytes_(name), name_size, long_texts);
 }
-PUFFIN_RESULT_ PUFFIN_INLINE_ uint32_t puffin_register_function_(PuffinProfiler *profiler, const uint8_t *function, size_t function_size,
+PUFFIN_RESULT_
+PUFFIN_INLINE_ uint32_t puffin_register_function_(PuffinProfiler *profiler, const uint8_t *function, size_t function_size,
                                                   const uint8_t *file, size_t file_size, uint32_t line, uint32_t *id) {
     return puffin_register_function(profiler, puffin_bytes_(function), function_size, puffin_bytes_(file), file_size, line, id);
 }
-PUFFIN_RESULT_ PUFFIN_INLINE_ uint32_t puffin_register_scope_(PuffinProfiler *profiler, const uint8_t *name, size_t name_size,
+PUFFIN_RESULT_
+PUFFIN_INLINE_ uint32_t puffin_register_scope_(PuffinProfiler *profiler, const uint8_t *name, size_t name_size,
                                                const uint8_t *function, size_t function_size, const uint8_t *file,
                                                size_t file_size, uint32_t line, uint32_t *id) {
     return puffin_register_scope(profiler, puffin_bytes_(name), name_size, puffin_bytes_(function), function_size,
@@ -418,7 +446,8 @@ PUFFIN_INLINE_ uint32_t puffin_end_(PuffinThread *thread, int64_t now_ns, uint64
     }
     return puffin_end(thread, now_ns, scope);
 }
-PUFFIN_RESULT_ PUFFIN_INLINE_ uint32_t puffin_user_scopes_(PuffinProfiler *profiler, bool has_start, int64_t start_ns, const uint8_t *name,
+PUFFIN_RESULT_
+PUFFIN_INLINE_ uint32_t puffin_user_scopes_(PuffinProfiler *profiler, bool has_start, int64_t start_ns, const uint8_t *name,
                                             size_t name_size, const uint8_t *bytes, size_t size, bool long_texts) {
     return puffin_user_scopes(profiler, has_start, start_ns, puffin_bytes_(name), name_size, puffin_bytes_(bytes), size,
                               long_texts);

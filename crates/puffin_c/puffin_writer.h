@@ -1,8 +1,9 @@
 /* Writes a profiler's frames to .puffin files as they come, for programs that run for hours. Header only; POSIX.
  *
  * Each file begins with a frame that lists all names, so it can be read by itself. A file game.puffin has its name only once its
- * first four letters are in it; until then it is game.puffin.part. So whenever the program is killed, each file that has a name is read up to
- * its last whole frame, and no frame is lost that a call returned PUFFIN_OK for (if the machine stops too: with `syncs`).
+ * first four letters are in it; until then it is game.puffin.part. So whenever the program is killed, each file that has a name is
+ * read up to its last whole frame, and no frame is lost that a call returned PUFFIN_OK for (with `syncs` neither if the machine
+ * stops).
  *
  * The calls return 0 or the number of a fault, like those of puffin.h. PUFFIN_NOT_WRITTEN means that the system refused something;
  * `failed` then names the file and `error` is errno. The file keeps its whole frames, and the next call tries again: the frame of a

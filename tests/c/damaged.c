@@ -47,7 +47,8 @@ static size_t of_many_streams(uint8_t *bytes, size_t room, int number) {
         snprintf(name, sizeof name, "%0150d", i);
         fault |= puffin_user_scopes_str(&profiler, true, i, name, scope, sizeof scope, false);
     }
-    fault |= puffin_new_frame(&profiler, &frame) | puffin_file_begin(&profiler, &size) | puffin_file_next(&profiler, bytes, room, &size);
+    fault |= puffin_new_frame(&profiler, &frame) | puffin_file_begin(&profiler, &size);
+    fault |= puffin_file_next(&profiler, bytes, room, &size);
     fault |= puffin_profiler_close(&profiler) | puffin_ids_close(&ids);
     if (fault != PUFFIN_OK || frame.scopes != (uint64_t)number) {
         fail("a file of many streams", (long)fault, 0);

@@ -26,7 +26,8 @@ def without_warnings(programs):
             words = [compiler, f"-std={standard}", *WARNINGS, "-Wold-style-cast", "-fno-exceptions", "-c", "-o", "/dev/null"]
             programs.built(f"game.cc as {standard} by {compiler}", *words, HERE / "game.cc")
         programs.built(f"game.cc with PUFFIN_OFF by {compiler}", *words, "-DPUFFIN_OFF", HERE / "game.cc")
-        programs.built(f"scopes.cc as C++17 by {compiler}", compiler, "-std=c++17", *STRICT, "-c", "-o", "/dev/null", HERE / "scopes.cc")
+        words = [compiler, "-std=c++17", *STRICT, "-c", "-o", "/dev/null"]
+        programs.built(f"scopes.cc as C++17 by {compiler}", *words, HERE / "scopes.cc")
     ignored = programs.place / "ignored.c"
     ignored.write_text('#include "puffin.h"\nint main(void) { PuffinIds ids = {0}; puffin_ids_open(&ids); return 0; }\n')
     got = run(C_COMPILER, *STRICT, "-c", "-o", "/dev/null", ignored)

@@ -62,7 +62,8 @@ def by_cmake(programs, prefix):
         made = run("cmake", "--build", source / "build")
         if programs.check("first.c is built by cmake", made.returncode == 0, made.stdout + made.stderr):
             for kind in ("puffin", "shared"):
-                programs.ran(f"first.c by puffin::{kind}", source / "build" / f"first_{kind}", programs.place / "file", LD_LIBRARY_PATH="")
+                words = [source / "build" / f"first_{kind}", programs.place / "file"]
+                programs.ran(f"first.c by puffin::{kind}", *words, LD_LIBRARY_PATH="")
     asked = "".join(f'find_package(puffin {it} QUIET)\nmessage("{it} ${{puffin_FOUND}}")\nunset(puffin_DIR CACHE)\n' for it in RANGES)
     (source / "ranges" / "CMakeLists.txt").write_text(f"cmake_minimum_required(VERSION 3.19)\nproject(ranges NONE)\n{asked}")
     told = run("cmake", "-S", source / "ranges", "-B", source / "ranges" / "build", where).stderr.decode()

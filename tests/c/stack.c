@@ -98,7 +98,9 @@ static void new_frame(void) {
     LOOKED_AT(puffin_new_frame(&profiler, &frame));
 }
 static void view_clear(void) { LOOKED_AT(puffin_view_clear(&profiler)); }
-static void reading(uint32_t (*begin)(PuffinProfiler *, uint64_t *), uint32_t (*next)(PuffinProfiler *, uint8_t *, size_t, uint64_t *)) {
+typedef uint32_t Begin(PuffinProfiler *, uint64_t *);
+typedef uint32_t Next(PuffinProfiler *, uint8_t *, size_t, uint64_t *);
+static void reading(Begin *begin, Next *next) {
     static uint8_t out[1 << 20];
     uint64_t size;
     LOOKED_AT(begin(&profiler, &size));
