@@ -2,6 +2,7 @@ mod Listed
 mod HeldStreams
 mod ThreadsTotaled
 mod ThreadsPrinted
+mod ThreadsNamed
 mod Quotes
 mod Indents
 mod Pushed

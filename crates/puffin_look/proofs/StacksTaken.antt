@@ -11,6 +11,7 @@ use Rattle.puffin_data.specs.declared.file_error.FileError.{FileError}
 use Rattle.puffin_data.specs.Device.{IsOutside, WritesBeginning}
 use Rattle.puffin_data.specs.Walk.{IsFault}
 use Rattle.puffin_threads.specs.Details.Collection.{Collection, no_details, with_all_details}
+use Rattle.puffin_threads.specs.Thread.ThreadKey.{ThreadKey, key_of}
 use Rattle.puffin_look.specs.OpenFrame.{OpenFrame}
 use Rattle.puffin_look.specs.Printed.{IsPrinted, IsStopped, IsCutOff}
 use Rattle.puffin_look.specs.Trees.{Entry, Tree, TreeFrame, AreSpelled, AreUnread, RefusesUnread, all_streams}
@@ -65,7 +66,7 @@ module _ (v : Folding) where
   all_more entries earlier left rest e next all = all ∙ ap (λ (es : List Entry). earlier ++ es) next ∙ sym (append_assoc earlier (e ∷ []) rest)
 
   same_wanted : (now : Folding) → now.thread ≡ v.thread → wanted_of now ≡ wanted_of v
-  same_wanted now same = ap (λ t. option_map (λ x. x.now) t) same
+  same_wanted now same = ap (λ t. option_map (λ x. key_of x.now) t) same
 
   wanted_more : (earlier : List Entry) (e : Entry) (b : Bool) → is_wanted (wanted_of v) e.0 ≡ b → wanted_in v (earlier ++ e ∷ []) ≡ wanted_in v earlier ++ (if b then e ∷ [] else [])
   wanted_more earlier e b is = filter-append (λ d. is_wanted (wanted_of v) d.0) earlier (e ∷ []) ∙ ap (λ (es : List Entry). wanted_in v earlier ++ es) (wanted_one e b is)
@@ -150,7 +151,7 @@ abbrev pub none : Folding → List ℕ
 none v = []
 
 module _ (old new : Folding) (unread left before mid : Option (List ℕ)) where
-  abbrev wanted : Option (List ℕ)
+  abbrev wanted : Option ThreadKey
   wanted = wanted_of old
 
   abbrev pub Refused : FileError → Type 0
@@ -158,7 +159,7 @@ module _ (old new : Folding) (unread left before mid : Option (List ℕ)) where
 
   pub folding_stopped : (e : FileError) → StopsListing none TakesStacks RefusesFrame old new unread left before mid e → Refused e
   folding_stopped e h = stopped none TakesStacks RefusesFrame IsNoText (RefusesUnread (wanted_streams wanted)) old new unread left before mid e (λ frames more v taken. taken.none)
-      (λ frames more v frame cause taken refused. subst (λ (w : Option (List ℕ)). AreUnread (wanted_streams w frame) cause) (ap (λ t. option_map (λ x. x.now) t) taken.thread) refused) h
+      (λ frames more v frame cause taken refused. subst (λ (w : Option ThreadKey). AreUnread (wanted_streams w frame) cause) (ap (λ t. option_map (λ x. key_of x.now) t) taken.thread) refused) h
 
   module _ (h : ListsAll none TakesStacks old new unread left before mid) where
     quiet : Appends before mid []

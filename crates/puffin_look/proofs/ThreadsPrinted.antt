@@ -204,6 +204,23 @@ module _ (old new : Threads) (unread left before mid : Option (List ℕ)) (empty
   read_anyway (Ok x) h s = (all_read old new unread left before mid empty s.0).0
   read_anyway (Err e) h s = (some_read old new unread left before mid empty e s.1 (not_memory e h)).0
 
+  -- the frames are those before the end or the first fault
+  pub read_to_end : (r : Result (Unit {0}) FileError) → fails_outside r ≡ false → Ends r
+      → (q : AreRead old new unread left before mid) × (TookFrames file_at unread left q.stored ⊎ ((e : FileError) × (HasFaultBehind RefusesNone unread left q.stored q.frames e ⊎ (FailsToRead file_at unread left e × (q.stored ≡ [])))))
+  unfolding Ends
+  read_to_end (Ok x) h s = let q = all_read old new unread left before mid empty s.0 in (q.0, inl q.1)
+  read_to_end (Err e) h s =
+      let q = some_read old new unread left before mid empty e s.1 (not_memory e h) in (
+        q.0,
+        elim (q.1) [
+          | inl outside ↦ elim outside [
+            | inl io ↦ absurd (not_io (Err e) h (ap Err io))
+            | inr memory ↦ absurd (not_memory e h memory)
+          ]
+          | inr fault ↦ inr (e, fault)
+        ],
+      )
+
   module _ (after : Option (List ℕ)) (lines : List ℕ) (is : lines ≡ flat_map thread_line (tree.entries (by_key new.totals.entries))) where
     pub all_printed : (r : Result (Unit {0}) FileError) → Ends r → Appends mid after lines → OnOk r (IsPrinted AreThreadLines unread left before after)
     unfolding Ends

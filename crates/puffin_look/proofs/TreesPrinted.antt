@@ -3,6 +3,7 @@ use Rattle.std.proofs.Common.{◌≡◌, ℕ, Bool, false, List, [], ◌++◌, O
 use Rattle.std.specs.Prelude.{option_map}
 use Rattle.puffin_data.specs.declared.file_error.FileError.{FileError}
 use Rattle.puffin_threads.specs.Details.Collection.{Collection, no_details}
+use Rattle.puffin_threads.specs.Thread.ThreadKey.{ThreadKey, key_of}
 use Rattle.puffin_look.specs.OpenFrame.{OpenFrame}
 use Rattle.puffin_look.specs.Printed.{IsPrinted, IsStopped}
 use Rattle.puffin_look.specs.Trees.{AreUnread, RefusesUnread, outputs}
@@ -28,7 +29,7 @@ module _ (old new : Trees) (empty : text_in old ≡ []) (none : old.lines.known 
       → IsStopped (IsAnyFrameText old.index (wanted_of old)) (RefusesUnread (streams_at old.index (wanted_of old))) unread left before after e
   frames_stopped unread left before after e h =
       stopped text_in TakesTrees RefusesFrame (IsAnyFrameText old.index (wanted_of old)) (RefusesUnread (streams_at old.index (wanted_of old))) old new unread left before after e (λ frames more v taken. (v.is_found, shown_text frames more v taken))
-      (λ frames more v frame cause taken refused. subst (λ (p : ℕ × Option (List ℕ)). AreUnread (streams_at p.0 p.1 frame) cause) (λ i. (taken.index i, ap (λ t. option_map (λ x. x.now) t) taken.thread i)) refused) h
+      (λ frames more v frame cause taken refused. subst (λ (p : ℕ × Option ThreadKey). AreUnread (streams_at p.0 p.1 frame) cause) (λ i. (taken.index i, ap (λ t. option_map (λ x. key_of x.now) t) taken.thread i)) refused) h
 
   pub frames_printed : (unread left before after : Option (List ℕ)) → ListsAll text_in TakesTrees old new unread left before after → IsPrinted (IsFrameText old.index (wanted_of old) new.is_found) unread left before after
   frames_printed unread left before after h = record {

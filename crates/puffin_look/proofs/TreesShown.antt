@@ -8,7 +8,7 @@ use Rattle.std.proofs.lemmas.List.Concat.{flat_map-append}
 use Rattle.puffin_data.specs.declared.error.Error.{Error}
 use Rattle.puffin_data.specs.Forest.{Forest, Span}
 use Rattle.puffin_data.specs.Walk.{IsFault}
-use Rattle.puffin_threads.specs.Thread.ThreadKey.{ThreadKey}
+use Rattle.puffin_threads.specs.Thread.ThreadKey.{ThreadKey, key_of}
 use Rattle.puffin_threads.specs.Details.Collection.{Collection, with_all_details}
 use Rattle.puffin_look.specs.OpenFrame.{OpenFrame}
 use Rattle.puffin_look.specs.Trees.{Entry, Tree, TreeFrame, AreSpelled, AreUnread, all_streams, outputs}
@@ -76,7 +76,7 @@ module _ (v : Trees) where
   all_more entries earlier left rest e next all = all ∙ ap (λ (es : List Entry). earlier ++ es) next ∙ sym (append_assoc earlier (e ∷ []) rest)
 
   same_wanted : (now : Trees) → now.thread ≡ v.thread → wanted_of now ≡ wanted_of v
-  same_wanted now same = ap (λ t. Rattle.std.specs.Prelude.option_map (λ x. x.now) t) same
+  same_wanted now same = ap (λ t. Rattle.std.specs.Prelude.option_map (λ x. key_of x.now) t) same
 
   pub showing_more : (now new : Trees) (entries left rest : List Entry) (e : Entry) → left ≡ e ∷ rest → IsShowing now entries left → StepsTree now new e.0 e.1 → IsShowing new entries rest
   showing_more now new entries left rest e next h (inl step) =
@@ -137,7 +137,7 @@ module _ (v : Trees) where
 pub trees_shown : (old v new : Trees) (frame : OpenFrame) (entries all left : List Entry) → v.lines.text.items ≡ old.lines.text.items ++ head_text frame.meta → v.lines.known ≡ old.lines.known → v.lines.range_ns ≡ frame.meta.range_ns → v.is_found ≡ old.is_found
     → v.index ≡ old.index → v.thread ≡ old.thread → left ≡ [] → IsShowing v new all left → entries ≡ all → AddsTrees old new frame.meta entries
 trees_shown old v new frame entries all left text known range found index thread none h same =
-    let wanted : wanted_of v ≡ wanted_of old = ap (λ t. Rattle.std.specs.Prelude.option_map (λ x. x.now) t) thread in
+    let wanted : wanted_of v ≡ wanted_of old = ap (λ t. Rattle.std.specs.Prelude.option_map (λ x. key_of x.now) t) thread in
     let whole : h.earlier ≡ entries = sym (same ∙ h.all ∙ ap (λ (es : List Entry). h.earlier ++ es) none ∙ append-nil h.earlier) in
     record {
       trees = h.trees;

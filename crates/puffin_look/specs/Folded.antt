@@ -7,6 +7,7 @@ use Rattle.std.specs.Str.{bytes_eq}
 use Rattle.puffin_data.specs.Forest.{Span, Forest}
 use Rattle.puffin_data.specs.Walk.PlacedScopes.{ScopeInContext, nested_in}
 use Rattle.puffin_threads.specs.Details.Collection.{Collection, no_details}
+use Rattle.puffin_threads.specs.Thread.ThreadKey.{ThreadKey}
 use Rattle.puffin_view.specs.View.Stats.{cut}
 use Rattle.puffin_look.specs.OpenFrame.{OpenFrame}
 use Rattle.puffin_look.specs.Trees.{TreeFrame, AreRead, outputs}
@@ -98,7 +99,7 @@ abbrev pub folded_lines : List Part → List ℕ
 folded_lines all = flat_map (λ path. path_line path (own_time all path)) (paths_in all)
 
 -- The paths of the scopes of the wanted threads, in all frames; `found` is whether there is a stream of such a thread.
-abbrev pub IsFolded : Option (List ℕ) → Bool → List OpenFrame → List ℕ → Type 0
+abbrev pub IsFolded : Option ThreadKey → Bool → List OpenFrame → List ℕ → Type 0
 IsFolded thread found frames text =
     (trees : List TreeFrame)
     × AreRead (wanted_streams thread) frames trees
@@ -106,5 +107,5 @@ IsFolded thread found frames text =
     × (found ≡ found_in false trees)
 
 -- the folded stacks of some frames, whether there is a stream or not
-abbrev pub IsAnyFolded : Option (List ℕ) → List OpenFrame → List ℕ → Type 0
+abbrev pub IsAnyFolded : Option ThreadKey → List OpenFrame → List ℕ → Type 0
 IsAnyFolded thread frames text = (found : Bool) × IsFolded thread found frames text

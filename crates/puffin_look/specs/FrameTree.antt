@@ -3,12 +3,11 @@ use Rattle.std.specs.Prelude.{◌≡◌, ℕ, zero, suc, ◌*◌, ◌/◌, ℤ, 
 use Rattle.std.specs.Fmt.{decimal, signed_decimal}
 use Rattle.std.specs.FinMap as map
 use Rattle.std.specs.List.{flat_map}
-use Rattle.std.specs.Str.{bytes_eq}
 use Rattle.puffin_data.specs.Forest.{Span, Forest}
 use Rattle.puffin_data.specs.Text.{text_in}
 use Rattle.puffin_data.specs.Walk.PlacedScopes.{ScopeInContext, nested_in}
 use Rattle.puffin_threads.specs.Details.Collection.{Collection, no_details, with_all_details}
-use Rattle.puffin_threads.specs.Thread.ThreadKey.{ThreadKey}
+use Rattle.puffin_threads.specs.Thread.ThreadKey.{ThreadKey, has_same_key}
 use Rattle.puffin_frames.specs.declared.frame_data.meta.FrameMeta.{FrameMeta}
 use Rattle.puffin_look.specs.OpenFrame.{OpenFrame}
 use Rattle.puffin_look.specs.Trees.{Tree, TreeFrame, Pick, all_streams, AreRead, outputs}
@@ -19,17 +18,17 @@ use Rattle.puffin_look.specs.Trace.{digit}
 
 -- ---- which streams
 
--- all threads, or the one that has this text
-abbrev pub is_wanted : Option (List ℕ) → ThreadKey → Bool
+-- all threads, or this one
+abbrev pub is_wanted : Option ThreadKey → ThreadKey → Bool
 is_wanted None key = true
-is_wanted (Some text) key = bytes_eq (thread_text key) text
+is_wanted (Some wanted) key = has_same_key wanted key
 
 -- the streams of the wanted threads
-abbrev pub wanted_streams : Option (List ℕ) → Pick
+abbrev pub wanted_streams : Option ThreadKey → Pick
 wanted_streams thread frame = filter (λ e. is_wanted thread e.0) (all_streams frame)
 
 -- the same in the frames with this index, and none in others
-abbrev pub streams_at : ℕ → Option (List ℕ) → Pick
+abbrev pub streams_at : ℕ → Option ThreadKey → Pick
 streams_at index thread frame =
     if frame.meta.frame_index == index then wanted_streams thread frame else []
 
@@ -117,7 +116,7 @@ abbrev pub found_in : Bool → List TreeFrame → Bool
 found_in before frames = fold (λ found f. has_trees found f.trees) before frames
 
 -- The frames with this index, each with the wanted threads; `found` is whether there is one.
-abbrev pub IsFrameText : ℕ → Option (List ℕ) → Bool → List OpenFrame → List ℕ → Type 0
+abbrev pub IsFrameText : ℕ → Option ThreadKey → Bool → List OpenFrame → List ℕ → Type 0
 IsFrameText index thread found frames text =
     (trees : List TreeFrame)
     × AreRead (streams_at index thread) frames trees

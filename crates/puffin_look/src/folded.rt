@@ -30,8 +30,8 @@ use std::sync::Arc;
 #[derive(Drop)]
 struct Folding<'t> {
     stacks: Stacks,
-    /// The text of the thread that is wanted, or `None` if all are.
-    thread: Option<&'t str>,
+    /// The thread that is wanted, or `None` if all are.
+    thread: Option<&'t ThreadInfo>,
     is_found: bool,
 }
 
@@ -43,7 +43,7 @@ impl<'t> Folding<'t> {
         ensures err { IfErr result (λ e.
             (e ≡ Error.Memory) ⊎ IsStackFault self.old (key_of thread.now) (facts_of info.now) e) }
     {
-        if is_wanted(*self.stacks.path.allocator(), self.thread, thread)? {
+        if is_wanted(self.thread, thread) {
             self.stacks.add_stream(info)?;
             self.is_found = true;
         }
@@ -108,8 +108,7 @@ fn lines_of(alloc: Global, stacks: &Stacks) -> Result<Vec<u8>, AllocError>
 /// the file lists up to the scope's frame, or `#` and the id, with a `_` in place of each `;` and each control character. The paths
 /// are in the order in which they are first met.
 ///
-/// All threads count, or if `thread` is given, only the one that [`print_threads`](crate::print_threads) lists by this text.
-/// Returns whether there is one.
+/// All threads count, or if `thread` is given, only that one. Returns whether there is one.
 ///
 /// Fails as [`print_trace`](crate::print_trace) does; only the streams that count have to consist of scopes. A line needs all
 /// frames, so nothing is printed then, except that a prefix of the lines is written if a write fails.
@@ -117,20 +116,20 @@ pub fn print_folded<S: Source, D: Drain>(
     alloc: Global,
     source: &mut S,
     drain: &mut D,
-    thread: Option<&str>,
+    thread: Option<&ThreadInfo>,
 ) -> Result<bool, FileError>
     requires source { CanFail S.failures source.old }
     requires drain { CanFail D.failures drain.old }
     ensures ok { IfOk result (λ found.
-        IsPrinted (IsFolded (option_map (λ t. t.now) thread.entry) found)
+        IsPrinted (IsFolded (option_map (λ t. key_of t.now) thread.entry) found)
         (S.remaining source.old) (S.remaining source.new) (D.contents drain.old)
         (D.contents drain.new)) }
     ensures err { IfErr result (λ e.
-        IsStopped IsNoText (RefusesUnread (wanted_streams (option_map (λ t. t.now) thread.entry)))
+        IsStopped IsNoText (RefusesUnread (wanted_streams (option_map (λ t. key_of t.now) thread.entry)))
         (S.remaining source.old) (S.remaining source.new) (D.contents drain.old)
         (D.contents drain.new) e
         ⊎ ((e ≡ FileError.Io)
-        × IsCutOff (IsAnyFolded (option_map (λ t. t.now) thread.entry)) (S.remaining source.old)
+        × IsCutOff (IsAnyFolded (option_map (λ t. key_of t.now) thread.entry)) (S.remaining source.old)
         (S.remaining source.new) (D.contents drain.old) (D.contents drain.new))) }
     // `Io` means that the reader or the writer failed in this call, or that the writer took no bytes.
     ensures io { (result ≡ Err FileError.Io) → (S.failures source.new ≡ S.failures source.old + 1)

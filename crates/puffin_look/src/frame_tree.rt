@@ -18,7 +18,6 @@ ghost use Rattle.puffin_look.specs.inner.FrameTrees.{wanted_of, wanted_in, Steps
 use crate::frames::{push_duration, push_range};
 use crate::listing::{Listing, list_frames};
 use crate::text::push_count;
-use crate::threads::push_thread;
 use crate::tree::Lines;
 use puffin_data::data::{Drain, Source, StreamInfo};
 use puffin_data::{FileError, FrameIndex, Result as Answer};
@@ -28,21 +27,14 @@ use puffin_threads::thread_profiler::ThreadInfo;
 use std::alloc::{AllocError, Global};
 use std::sync::Arc;
 
-/// Returns whether a thread is printed: any thread if none is named, and else the one with this text.
-pub(crate) fn is_wanted(
-    alloc: Global,
-    wanted: Option<&str>,
-    thread: &ThreadInfo,
-) -> Result<bool, AllocError>
-    ensures { IfOk result (λ is.
-        is ≡ is_wanted (option_map (λ t. t.now) wanted.entry) (key_of thread.now)) }
+/// Returns whether a thread is printed: any thread if none is asked for, and else that one.
+pub(crate) fn is_wanted(wanted: Option<&ThreadInfo>, thread: &ThreadInfo) -> bool
+    ensures { result ≡ is_wanted (option_map (λ t. key_of t.now) wanted.entry) (key_of thread.now) }
 {
-    let Some(wanted) = wanted else {
-        return Ok(true);
-    };
-    let mut text = Vec::new(alloc);
-    push_thread(&mut text, thread)?;
-    Ok(text.as_slice() == wanted.as_bytes())
+    match wanted {
+        None => true,
+        Some(wanted) => wanted == thread,
+    }
 }
 
 /// Appends a frame's index, range and duration.
@@ -59,8 +51,8 @@ fn push_head(text: &mut Vec<u8>, frame: &UnpackedFrameData) -> Result<(), AllocE
 struct Trees<'t> {
     lines: Lines,
     index: FrameIndex,
-    /// The text of the thread that is wanted, or `None` if all are.
-    thread: Option<&'t str>,
+    /// The thread that is wanted, or `None` if all are.
+    thread: Option<&'t ThreadInfo>,
     is_found: bool,
 }
 
@@ -72,7 +64,7 @@ impl<'t> Trees<'t> {
         ensures err { IfErr result (λ e.
             (e ≡ Error.Memory) ⊎ IsTreeFault self.old (key_of thread.now) (facts_of info.now) e) }
     {
-        if is_wanted(*self.lines.text.allocator(), self.thread, thread)? {
+        if is_wanted(self.thread, thread) {
             self.lines.add_stream(thread, info)?;
             self.is_found = true;
         }
@@ -129,8 +121,8 @@ impl<'t> Listing for Trees<'t> {
 /// Prints the frames of a file that have this index: for each a line with its range and duration, for each of its threads a line,
 /// and for each scope of the thread a line, indented by two blanks for each scope that it is nested in: its name by the details
 /// that the file lists up to this frame, or `#` and the id; its text in parentheses, unless it is empty; its start in the frame,
-/// its duration, and its share of what it is nested in. Times are in nanoseconds. If `thread` is given, only the thread is
-/// printed that [`print_threads`](crate::print_threads) lists by this text.
+/// its duration, and its share of what it is nested in. Times are in nanoseconds. If `thread` is given, only that thread
+/// is printed; [`threads_named`](crate::threads_named) finds it by its name.
 ///
 /// Returns whether a thread was printed. Fails as [`print_trace`](crate::print_trace) does; only the streams that are printed have
 /// to consist of scopes.
@@ -139,17 +131,17 @@ pub fn print_frame<S: Source, D: Drain>(
     source: &mut S,
     drain: &mut D,
     index: FrameIndex,
-    thread: Option<&str>,
+    thread: Option<&ThreadInfo>,
 ) -> Result<bool, FileError>
     requires source { CanFail S.failures source.old }
     requires drain { CanFail D.failures drain.old }
     ensures ok { IfOk result (λ found.
-        IsPrinted (IsFrameText index (option_map (λ t. t.now) thread.entry) found)
+        IsPrinted (IsFrameText index (option_map (λ t. key_of t.now) thread.entry) found)
         (S.remaining source.old) (S.remaining source.new) (D.contents drain.old)
         (D.contents drain.new)) }
     ensures err { IfErr result (λ e.
-        IsStopped (IsAnyFrameText index (option_map (λ t. t.now) thread.entry))
-        (RefusesUnread (streams_at index (option_map (λ t. t.now) thread.entry)))
+        IsStopped (IsAnyFrameText index (option_map (λ t. key_of t.now) thread.entry))
+        (RefusesUnread (streams_at index (option_map (λ t. key_of t.now) thread.entry)))
         (S.remaining source.old) (S.remaining source.new) (D.contents drain.old)
         (D.contents drain.new) e) }
     // `Io` means that the reader or the writer failed in this call, or that the writer took no bytes.

@@ -2,7 +2,7 @@
 //!
 //! | to | call |
 //! |---|---|
-//! | list the threads of a file | [`print_threads`] |
+//! | list the threads of a file, or find one by its name | [`print_threads`], [`threads_named`] |
 //! | list its frames, or the slowest of them | [`print_frames`], [`print_slowest`] |
 //! | print a frame as a tree | [`print_frame`] |
 //! | write a trace for other tools | [`print_trace`] |
@@ -21,6 +21,7 @@ mod slowest;
 mod stacks;
 mod task;
 mod text;
+mod thread_names;
 mod threads;
 mod trace;
 mod tree;
@@ -30,5 +31,6 @@ pub use frame_tree::print_frame;
 pub use frames::print_frames;
 pub use slowest::print_slowest;
 pub use task::{View, read_words};
+pub use thread_names::threads_named;
 pub use threads::print_threads;
 pub use trace::print_trace;

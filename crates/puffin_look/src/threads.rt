@@ -64,8 +64,8 @@ impl ThreadTotals {
 
 /// The totals of all threads.
 #[derive(Drop)]
-struct Threads {
-    totals: BTreeMap<ThreadInfo, ThreadTotals>,
+pub(crate) struct Threads {
+    pub totals: BTreeMap<ThreadInfo, ThreadTotals>,
 }
 
 impl Threads {

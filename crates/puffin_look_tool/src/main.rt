@@ -6,10 +6,11 @@ use puffin_data::data::{Buffered, Counted};
 use puffin_data::{FileError, FrameIndex};
 use puffin_look::{
     View, print_folded, print_frame, print_frames, print_slowest, print_threads, print_trace,
-    read_words,
+    read_words, threads_named,
 };
+use puffin_threads::thread_profiler::ThreadInfo;
 use std::fs::File;
-use std::io::BufReader;
+use std::io::{BufReader, Seek, SeekFrom};
 use std::process::ExitCode;
 use std::{env, io};
 
@@ -51,8 +52,14 @@ enum Cause<'w> {
     File(FileError),
     /// The file has no frame with this index.
     NoFrame(FrameIndex),
-    /// The file has no thread with this text.
+    /// The file has no thread that this word names.
     NoThread(&'w str),
+    /// Several threads have this name.
+    ManyThreads(&'w str),
+    /// The frame with this index has no scopes of the thread that this word names.
+    NotInFrame(FrameIndex, &'w str),
+    /// The file can't be read a second time.
+    ReadOnce,
 }
 
 /// Why the program failed.
@@ -91,9 +98,57 @@ fn words(rt: &HostRuntime) -> Result<Vec<String>, LookFault<'static>> {
     Ok(words)
 }
 
-/// Opens a file that is read ahead, so that small packets take few system calls.
-fn read_ahead(rt: &HostRuntime, path: &str) -> io::Result<BufReader<File>> {
-    BufReader::with_capacity(rt.alloc(), READ_AHEAD, File::open(rt, path)?)
+/// A file that is read ahead, so that small packets take few system calls.
+type Reader<'f> = Buffered<BufReader<&'f File>>;
+
+/// Opens the file at a path.
+fn open<'w>(rt: &HostRuntime, path: &'w str) -> Result<File, LookFault<'w>> {
+    match File::open(rt, path) {
+        Ok(file) => Ok(file),
+        Err(error) => Err(LookFault::At(path, Cause::System(error))),
+    }
+}
+
+/// Reads a file from where it stands.
+fn reader<'f, 'w>(
+    rt: &HostRuntime,
+    path: &'w str,
+    file: &'f File,
+) -> Result<Reader<'f>, LookFault<'w>> {
+    match BufReader::with_capacity(rt.alloc(), READ_AHEAD, file) {
+        Ok(file) => Ok(Buffered::new(file)),
+        Err(error) => Err(LookFault::At(path, Cause::System(error))),
+    }
+}
+
+/// Goes back to a file's first byte.
+fn rewind<'w>(path: &'w str, file: &File) -> Result<(), LookFault<'w>> {
+    let mut file = file;
+    match file.seek(SeekFrom::Start(0)) {
+        Ok(_) => Ok(()),
+        Err(_) => Err(LookFault::At(path, Cause::ReadOnce)),
+    }
+}
+
+/// Returns the thread that a word names in a file, which is then read again.
+fn thread_in<'w>(
+    rt: &HostRuntime,
+    path: &'w str,
+    file: &File,
+    word: &'w str,
+) -> Result<ThreadInfo, LookFault<'w>> {
+    rewind(path, file)?;
+    let mut source = reader(rt, path, file)?;
+    let mut found = match threads_named(rt.alloc(), &mut source, word) {
+        Ok(found) => found,
+        Err(error) => return Err(fault_of(path, error, source.last_error(), None)),
+    };
+    rewind(path, file)?;
+    match (found.pop(), found.is_empty()) {
+        (Some(thread), true) => Ok(thread),
+        (Some(_), false) => Err(LookFault::At(path, Cause::ManyThreads(word))),
+        (None, _) => Err(LookFault::At(path, Cause::NoThread(word))),
+    }
 }
 
 /// Returns the fault of a call that read the file and wrote to standard output.
@@ -114,38 +169,38 @@ fn fault_of<'w>(
     }
 }
 
-/// Prints what was asked for of the file at a path.
+/// Prints what was asked for of a file.
 fn show<'w>(rt: &HostRuntime, view: View<'w>, path: &'w str) -> Result<(), LookFault<'w>> {
-    let mut file = match read_ahead(rt, path) {
-        Ok(file) => Buffered::new(file),
-        Err(error) => return Err(LookFault::At(path, Cause::System(error))),
+    let file = open(rt, path)?;
+    let thread = match view {
+        View::Frame(_, Some(word)) | View::Folded(Some(word)) => {
+            Some(thread_in(rt, path, &file, word)?)
+        }
+        _ => None,
     };
+    let mut source = reader(rt, path, &file)?;
     let mut out = Counted::new(rt.stdout());
     let printed = match view {
-        View::Threads => print_threads(rt.alloc(), &mut file, &mut out).map(|()| None),
-        View::Frames => print_frames(rt.alloc(), &mut file, &mut out).map(|()| None),
+        View::Threads => print_threads(rt.alloc(), &mut source, &mut out).map(|()| true),
+        View::Frames => print_frames(rt.alloc(), &mut source, &mut out).map(|()| true),
         View::Slowest(limit) => {
-            print_slowest(rt.alloc(), &mut file, &mut out, limit).map(|()| None)
+            print_slowest(rt.alloc(), &mut source, &mut out, limit).map(|()| true)
         }
-        View::Frame(index, None) => {
-            let is_found = print_frame(rt.alloc(), &mut file, &mut out, index, None);
-            is_found.map(|is| (!is).then_some(Cause::NoFrame(index)))
+        View::Frame(index, _) => {
+            print_frame(rt.alloc(), &mut source, &mut out, index, thread.as_ref())
         }
-        View::Frame(index, Some(thread)) => {
-            let is_found = print_frame(rt.alloc(), &mut file, &mut out, index, Some(thread));
-            is_found.map(|is| (!is).then_some(Cause::NoThread(thread)))
-        }
-        View::Trace => print_trace(rt.alloc(), &mut file, &mut out).map(|()| None),
-        View::Folded(None) => print_folded(rt.alloc(), &mut file, &mut out, None).map(|_| None),
-        View::Folded(Some(thread)) => {
-            let is_found = print_folded(rt.alloc(), &mut file, &mut out, Some(thread));
-            is_found.map(|is| (!is).then_some(Cause::NoThread(thread)))
+        View::Trace => print_trace(rt.alloc(), &mut source, &mut out).map(|()| true),
+        View::Folded(_) => {
+            print_folded(rt.alloc(), &mut source, &mut out, thread.as_ref()).map(|_| true)
         }
     };
-    match printed {
-        Ok(None) => Ok(()),
-        Ok(Some(cause)) => Err(LookFault::At(path, cause)),
-        Err(error) => Err(fault_of(path, error, file.last_error(), out.last_error())),
+    match (printed, view) {
+        (Ok(false), View::Frame(index, None)) => Err(LookFault::At(path, Cause::NoFrame(index))),
+        (Ok(false), View::Frame(index, Some(word))) => {
+            Err(LookFault::At(path, Cause::NotInFrame(index, word)))
+        }
+        (Ok(_), _) => Ok(()),
+        (Err(error), _) => Err(fault_of(path, error, source.last_error(), out.last_error())),
     }
 }
 
@@ -183,7 +238,18 @@ fn print_fault(rt: &HostRuntime, name: &str, cause: &Cause<'_>) -> io::Result<()
         }
         Cause::File(error) => eprintln!(rt; "puffin-look: {name}: {error}"),
         Cause::NoFrame(index) => eprintln!(rt; "puffin-look: {name}: no frame {index}"),
-        Cause::NoThread(thread) => eprintln!(rt; "puffin-look: {name}: no thread {thread}"),
+        Cause::NoThread(word) => eprintln!(rt; "puffin-look: {name}: no thread {word}"),
+        Cause::ManyThreads(word) => {
+            eprintln!(rt;
+                "puffin-look: {name}: several threads are named {word}: name one as START:NAME"
+            )
+        }
+        Cause::NotInFrame(index, word) => {
+            eprintln!(rt; "puffin-look: {name}: no frame {index} with the thread {word}")
+        }
+        Cause::ReadOnce => {
+            eprintln!(rt; "puffin-look: {name}: can't be read twice; write it to a file first")
+        }
     }
 }
 

@@ -3,8 +3,9 @@ use puffin_data::FileError;
 use puffin_data::data::Counted;
 use puffin_look::{
     View, print_folded, print_frame, print_frames, print_slowest, print_threads, print_trace,
-    read_words,
+    read_words, threads_named,
 };
+use puffin_threads::thread_profiler::ThreadInfo;
 use std::alloc::AllocGlobal;
 use std::process::Abort;
 use std::test::Fail;
@@ -58,7 +59,7 @@ fn frames_of(rt: &impl AllocGlobal, file: &[u8]) -> Printed {
 }
 
 /// Prints the frame of [`FILE`] with an index.
-fn frame_of(rt: &impl AllocGlobal, index: u64, thread: Option<&str>) -> (Found, Vec<u8>) {
+fn frame_of(rt: &impl AllocGlobal, index: u64, thread: Option<&ThreadInfo>) -> (Found, Vec<u8>) {
     let mut out = Counted::new(Vec::new(rt.alloc()));
     let answer = print_frame(
         rt.alloc(),
@@ -78,10 +79,23 @@ fn trace_of(rt: &impl AllocGlobal, file: &[u8]) -> Printed {
 }
 
 /// Writes the folded stacks of a file.
-fn folded_of(rt: &impl AllocGlobal, file: &[u8], thread: Option<&str>) -> (Found, Vec<u8>) {
+fn folded_of(rt: &impl AllocGlobal, file: &[u8], thread: Option<&ThreadInfo>) -> (Found, Vec<u8>) {
     let mut out = Counted::new(Vec::new(rt.alloc()));
     let answer = print_folded(rt.alloc(), &mut Counted::new(file), &mut out, thread);
     (answer, out.into_inner())
+}
+
+/// Returns the info of a thread named `main`.
+fn main_thread<R: AllocGlobal + Abort>(rt: &R, start: Option<i64>) -> ThreadInfo {
+    ThreadInfo {
+        start_time_ns: start,
+        name: String::from_str(rt.alloc(), "main").expect(rt, "a name"),
+    }
+}
+
+/// Returns the threads of [`FILE`] that a word names.
+fn named<R: AllocGlobal + Abort>(rt: &R, word: &str) -> Vec<ThreadInfo> {
+    threads_named(rt.alloc(), &mut Counted::new(&FILE[..]), word).expect(rt, "a file")
 }
 
 /// Checks what was printed.
@@ -120,13 +134,15 @@ fn what_stands_before_a_fault_is_listed(rt: HostRuntime) {
 
 #[test]
 fn a_frame_is_a_tree(rt: HostRuntime) {
-    let printed = frame_of(&rt, 1, Some("100:main"));
+    let thread = main_thread(&rt, Some(100));
+    let printed = frame_of(&rt, 1, Some(&thread));
     equal(&rt, printed.0, Ok(true));
     let lines = b"frame 1 range 400 401 duration 1\nthread 100:main\n\
         #1 (a) start 0 duration 1 share 100.0%\n";
     equal(&rt, printed.1.as_slice(), lines);
     equal(&rt, frame_of(&rt, 2, None).0, Ok(false));
-    equal(&rt, frame_of(&rt, 1, Some("-:main")).0, Ok(false));
+    let other = main_thread(&rt, None);
+    equal(&rt, frame_of(&rt, 1, Some(&other)).0, Ok(false));
 }
 
 #[test]
@@ -139,13 +155,26 @@ fn a_trace_has_each_frame_thread_and_scope(rt: HostRuntime) {
 
 #[test]
 fn a_path_has_its_own_time_in_all_frames(rt: HostRuntime) {
-    let printed = folded_of(&rt, &FILE, Some("100:main"));
+    let thread = main_thread(&rt, Some(100));
+    let printed = folded_of(&rt, &FILE, Some(&thread));
     equal(&rt, printed.0, Ok(true));
     equal(&rt, printed.1.as_slice(), b"#1 201\n");
-    equal(&rt, folded_of(&rt, &FILE, Some("-:main")).0, Ok(false));
+    let other = main_thread(&rt, None);
+    equal(&rt, folded_of(&rt, &FILE, Some(&other)).0, Ok(false));
     let cut = folded_of(&rt, &FILE[..ONE_FRAME + 20], None);
     equal(&rt, cut.0, Err(FileError::Truncated));
     equal(&rt, cut.1.len(), 0);
+}
+
+#[test]
+fn a_thread_is_found_by_its_text_or_its_name(rt: HostRuntime) {
+    let thread = main_thread(&rt, Some(100));
+    for word in &["100:main", "main"] {
+        let found = named(&rt, word);
+        equal(&rt, found.len(), 1);
+        equal(&rt, found.first(), Some(&thread));
+    }
+    equal(&rt, named(&rt, "-:main").len(), 0);
 }
 
 #[test]

@@ -9,7 +9,8 @@ use Rattle.puffin_data.specs.Forest.Spelling.{Spells}
 use Rattle.puffin_data.specs.Honesty.{StreamFacts}
 use Rattle.puffin_data.specs.Walk.{IsFault}
 use Rattle.puffin_threads.specs.Details.Collection.{Collection}
-use Rattle.puffin_threads.specs.Thread.ThreadKey.{ThreadKey}
+use Rattle.puffin_threads.specs.declared.thread_profiler.thread_info.ThreadInfo.{ThreadInfo}
+use Rattle.puffin_threads.specs.Thread.ThreadKey.{ThreadKey, key_of}
 use Rattle.puffin_look.specs.OpenFrame.{OpenFrame}
 use Rattle.puffin_look.specs.Trees.{TreeFrame, AreRead, AreUnread}
 use Rattle.puffin_look.specs.FrameTree.{is_wanted, wanted_streams, known_with, has_trees, found_in}
@@ -18,9 +19,9 @@ use Rattle.puffin_look.specs.inner.Reads.{AreRead-append, outputs-append}
 use Rattle.puffin_look.specs.inner.Stacks.{rows_of, with_part, HasMoreParts}
 use Rattle.puffin_look.specs.declared.folded.Folding.{Folding}
 
--- the text of the thread that is wanted
-abbrev pub wanted_of : Folding → Option (List ℕ)
-wanted_of v = option_map (λ t. t.now) v.thread
+-- the thread that is wanted
+abbrev pub wanted_of : Folding → Option ThreadKey
+wanted_of v = option_map (λ t. key_of t.now) v.thread
 
 -- ---- a thread
 
@@ -72,13 +73,13 @@ stacks_none v = record {
 pub stacks_more : (u v w : Folding) (xs ys : List OpenFrame) (s t : List ℕ) → TakesStacks u xs s v →
     TakesStacks v ys t w → TakesStacks u (xs ++ ys) (s ++ t) w
 stacks_more u v w xs ys s t a b =
-    let thread = ap (option_map (λ (t : Bor (List ℕ)). t.now)) a.thread in
+    let thread = ap (option_map (λ (t : Bor ThreadInfo). key_of t.now)) a.thread in
     let known = u.stacks.known in
     record {
       none = ap (λ (r : List ℕ). r ++ t) a.none ∙ b.none;
       trees = a.trees ++ b.trees;
       read = AreRead-append (wanted_streams (wanted_of u)) xs ys a.trees b.trees a.read (
-          subst (λ (p : Option (List ℕ)). AreRead (wanted_streams p) ys b.trees) thread b.read);
+          subst (λ (p : Option ThreadKey). AreRead (wanted_streams p) ys b.trees) thread b.read);
       rows = b.rows
           ∙ (λ i. fold with_part (a.rows i) (parts (a.known i) b.trees))
           ∙ sym (fold-append with_part (rows_of u.stacks) (parts known a.trees)

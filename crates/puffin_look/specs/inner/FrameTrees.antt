@@ -10,7 +10,8 @@ use Rattle.puffin_data.specs.Forest.Spelling.{Spells}
 use Rattle.puffin_data.specs.Honesty.{StreamFacts}
 use Rattle.puffin_data.specs.Walk.{IsFault}
 use Rattle.puffin_threads.specs.Details.Collection.{Collection}
-use Rattle.puffin_threads.specs.Thread.ThreadKey.{ThreadKey}
+use Rattle.puffin_threads.specs.declared.thread_profiler.thread_info.ThreadInfo.{ThreadInfo}
+use Rattle.puffin_threads.specs.Thread.ThreadKey.{ThreadKey, key_of}
 use Rattle.puffin_frames.specs.declared.frame_data.meta.FrameMeta.{FrameMeta}
 use Rattle.puffin_look.specs.OpenFrame.{OpenFrame}
 use Rattle.puffin_look.specs.Trees.{Entry, Tree, TreeFrame, AreSpelled, AreRead, AreUnread, outputs}
@@ -19,9 +20,9 @@ use Rattle.puffin_look.specs.inner.Reads.{AreRead-append, outputs-append}
 use Rattle.puffin_look.specs.inner.TreeLines.{HasMoreLines}
 use Rattle.puffin_look.specs.declared.frame_tree.Trees.{Trees}
 
--- the text of the thread that is wanted
-abbrev pub wanted_of : Trees → Option (List ℕ)
-wanted_of v = option_map (λ t. t.now) v.thread
+-- the thread that is wanted
+abbrev pub wanted_of : Trees → Option ThreadKey
+wanted_of v = option_map (λ t. key_of t.now) v.thread
 
 abbrev pub wanted_in : Trees → List Entry → List Entry
 wanted_in v entries = filter (λ e. is_wanted (wanted_of v) e.0) entries
@@ -73,7 +74,7 @@ abbrev pub RefusesFrame : Trees → OpenFrame → Error → Type 0
 RefusesFrame v frame cause = AreUnread (streams_at v.index (wanted_of v) frame) cause
 
 -- the text of some frames, whether a thread was found or not
-abbrev pub IsAnyFrameText : ℕ → Option (List ℕ) → List OpenFrame → List ℕ → Type 0
+abbrev pub IsAnyFrameText : ℕ → Option ThreadKey → List OpenFrame → List ℕ → Type 0
 IsAnyFrameText index thread frames text =
     (found : Bool) × IsFrameText index thread found frames text
 
@@ -94,11 +95,11 @@ pub trees_more : (u v w : Trees) (xs ys : List OpenFrame) (s t : List ℕ) → T
     TakesTrees v ys t w → TakesTrees u (xs ++ ys) (s ++ t) w
 trees_more u v w xs ys s t a b =
     let index = a.index in
-    let thread = ap (option_map (λ (t : Bor (List ℕ)). t.now)) a.thread in
+    let thread = ap (option_map (λ (t : Bor ThreadInfo). key_of t.now)) a.thread in
     record {
       trees = a.trees ++ b.trees;
       read = AreRead-append (streams_at u.index (wanted_of u)) xs ys a.trees b.trees a.read (
-          subst (λ (p : ℕ × Option (List ℕ)). AreRead (streams_at p.0 p.1) ys b.trees)
+          subst (λ (p : ℕ × Option ThreadKey). AreRead (streams_at p.0 p.1) ys b.trees)
           (λ i. (index i, thread i)) b.read);
       is = (λ i. a.is i ++ b.is i)
           ∙ (λ i. outputs (frame_text u.index) known_with u.lines.known a.trees
