@@ -1,4 +1,5 @@
 mod Listed
+mod FirstRead
 mod HeldStreams
 mod ThreadsTotaled
 mod ThreadsPrinted

@@ -6,11 +6,11 @@ use Rattle.std.specs.List.{flat_map}
 use Rattle.puffin_data.specs.Forest.{Span, Forest}
 use Rattle.puffin_data.specs.Text.{text_in}
 use Rattle.puffin_data.specs.Walk.PlacedScopes.{ScopeInContext, nested_in}
-use Rattle.puffin_threads.specs.Details.Collection.{Collection, no_details, with_all_details}
+use Rattle.puffin_threads.specs.Details.Collection.{Collection}
 use Rattle.puffin_threads.specs.Thread.ThreadKey.{ThreadKey, has_same_key}
 use Rattle.puffin_frames.specs.declared.frame_data.meta.FrameMeta.{FrameMeta}
 use Rattle.puffin_look.specs.OpenFrame.{OpenFrame}
-use Rattle.puffin_look.specs.Trees.{Tree, TreeFrame, Pick, all_streams, AreRead, outputs}
+use Rattle.puffin_look.specs.Trees.{Tree, TreeFrame, Pick, all_streams, AreRead}
 use Rattle.puffin_look.specs.Names.{name_or_id}
 use Rattle.puffin_look.specs.ThreadLines.{thread_text}
 use Rattle.puffin_look.specs.FrameLines.{range_text, duration_text}
@@ -95,17 +95,12 @@ head_text meta =
     (codes "frame " ++ decimal meta.frame_index)
     ++ (range_text meta.range_ns ++ duration_text (meta.range_ns.1 -ℤ meta.range_ns.0))
 
--- the details that are listed up to a frame
-abbrev pub known_with : Collection → TreeFrame → Collection
-known_with known f = with_all_details known f.details
-
 abbrev pub trees_text : Collection → TreeFrame → List ℕ
 trees_text known f = head_text f.meta ++ flat_map (tree_text known f.meta.range_ns) f.trees
 
 -- a frame with this index, or nothing
-abbrev pub frame_text : ℕ → Collection → TreeFrame → List ℕ
-frame_text index known f =
-    if f.meta.frame_index == index then trees_text (known_with known f) f else []
+abbrev pub frame_text : Collection → ℕ → TreeFrame → List ℕ
+frame_text known index f = if f.meta.frame_index == index then trees_text known f else []
 
 abbrev pub has_trees : Bool → List Tree → Bool
 has_trees before [] = before
@@ -116,9 +111,9 @@ abbrev pub found_in : Bool → List TreeFrame → Bool
 found_in before frames = fold (λ found f. has_trees found f.trees) before frames
 
 -- The frames with this index, each with the wanted threads; `found` is whether there is one.
-abbrev pub IsFrameText : ℕ → Option ThreadKey → Bool → List OpenFrame → List ℕ → Type 0
-IsFrameText index thread found frames text =
+abbrev pub IsFrameText : Collection → ℕ → Option ThreadKey → Bool → List OpenFrame → List ℕ → Type 0
+IsFrameText known index thread found frames text =
     (trees : List TreeFrame)
     × AreRead (streams_at index thread) frames trees
-    × (text ≡ outputs (frame_text index) known_with no_details trees)
+    × (text ≡ flat_map (frame_text known index) trees)
     × (found ≡ found_in false trees)

@@ -1,5 +1,6 @@
 pub mod OpenFrame
 pub mod Printed
+pub mod FirstReading
 pub mod ThreadLines
 pub mod ThreadNames
 pub mod FrameLines

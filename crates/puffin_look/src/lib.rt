@@ -1,5 +1,7 @@
 //! Shows what is in a file of frames: its threads and its frames. Reads one frame at a time.
 //!
+//! A tree, a trace and folded stacks have names from all frames of the file: [`read_overview`] reads them first.
+//!
 //! | to | call |
 //! |---|---|
 //! | list the threads of a file, or find one by its name | [`print_threads`], [`threads_named`] |
@@ -16,6 +18,7 @@ mod frame_tree;
 mod frames;
 mod listing;
 mod names;
+mod overview;
 mod quoting;
 mod slowest;
 mod stacks;
@@ -29,6 +32,7 @@ mod tree;
 pub use folded::print_folded;
 pub use frame_tree::print_frame;
 pub use frames::print_frames;
+pub use overview::{Overview, read_overview};
 pub use slowest::print_slowest;
 pub use task::{View, read_words};
 pub use thread_names::threads_named;

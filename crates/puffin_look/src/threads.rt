@@ -16,11 +16,9 @@ use crate::text::{push_count, push_time};
 use puffin_data::data::{Drain, Source, StreamInfo, write_all};
 use puffin_data::{Error, FileError, NanoSecond, Result as Answer};
 use puffin_frames::frame_data::UnpackedFrameData;
-use puffin_threads::scope_details::ScopeDetails;
 use puffin_threads::thread_profiler::ThreadInfo;
 use std::alloc::{AllocError, Global};
 use std::collections::BTreeMap;
-use std::sync::Arc;
 
 /// What the frames of a file have of one thread. A sum that doesn't fit `u64` is `u64::MAX`.
 #[derive(Clone, Copy, Debug)]
@@ -107,7 +105,7 @@ impl Listing for Threads {
 
     ghost takes_more = { totals_more };
 
-    fn add(&mut self, frame: &UnpackedFrameData, _details: &[Arc<ScopeDetails>]) -> Answer<()> {
+    fn add(&mut self, frame: &UnpackedFrameData) -> Answer<()> {
         'streams: for (thread, info) in frame.thread_streams.iter() {
             self.add_stream(thread, info)?;
         }

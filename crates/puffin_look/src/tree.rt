@@ -67,14 +67,14 @@ fn push_scope(
 
 /// The lines that are still to be written, and what the next ones depend on.
 #[derive(Drop)]
-pub(crate) struct Lines {
+pub(crate) struct Lines<'k> {
     pub text: Vec<u8>,
-    pub known: ScopeCollection,
+    pub known: &'k ScopeCollection,
     /// The range of the frame whose scopes are met.
     pub range_ns: (NanoSecond, NanoSecond),
 }
 
-impl<'s> Visitor<'s> for Lines {
+impl<'s, 'k> Visitor<'s> for Lines<'k> {
     ghost use Rattle.puffin_look.specs.inner.TreeLines.{TakesScopes, StandsFor, scopes_none, scopes_more, still_stands};
 
     type Within = Outer;
@@ -92,7 +92,7 @@ impl<'s> Visitor<'s> for Lines {
     ghost still_stands = { still_stands };
 
     fn enter(&mut self, within: Outer, scope: &RawScope<'s>) -> Answer<Outer> {
-        push_scope(&mut self.text, &self.known, self.range_ns.0, within, scope)?;
+        push_scope(&mut self.text, self.known, self.range_ns.0, within, scope)?;
         Ok(Outer {
             level: within.level + 1,
             time: scope.stop.abs_diff(scope.start),
@@ -100,7 +100,7 @@ impl<'s> Visitor<'s> for Lines {
     }
 }
 
-impl Lines {
+impl<'k> Lines<'k> {
     /// Appends a thread's line.
     fn push_head(&mut self, thread: &ThreadInfo) -> Result<(), AllocError>
         ensures { OnOk result (HasMoreLines self.old self.new
@@ -127,7 +127,7 @@ impl Lines {
         ensures ok { OnOk result ((f : Forest)
             × Spells (facts_of info.now).form (facts_of info.now).bytes f
             × HasMoreLines self.old self.new
-            (tree_text self.old.known self.old.range_ns (key_of thread.now, f))) }
+            (tree_text self.old.known.now self.old.range_ns (key_of thread.now, f))) }
         ensures err { IfErr result (λ e.
             (e ≡ Error.Memory) ⊎ IsFault (facts_of info.now).form (facts_of info.now).bytes e) }
     {
@@ -140,7 +140,7 @@ impl Lines {
         ensures ok { OnOk result ((f : Forest)
             × Spells (facts_of info.now).form (facts_of info.now).bytes f
             × HasMoreLines self.old self.new
-            (forest_lines self.old.known self.old.range_ns f)) }
+            (forest_lines self.old.known.now self.old.range_ns f)) }
         ensures err { IfErr result (λ e.
             (e ≡ Error.Memory) ⊎ IsFault (facts_of info.now).form (facts_of info.now).bytes e) }
     {

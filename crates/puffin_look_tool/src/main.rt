@@ -2,11 +2,17 @@
 //! folded stacks.
 #![tactic(auto)]
 
+ghost use Rattle.std.specs.Prelude.{◌<◌, ◌^◌, ◌-◌, IfOk};
+ghost use Rattle.puffin_data.specs.Device.Counting.{failed_reads};
+
+mod skimmed;
+
+use crate::skimmed::Skimmed;
 use puffin_data::data::{Buffered, Counted};
 use puffin_data::{FileError, FrameIndex};
 use puffin_look::{
-    View, print_folded, print_frame, print_frames, print_slowest, print_threads, print_trace,
-    read_words, threads_named,
+    Overview, View, print_folded, print_frame, print_frames, print_slowest, print_threads,
+    print_trace, read_overview, read_words, threads_named,
 };
 use puffin_threads::thread_profiler::ThreadInfo;
 use std::fs::File;
@@ -114,7 +120,9 @@ fn reader<'f, 'w>(
     rt: &HostRuntime,
     path: &'w str,
     file: &'f File,
-) -> Result<Reader<'f>, LookFault<'w>> {
+) -> Result<Reader<'f>, LookFault<'w>>
+    ensures { IfOk result (λ reader. failed_reads reader < 2 ^ 64 - 1) }
+{
     match BufReader::with_capacity(rt.alloc(), READ_AHEAD, file) {
         Ok(file) => Ok(Buffered::new(file)),
         Err(error) => Err(LookFault::At(path, Cause::System(error))),
@@ -169,38 +177,95 @@ fn fault_of<'w>(
     }
 }
 
-/// Prints what was asked for of a file.
-fn show<'w>(rt: &HostRuntime, view: View<'w>, path: &'w str) -> Result<(), LookFault<'w>> {
-    let file = open(rt, path)?;
+/// Reads what all frames of a file say together. The file is then read again.
+fn first_reading<'w>(
+    rt: &HostRuntime,
+    path: &'w str,
+    file: &File,
+) -> Result<Overview, LookFault<'w>> {
+    rewind(path, file)?;
+    let mut source = match Skimmed::new(rt.alloc(), file) {
+        Ok(source) => source,
+        Err(error) => return Err(LookFault::At(path, Cause::System(error))),
+    };
+    let overview = match read_overview(rt.alloc(), &mut source) {
+        Ok(overview) => overview,
+        Err(error) => return Err(fault_of(path, error, source.last_error(), None)),
+    };
+    rewind(path, file)?;
+    Ok(overview)
+}
+
+/// Prints a list, which is read once.
+fn list<'w>(
+    rt: &HostRuntime,
+    view: View<'w>,
+    path: &'w str,
+    file: &File,
+) -> Result<(), LookFault<'w>> {
+    let mut source = reader(rt, path, file)?;
+    let mut out = Counted::new(rt.stdout());
+    let printed = match view {
+        View::Threads => print_threads(rt.alloc(), &mut source, &mut out),
+        View::Slowest(limit) => print_slowest(rt.alloc(), &mut source, &mut out, limit),
+        _ => print_frames(rt.alloc(), &mut source, &mut out),
+    };
+    match printed {
+        Ok(()) => Ok(()),
+        Err(error) => Err(fault_of(path, error, source.last_error(), out.last_error())),
+    }
+}
+
+/// Fails if a frame wasn't found, or not with its thread.
+fn found<'w>(path: &'w str, view: View<'w>, is_found: bool) -> Result<(), LookFault<'w>> {
+    if is_found {
+        return Ok(());
+    }
+    match view {
+        View::Frame(index, None) => Err(LookFault::At(path, Cause::NoFrame(index))),
+        View::Frame(index, Some(word)) => Err(LookFault::At(path, Cause::NotInFrame(index, word))),
+        _ => Ok(()),
+    }
+}
+
+/// Prints what has names of scopes, which is read twice.
+fn draw<'w>(
+    rt: &HostRuntime,
+    view: View<'w>,
+    path: &'w str,
+    file: &File,
+) -> Result<(), LookFault<'w>> {
+    let overview = first_reading(rt, path, file)?;
     let thread = match view {
         View::Frame(_, Some(word)) | View::Folded(Some(word)) => {
-            Some(thread_in(rt, path, &file, word)?)
+            Some(thread_in(rt, path, file, word)?)
         }
         _ => None,
     };
-    let mut source = reader(rt, path, &file)?;
+    let thread = thread.as_ref();
+    let mut source = reader(rt, path, file)?;
     let mut out = Counted::new(rt.stdout());
     let printed = match view {
-        View::Threads => print_threads(rt.alloc(), &mut source, &mut out).map(|()| true),
-        View::Frames => print_frames(rt.alloc(), &mut source, &mut out).map(|()| true),
-        View::Slowest(limit) => {
-            print_slowest(rt.alloc(), &mut source, &mut out, limit).map(|()| true)
-        }
         View::Frame(index, _) => {
-            print_frame(rt.alloc(), &mut source, &mut out, index, thread.as_ref())
+            print_frame(rt.alloc(), &overview, &mut source, &mut out, index, thread)
         }
-        View::Trace => print_trace(rt.alloc(), &mut source, &mut out).map(|()| true),
         View::Folded(_) => {
-            print_folded(rt.alloc(), &mut source, &mut out, thread.as_ref()).map(|_| true)
+            print_folded(rt.alloc(), &overview, &mut source, &mut out, thread).map(|_| true)
         }
+        _ => print_trace(rt.alloc(), &overview, &mut source, &mut out).map(|()| true),
     };
-    match (printed, view) {
-        (Ok(false), View::Frame(index, None)) => Err(LookFault::At(path, Cause::NoFrame(index))),
-        (Ok(false), View::Frame(index, Some(word))) => {
-            Err(LookFault::At(path, Cause::NotInFrame(index, word)))
-        }
-        (Ok(_), _) => Ok(()),
-        (Err(error), _) => Err(fault_of(path, error, source.last_error(), out.last_error())),
+    match printed {
+        Ok(is_found) => found(path, view, is_found),
+        Err(error) => Err(fault_of(path, error, source.last_error(), out.last_error())),
+    }
+}
+
+/// Prints what was asked for of the file at a path.
+fn show<'w>(rt: &HostRuntime, view: View<'w>, path: &'w str) -> Result<(), LookFault<'w>> {
+    let file = open(rt, path)?;
+    match view {
+        View::Threads | View::Frames | View::Slowest(_) => list(rt, view, path, &file),
+        View::Frame(..) | View::Trace | View::Folded(_) => draw(rt, view, path, &file),
     }
 }
 

@@ -2,8 +2,8 @@ use crate::equal::equal;
 use puffin_data::FileError;
 use puffin_data::data::Counted;
 use puffin_look::{
-    View, print_folded, print_frame, print_frames, print_slowest, print_threads, print_trace,
-    read_words, threads_named,
+    Overview, View, print_folded, print_frame, print_frames, print_slowest, print_threads,
+    print_trace, read_overview, read_words, threads_named,
 };
 use puffin_threads::thread_profiler::ThreadInfo;
 use std::alloc::AllocGlobal;
@@ -29,17 +29,17 @@ const FRAMES: &[u8] = b"frame 0 threads 1 scopes 1 range 100 300 duration 200\n\
 frame 1 threads 1 scopes 1 range 400 401 duration 1\n";
 
 /// The trace of [`FILE`].
-const TRACE: &[u8] =
-    b"[{\"ph\":\"M\",\"pid\":1,\"name\":\"process_name\",\"args\":{\"name\":\"puffin\"}},\n\
-{\"ph\":\"i\",\"s\":\"p\",\"pid\":1,\"tid\":0,\"ts\":0.000,\"name\":\"frame 0\",\"args\":{\"start\":100,\"stop\":300}},\n\
+const TRACE: &[u8] = b"{\"displayTimeUnit\":\"ns\",\"traceEvents\":[\n\
+{\"ph\":\"M\",\"pid\":1,\"name\":\"process_name\",\"args\":{\"name\":\"puffin\"}},\n\
+{\"ph\":\"i\",\"s\":\"p\",\"pid\":1,\"tid\":0,\"ts\":0.000,\"name\":\"frame 0\",\"args\":{\"start\":\"100\",\"stop\":\"300\"}},\n\
 {\"ph\":\"M\",\"pid\":1,\"tid\":1,\"name\":\"thread_name\",\"args\":{\"name\":\"main\",\"start\":\"100\"}},\n\
 {\"ph\":\"X\",\"pid\":1,\"tid\":1,\"ts\":0.000,\"dur\":0.200,\"name\":\"#1\",\"args\":{\"text\":\"data\"}},\n\
-{\"ph\":\"i\",\"s\":\"p\",\"pid\":1,\"tid\":0,\"ts\":0.300,\"name\":\"frame 1\",\"args\":{\"start\":400,\"stop\":401}},\n\
+{\"ph\":\"i\",\"s\":\"p\",\"pid\":1,\"tid\":0,\"ts\":0.300,\"name\":\"frame 1\",\"args\":{\"start\":\"400\",\"stop\":\"401\"}},\n\
 {\"ph\":\"X\",\"pid\":1,\"tid\":1,\"ts\":0.300,\"dur\":0.001,\"name\":\"#1\",\"args\":{\"text\":\"a\"}}\n\
-]\n";
+]}\n";
 
 /// Where the events of the second frame begin.
-const SECOND_FRAME: usize = 334;
+const SECOND_FRAME: usize = 377;
 
 /// Where the line of the second frame begins.
 const SECOND_LINE: usize = 54;
@@ -58,11 +58,21 @@ fn frames_of(rt: &impl AllocGlobal, file: &[u8]) -> Printed {
     (answer, out.into_inner())
 }
 
+/// Returns what the frames of a file say together.
+fn overview_of<R: AllocGlobal + Abort>(rt: &R, file: &[u8]) -> Overview {
+    read_overview(rt.alloc(), &mut Counted::new(file)).expect(rt, "an overview")
+}
+
 /// Prints the frame of [`FILE`] with an index.
-fn frame_of(rt: &impl AllocGlobal, index: u64, thread: Option<&ThreadInfo>) -> (Found, Vec<u8>) {
+fn frame_of<R: AllocGlobal + Abort>(
+    rt: &R,
+    index: u64,
+    thread: Option<&ThreadInfo>,
+) -> (Found, Vec<u8>) {
     let mut out = Counted::new(Vec::new(rt.alloc()));
     let answer = print_frame(
         rt.alloc(),
+        &overview_of(rt, &FILE),
         &mut Counted::new(&FILE[..]),
         &mut out,
         index,
@@ -72,16 +82,31 @@ fn frame_of(rt: &impl AllocGlobal, index: u64, thread: Option<&ThreadInfo>) -> (
 }
 
 /// Writes a file as a trace.
-fn trace_of(rt: &impl AllocGlobal, file: &[u8]) -> Printed {
+fn trace_of<R: AllocGlobal + Abort>(rt: &R, file: &[u8]) -> Printed {
     let mut out = Counted::new(Vec::new(rt.alloc()));
-    let answer = print_trace(rt.alloc(), &mut Counted::new(file), &mut out);
+    let answer = print_trace(
+        rt.alloc(),
+        &overview_of(rt, file),
+        &mut Counted::new(file),
+        &mut out,
+    );
     (answer, out.into_inner())
 }
 
 /// Writes the folded stacks of a file.
-fn folded_of(rt: &impl AllocGlobal, file: &[u8], thread: Option<&ThreadInfo>) -> (Found, Vec<u8>) {
+fn folded_of<R: AllocGlobal + Abort>(
+    rt: &R,
+    file: &[u8],
+    thread: Option<&ThreadInfo>,
+) -> (Found, Vec<u8>) {
     let mut out = Counted::new(Vec::new(rt.alloc()));
-    let answer = print_folded(rt.alloc(), &mut Counted::new(file), &mut out, thread);
+    let answer = print_folded(
+        rt.alloc(),
+        &overview_of(rt, file),
+        &mut Counted::new(file),
+        &mut out,
+        thread,
+    );
     (answer, out.into_inner())
 }
 
@@ -133,6 +158,20 @@ fn what_stands_before_a_fault_is_listed(rt: HostRuntime) {
 }
 
 #[test]
+fn a_name_that_the_last_frame_lists_is_known_in_all(rt: HostRuntime) {
+    let mut file = Vec::new(rt.alloc());
+    file.extend_from_slice(&FILE[..FILE.len() - 5])
+        .expect(&rt, "the frames");
+    file.extend_from_slice(b"\x0c\0\0\0\x01\x01\x01\x01\x04late\0\0\0")
+        .expect(&rt, "the details");
+    let overview = overview_of(&rt, &file);
+    equal(&rt, overview.start, 100);
+    equal(&rt, overview_of(&rt, b"").start, i64::MAX);
+    let folded = folded_of(&rt, &file, None);
+    equal(&rt, folded.1.as_slice(), b"late 201\n".as_slice());
+}
+
+#[test]
 fn a_frame_is_a_tree(rt: HostRuntime) {
     let thread = main_thread(&rt, Some(100));
     let printed = frame_of(&rt, 1, Some(&thread));
@@ -150,7 +189,10 @@ fn a_trace_has_each_frame_thread_and_scope(rt: HostRuntime) {
     prints(&rt, &trace_of(&rt, &FILE), Ok(()), TRACE);
     let truncated = Err(FileError::Truncated);
     let cut = trace_of(&rt, &FILE[..ONE_FRAME + 20]);
-    prints(&rt, &cut, truncated, &TRACE[..SECOND_FRAME]);
+    equal(&rt, cut.0, truncated);
+    let (frames, end) = cut.1.as_slice().split_at(SECOND_FRAME);
+    equal(&rt, frames, &TRACE[..SECOND_FRAME]);
+    equal(&rt, end, b"\n]}\n".as_slice());
 }
 
 #[test]

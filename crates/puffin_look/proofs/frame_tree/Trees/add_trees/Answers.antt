@@ -39,4 +39,4 @@ returns-in_err-add_stream-clause-err c =
 pub returns-clause-ok : goal.returns-clause-ok
 returns-clause-ok c =
     let sorted : IsStrictlySortedBy thread_cmp (keys_of c.args.frame.now.thread_streams.entries) = search rules in
-    trees_shown c.args.self.now _ _ (open_of c.args.frame.now []) _ _ _ c.in_ok-push_head.ensures refl refl refl refl refl (ap (map entry_of) c.in-None.ensures.steps.0) c.streams.invariant (entries_held c.args.frame.now.thread_streams.entries sorted)
+    trees_shown c.args.self.now _ _ (open_of c.args.frame.now) _ _ _ c.in_ok-push_head.ensures refl refl refl refl refl (ap (map entry_of) c.in-None.ensures.steps.0) c.streams.invariant (entries_held c.args.frame.now.thread_streams.entries sorted)
