@@ -33,7 +33,7 @@ def checks(example):
     found = checks_of_file("the_rust_crate", sources.original)
     found += checks_of_file("the_example", functools.partial(sources.of_example, example)) if example else []
     found += [("the_readings_of_both", sources.faults_in_python)]
-    return found + list((traces.CHECKS_OF_NAMES | folded.CHECKS_OF_NAMES).items())
+    return found + list((traces.CHECKS_OF_NAMES | folded.CHECKS_OF_NAMES | listings.CHECKS_OF_NAMES).items())
 
 
 def main():

@@ -16,9 +16,9 @@ use Rattle.puffin_look.specs.FrameTree.{wanted_streams, time_of, found_in}
 
 -- ---- a path
 
--- control characters, and the `;` between the names of a path
+-- control characters, the blank before a number, and the `;` between the names of a path
 abbrev pub is_reserved : ℕ → Bool
-is_reserved byte = nat_lt byte 32 || (byte == 59 || byte == 127)
+is_reserved byte = nat_lt byte 33 || (byte == 59 || byte == 127)
 
 abbrev pub shown_byte : ℕ → ℕ
 shown_byte byte = if is_reserved byte then 95 else byte

@@ -11,6 +11,7 @@ use Rattle.puffin_threads.specs.Thread.ThreadKey.{ThreadKey, has_same_key}
 use Rattle.puffin_frames.specs.declared.frame_data.meta.FrameMeta.{FrameMeta}
 use Rattle.puffin_look.specs.OpenFrame.{OpenFrame}
 use Rattle.puffin_look.specs.Trees.{Tree, TreeFrame, Pick, all_streams, AreRead}
+use Rattle.puffin_look.specs.Escapes.{escaped}
 use Rattle.puffin_look.specs.Names.{name_or_id}
 use Rattle.puffin_look.specs.ThreadLines.{thread_text}
 use Rattle.puffin_look.specs.FrameLines.{range_text, duration_text}
@@ -41,7 +42,7 @@ indent (suc level) = codes "  " ++ indent level
 -- a text in parentheses, unless it is empty
 abbrev pub text_part : List ℕ → List ℕ
 text_part [] = []
-text_part (byte ∷ bytes) = codes " (" ++ ((byte ∷ bytes) ++ codes ")")
+text_part (byte ∷ bytes) = codes " (" ++ (escaped (byte ∷ bytes) ++ codes ")")
 
 -- in percent, with a digit behind the point, rounded down; of nothing there is no share
 abbrev pub share_text : ℕ → ℕ → List ℕ
@@ -69,7 +70,7 @@ numbers_text start time whole =
 abbrev pub nested_line : Collection → ℤ → ℕ → ℕ → Span → List ℕ
 nested_line known begin level outer s =
     indent level
-    ++ (name_or_id s.id (map.get known.by_id s.id)
+    ++ (escaped (name_or_id s.id (map.get known.by_id s.id))
     ++ (text_part (text_in s.text) ++ numbers_text (s.start -ℤ begin) (time_of s) outer))
 
 abbrev pub length_of : ℤ × ℤ → ℕ

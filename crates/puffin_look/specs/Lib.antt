@@ -1,6 +1,7 @@
 pub mod OpenFrame
 pub mod Printed
 pub mod FirstReading
+pub mod Escapes
 pub mod ThreadLines
 pub mod ThreadNames
 pub mod FrameLines

@@ -103,7 +103,7 @@ fn lines_of(alloc: Global, stacks: &Stacks) -> Result<Vec<u8>, AllocError>
 /// down, with its own time in nanoseconds in all frames together. That is the durations of the scopes with the path, less the
 /// durations of the scopes directly within them; a sum that doesn't fit `u64` is `u64::MAX`, and a difference that is negative is
 /// 0. The names of a path are separated by `;`, and a blank separates the path and the number. A name is that by the details
-/// of the [overview](crate::read_overview), or `#` and the id, with a `_` in place of each `;` and each control character. The paths
+/// of the [overview](crate::read_overview), or `#` and the id, with a `_` in place of each `;`, each blank and each control character. The paths
 /// are in the order in which they are first met.
 ///
 /// All threads count, or if `thread` is given, only that one. Returns whether there is one.

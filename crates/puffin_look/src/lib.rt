@@ -12,6 +12,7 @@
 #![tactic(auto)]
 
 mod columns;
+mod escapes;
 mod events;
 mod folded;
 mod frame_tree;

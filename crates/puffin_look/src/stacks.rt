@@ -55,18 +55,18 @@ impl Times {
     }
 }
 
-/// Returns a byte, or `_` for a control character or a `;`.
+/// Returns a byte, or `_` for a control character, a blank or a `;`.
 fn shown(byte: u8) -> u8
     ensures { result ≡ shown_byte byte }
 {
-    if byte < 32 || byte == b';' || byte == 127 {
+    if byte < 33 || byte == b';' || byte == 127 {
         b'_'
     } else {
         byte
     }
 }
 
-/// Appends a name, with a `_` in place of each control character and each `;`.
+/// Appends a name, with a `_` in place of each control character, each blank and each `;`.
 fn push_shown(text: &mut Vec<u8>, name: &[u8]) -> Result<(), AllocError>
     ensures { OnOk result (text.new.items ≡ text.old.items ++ map shown_byte name.now) }
 {

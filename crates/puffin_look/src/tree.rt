@@ -9,12 +9,14 @@ ghost use Rattle.puffin_data.specs.Honesty.{facts_of};
 ghost use Rattle.puffin_data.specs.Walk.{IsFault};
 ghost use Rattle.puffin_data.specs.Walk.FoundScopes.{found_of};
 ghost use Rattle.puffin_threads.specs.Thread.ThreadKey.{key_of};
+ghost use Rattle.puffin_look.specs.Escapes.{escaped};
 ghost use Rattle.puffin_look.specs.Names.{name_or_id};
 ghost use Rattle.puffin_look.specs.ThreadLines.{thread_text};
 ghost use Rattle.puffin_look.specs.FrameTree.{nested_line, length_of, forest_lines, tree_text};
 ghost use Rattle.puffin_look.specs.inner.TreeLines.{HasMoreLines};
 
 use crate::columns::{push_indent, push_numbers, push_text};
+use crate::escapes::push_escaped;
 use crate::names::{details_under, number_name};
 use crate::threads::push_thread;
 use puffin_data::data::{RawScope, StreamInfo, Visitor, text_of, walk_with};
@@ -27,13 +29,13 @@ use std::alloc::AllocError;
 fn push_name(text: &mut Vec<u8>, known: &ScopeCollection, id: u32) -> Result<(), AllocError>
     requires { 0 < id }
     ensures { OnOk result (text.new.items
-        ≡ text.old.items ++ name_or_id id (map.get known.now.by_id id)) }
+        ≡ text.old.items ++ escaped (name_or_id id (map.get known.now.by_id id))) }
 {
     match details_under(known, id) {
-        Some(details) => text.extend_from_slice(details.name().as_str().as_bytes()),
+        Some(details) => push_escaped(text, details.name().as_str().as_bytes()),
         None => {
             let name = number_name(*text.allocator(), id)?;
-            text.extend_from_slice(name.as_str().as_bytes())
+            push_escaped(text, name.as_str().as_bytes())
         }
     }
 }

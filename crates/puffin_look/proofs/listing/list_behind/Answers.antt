@@ -75,9 +75,9 @@ frames-preserved g c =
       before.0 ++ one,
       before.1 ++ added.more,
       λ unread begun.
-      let h = before.2 unread begun in
-      let given = (rw c.in-Some.is at c.in_ok-frame.ensures.given) _ before.0 h.given in
-      goes_on g.L.Listing.text g.L.Listing.takes g.met.L.Listing.takes_more c.args.listing.now c.frames.listing c.add_frame.new.listing c.clear-in-frames.new.self _ _ _ _ _ _ before.0 (stored_of frame) before.1 _ h given added c.pending-in-frames.ensures c.in_ok-write_all-2.ensures.ok c.clear-in-frames.ensures.text c.clear-in-frames.ensures.same,
+          let h = before.2 unread begun in
+          let given = (rw c.in-Some.is at c.in_ok-frame.ensures.given) _ before.0 h.given in
+          goes_on g.L.Listing.text g.L.Listing.takes g.met.L.Listing.takes_more c.args.listing.now c.frames.listing c.add_frame.new.listing c.clear-in-frames.new.self _ _ _ _ _ _ before.0 (stored_of frame) before.1 _ h given added c.pending-in-frames.ensures c.in_ok-write_all-2.ensures.ok c.clear-in-frames.ensures.text c.clear-in-frames.ensures.same,
       omega (arith, length-append before.0 one, before.3),
       c.in_ok-frame.ensures.failures ∙ before.4,
       c.in_ok-write_all-2.ensures.failures ∙ before.5,
