@@ -25,7 +25,7 @@ use Rattle.puffin_view.specs.View.File.{frame_stored, file_at, FailsToRead}
 use Rattle.puffin_view.specs.View.FrameFile.{frame_at, HasGiven}
 use Rattle.puffin_look.specs.OpenFrame.{OpenFrame, opened, opened_fields, AreOpened}
 use Rattle.puffin_look.specs.Printed.{IsRefused, HasFaultBehind, IsStopped}
-use Rattle.puffin_look.specs.inner.Listings.{AddsFrame, FailsToAdd, HasListed, StopsBehind, IsNoFile, StopsListing}
+use Rattle.puffin_look.specs.inner.Listings.{AddsFrame, FailsToAdd, HasListed, StopsBehind, StopsListing}
 
 pub if_err_so : {T E : Type 0} {P Q : E → Type 0} (r : Result T E) → ((e : E) → P e → Q e) → IfErr r P → IfErr r Q
 if_err_so (Ok x) step h = tt

@@ -1,5 +1,5 @@
 -- What all frames of a file say together: the details of their scopes, and when the first frame began.
-use Rattle.std.specs.Prelude.{◌≡◌, ◌⊎◌, ◌-◌, ◌^◌, ℕ, ℤ, pos, List, [], fold, Option}
+use Rattle.std.specs.Prelude.{◌≡◌, ◌⊎◌, ◌-◌, ◌^◌, ℕ, pos, List, [], fold, Option}
 use Rattle.std.specs.Int.{int_min}
 use Rattle.puffin_data.specs.declared.file_error.FileError.{FileError}
 use Rattle.puffin_data.specs.Device.{FailsAt}

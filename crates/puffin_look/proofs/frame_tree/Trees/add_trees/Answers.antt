@@ -1,5 +1,5 @@
 -- What was shown is the frame's wanted threads.
-use Rattle.std.proofs.Common.{rules, ◌≡◌, List, [], map, inl, inr, refl, ap, subst, sym}
+use Rattle.std.proofs.Common.{rules, ◌≡◌, List, map, inl, inr, refl, ap, subst, sym}
 use Rattle.std.proofs.lemmas.Result.{err_from_is_err_and}
 use Rattle.std.proofs.lemmas.Map.Iter.{rest_more}
 use Rattle.std.specs.Map.{keys_of}

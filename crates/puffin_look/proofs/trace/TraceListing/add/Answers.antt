@@ -1,5 +1,5 @@
 -- What was traced is the frame.
-use Rattle.std.proofs.Common.{rules, ◌≡◌, ◌++◌, map, inl, inr, refl, ap, subst, sym, ◌∙◌, w64, arith}
+use Rattle.std.proofs.Common.{rules, ◌≡◌, ◌++◌, map, inl, inr, refl, ap, subst, ◌∙◌, w64, arith}
 use Rattle.std.proofs.lemmas.Int.{ints, to_z-of_z}
 use Rattle.std.proofs.lemmas.Result.{err_from_is_err_and}
 use Rattle.std.proofs.lemmas.Map.Iter.{rest_more}
