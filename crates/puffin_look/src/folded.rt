@@ -120,15 +120,17 @@ pub fn print_folded<S: Source, D: Drain>(
     requires source { CanFail S.failures source.old }
     requires drain { CanFail D.failures drain.old }
     ensures ok { IfOk result (λ found.
-        IsPrinted (IsFolded overview.now.details (option_map (λ t. key_of t.now) thread.entry) found)
-        (S.remaining source.old) (S.remaining source.new) (D.contents drain.old)
+        IsPrinted (IsFolded overview.now.details (option_map (λ t. key_of t.now) thread.entry)
+        found) (S.remaining source.old) (S.remaining source.new) (D.contents drain.old)
         (D.contents drain.new)) }
     ensures err { IfErr result (λ e.
-        IsStopped IsNoText (RefusesUnread (wanted_streams (option_map (λ t. key_of t.now) thread.entry)))
+        IsStopped IsNoText
+        (RefusesUnread (wanted_streams (option_map (λ t. key_of t.now) thread.entry)))
         (S.remaining source.old) (S.remaining source.new) (D.contents drain.old)
         (D.contents drain.new) e
         ⊎ ((e ≡ FileError.Io)
-        × IsCutOff (IsAnyFolded overview.now.details (option_map (λ t. key_of t.now) thread.entry)) (S.remaining source.old)
+        × IsCutOff (IsAnyFolded overview.now.details
+        (option_map (λ t. key_of t.now) thread.entry)) (S.remaining source.old)
         (S.remaining source.new) (D.contents drain.old) (D.contents drain.new))) }
     // `Io` means that the reader or the writer failed in this call, or that the writer took no bytes.
     ensures io { (result ≡ Err FileError.Io) → (S.failures source.new ≡ S.failures source.old + 1)
