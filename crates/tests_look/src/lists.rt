@@ -123,6 +123,14 @@ fn named<R: AllocGlobal + Abort>(rt: &R, word: &str) -> Vec<ThreadInfo> {
     threads_named(rt.alloc(), &mut Counted::new(&FILE[..]), word).expect(rt, "a file")
 }
 
+/// Returns these bytes, one behind the other.
+fn joined<R: AllocGlobal + Abort>(rt: &R, first: &[u8], last: &[u8]) -> Vec<u8> {
+    let mut bytes = Vec::new(rt.alloc());
+    bytes.extend_from_slice(first).expect(rt, "memory");
+    bytes.extend_from_slice(last).expect(rt, "memory");
+    bytes
+}
+
 /// Checks what was printed.
 fn prints(rt: &impl Abort, printed: &Printed, answer: Result<(), FileError>, lines: &[u8]) {
     equal(rt, printed.0, answer);
@@ -159,16 +167,16 @@ fn what_stands_before_a_fault_is_listed(rt: HostRuntime) {
 
 #[test]
 fn a_name_that_the_last_frame_lists_is_known_in_all(rt: HostRuntime) {
-    let mut file = Vec::new(rt.alloc());
-    file.extend_from_slice(&FILE[..FILE.len() - 5])
-        .expect(&rt, "the frames");
-    file.extend_from_slice(b"\x0c\0\0\0\x01\x01\x01\x01\x04late\0\0\0")
-        .expect(&rt, "the details");
-    let overview = overview_of(&rt, &file);
-    equal(&rt, overview.start, 100);
-    equal(&rt, overview_of(&rt, b"").start, i64::MAX);
-    let folded = folded_of(&rt, &file, None);
-    equal(&rt, folded.1.as_slice(), b"late 201\n".as_slice());
+    let details = b"\x0c\0\0\0\x01\x01\x01\x01\x04late\0\0\0";
+    let file = joined(&rt, &FILE[..FILE.len() - 5], details);
+    let folded = folded_of(&rt, file.as_slice(), None);
+    equal(&rt, folded.1.as_slice(), b"late 201\n");
+}
+
+#[test]
+fn an_overview_begins_with_the_first_frame(rt: HostRuntime) {
+    equal(&rt, overview_of(&rt, &FILE).start, 100);
+    equal(&rt, overview_of(&rt, &FILE[..0]).start, i64::MAX);
 }
 
 #[test]
@@ -189,10 +197,8 @@ fn a_trace_has_each_frame_thread_and_scope(rt: HostRuntime) {
     prints(&rt, &trace_of(&rt, &FILE), Ok(()), TRACE);
     let truncated = Err(FileError::Truncated);
     let cut = trace_of(&rt, &FILE[..ONE_FRAME + 20]);
-    equal(&rt, cut.0, truncated);
-    let (frames, end) = cut.1.as_slice().split_at(SECOND_FRAME);
-    equal(&rt, frames, &TRACE[..SECOND_FRAME]);
-    equal(&rt, end, b"\n]}\n".as_slice());
+    let closed = joined(&rt, &TRACE[..SECOND_FRAME], b"\n]}\n");
+    prints(&rt, &cut, truncated, closed.as_slice());
 }
 
 #[test]
