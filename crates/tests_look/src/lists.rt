@@ -174,12 +174,6 @@ fn a_name_that_the_last_frame_lists_is_known_in_all(rt: HostRuntime) {
 }
 
 #[test]
-fn an_overview_begins_with_the_first_frame(rt: HostRuntime) {
-    equal(&rt, overview_of(&rt, &FILE).start, 100);
-    equal(&rt, overview_of(&rt, &FILE[..0]).start, i64::MAX);
-}
-
-#[test]
 fn a_frame_is_a_tree(rt: HostRuntime) {
     let thread = main_thread(&rt, Some(100));
     let printed = frame_of(&rt, 1, Some(&thread));
