@@ -1,4 +1,5 @@
-/* The calls of libpuffin_c.a, for C and C++ programs. docs/C.md says how to link it.
+/* The calls of libpuffin_c.a, for C programs, from C99 on, and for C++ programs, from C++11 on. docs/C.md says how to link it.
+ * puffin_zones.h has scopes without handles, puffin_writer.h writes files as frames come, and puffin.hpp has both for C++.
  *
  * Each call that returns a uint32_t returns 0, or the number of a fault (below). A call that fails changes nothing, unless its
  * comment says otherwise.
@@ -10,24 +11,43 @@
  *   point to as many bytes as its length says. While a call runs, no other thread may write bytes that the call reads, or read
  *   or write bytes that the call may write. No two parameters of a call may overlap, unless both are only read.
  * - Fill a handle (PuffinIds, PuffinThread, PuffinProfiler) with zeros ({0}) before its first call. It isn't open then:
- *   every call on it except the one that opens it fails with PUFFIN_NOT_OPEN. Don't read or write its fields, and don't copy
- *   it. Close an open handle before its storage goes away; otherwise its memory leaks.
+ *   every call on it except the one that opens it fails with PUFFIN_NOT_OPEN. Don't read or write its fields. A handle may be
+ *   moved, open or not: copy its bytes to another place, and fill the old place with zeros, or never use it again. Two copies of
+ *   an open handle must not both be used. Close an open handle before its storage goes away; otherwise its memory leaks.
  * - Pass a handle to one call at a time. It may go to another thread between two calls if a lock, the start of a thread or a
  *   join orders them.
  * - Make no call from a signal handler, or in a forked child of a process with threads.
  * - malloc, realloc and free must belong together, and must align memory as the C standard demands.
+ * - Leave each call as much stack as it takes at most, whatever bytes and scopes it gets:
+ *     1 KiB: puffin_version, puffin_interface, puffin_fault_name, puffin_ids_open, puffin_thread_open, puffin_profiler_open,
+ *       puffin_begin, puffin_end, puffin_set_scopes_on, puffin_set_max_bytes, puffin_set_max_pending, puffin_set_limits,
+ *       puffin_snapshot, puffin_thread_discard, puffin_count
+ *     4 KiB: puffin_ids_close, puffin_thread_close, puffin_profiler_close, puffin_view_clear, puffin_register_function,
+ *       puffin_register_scope, puffin_report, puffin_user_scopes, puffin_file_begin, puffin_file_next, puffin_frame_begin,
+ *       puffin_frame_next, puffin_scopes, puffin_check_file, puffin_frame_streams, puffin_file_threads
+ *     8 KiB: puffin_new_frame
+ *     192 KiB: puffin_merge_view, puffin_merge_file
  */
 #ifndef PUFFIN_H
 #define PUFFIN_H
 #include <stdbool.h>
 #include <stddef.h>
 #include <stdint.h>
+#include <string.h>
 #include <time.h>
 #ifdef __cplusplus
 #define PUFFIN_INLINE_ inline
+#define PUFFIN_CAST_(type, value) static_cast<type>(value)
 extern "C" {
 #else
 #define PUFFIN_INLINE_ static inline
+#define PUFFIN_CAST_(type, value) ((type)(value))
+#endif
+/* A call whose result has to be looked at, since it may leave undone what the next call needs. */
+#ifdef __GNUC__
+#define PUFFIN_RESULT_ __attribute__((warn_unused_result))
+#else
+#define PUFFIN_RESULT_
 #endif
 
 /* ---- versions: of this header, and of the library that is linked */
@@ -41,6 +61,11 @@ typedef struct PuffinVersion {
 } PuffinVersion;
 
 PuffinVersion puffin_version(void);
+
+/* The number of this interface, which a change of a struct or of a call raises. A program whose library may be another one than
+ * that of its header, as with a shared library, compares it with the library's number before any other call. */
+#define PUFFIN_INTERFACE 2
+uint32_t puffin_interface(void);
 
 /* ---- faults */
 
@@ -58,12 +83,13 @@ enum {
     PUFFIN_IDS_EXHAUSTED = 11,    /* all ids are used up */
     PUFFIN_INDEX_EXHAUSTED = 12,  /* the frame's index is the last one */
     PUFFIN_TOO_DEEP = 14,         /* only of a report or a merge: a scope is nested in 1,024 others */
-    PUFFIN_MEMORY = 16,           /* an allocation failed */
+    PUFFIN_MEMORY = 16,           /* an allocation failed, or a limit that was set is reached */
     PUFFIN_UNLIKE_FORMS = 17,     /* long and short texts under one thread's name and start */
     PUFFIN_NOT_TEXT = 32,         /* a text isn't UTF-8 */
     PUFFIN_NO_ID = 33,            /* the id is 0 */
     PUFFIN_NOT_OPEN = 34,         /* a handle isn't open */
     PUFFIN_IS_OPEN = 35,          /* the handle is open already */
+    PUFFIN_NOT_WRITTEN = 48,      /* only of puffin_writer.h and puffin_zones.h: a file wasn't written, and errno says why */
     /* Faults of a file. Three of them hold a number, which is multiplied by 256 and added. */
     PUFFIN_FILE_NO_MAGIC = 66,     /* the first four bytes aren't PUF0 */
     PUFFIN_FILE_TRUNCATED = 67,    /* the file ends within a packet */
@@ -76,7 +102,8 @@ enum {
     PUFFIN_FILE_BAD_SCOPES = 74,
     PUFFIN_FILE_BAD_RANGE = 75,
     PUFFIN_FILE_PART_TOO_LONG = 76, /* a part of a packet has 2^32 bytes or more */
-    PUFFIN_FILE_REFUSED = 77        /* + 256 * one of the faults from 1 to 17 */
+    PUFFIN_FILE_REFUSED = 77        /* + 256 * PUFFIN_MISSING_ID or, of a merge, the fault of a stream (1 to 3), PUFFIN_TOO_LARGE
+                                       or PUFFIN_TOO_DEEP */
 };
 
 /* Copies the name that a number has here to the front of name, as much of it as fits, and returns the size of the whole name in
@@ -92,25 +119,19 @@ enum { PUFFIN_FAULT_NAME_ROOM = 64 };
 typedef struct PuffinCount {
     uint64_t scopes, depth;    /* the number of scopes, and the greatest nesting depth */
     int64_t start_ns, stop_ns; /* the least start and the greatest stop, or INT64_MAX and INT64_MIN if there is no scope */
-    uint64_t tries;            /* the number of attempts to read a scope */
 } PuffinCount;
 
 /* Counts the scopes of a stream, which has long texts if long_texts is set. Fails with the first fault in the bytes, or with
- * PUFFIN_MEMORY; only count->tries is set then. */
+ * PUFFIN_MEMORY. */
+PUFFIN_RESULT_
 uint32_t puffin_count(const uint8_t *bytes, size_t size, bool long_texts, PuffinCount *count);
 
 /* Reads a file, and sets *frames to the number of its frames, *offset to the offset at which the last of them ends, and *read to
  * how many bytes were read. Fails with the first fault in the file; *frames is then the number of frames that were read before
  * the fault, or before memory ran out. The fault is in the next frame, which begins at *offset, or at the file's beginning if
  * *offset is 0: in the last part that was read, which ends at *read. */
+PUFFIN_RESULT_
 uint32_t puffin_check_file(const uint8_t *file, size_t size, uint64_t *frames, uint64_t *offset, uint64_t *read);
-
-/* Reports on a file for the thread with this name and this start, or with this name and no start if has_start isn't set.
- * Copies the report to the front of out, as much of it as fits, and sets *size to the size of the whole report in bytes.
- * Fails with PUFFIN_NOT_TEXT if the name isn't UTF-8, whatever the file contains. Otherwise fails with the first fault in the
- * file. */
-uint32_t puffin_report_file(const uint8_t *file, size_t file_size, bool has_start, int64_t start_ns, const uint8_t *name,
-                            size_t name_size, uint8_t *out, size_t room, uint64_t *size);
 
 /* ---- the scopes of a stream, one after the other */
 
@@ -129,6 +150,7 @@ typedef struct PuffinScope {
 /* Lists the scopes of a stream, each before its children. Copies them to the front of scopes, at most room of them, and their
  * texts, one behind the other, to the front of texts. Sets *sizes to how many scopes and bytes of texts there are: a program may
  * ask with no room first. Fails like puffin_count. */
+PUFFIN_RESULT_
 uint32_t puffin_scopes(const uint8_t *bytes, size_t size, bool long_texts, PuffinScope *scopes, size_t room, uint8_t *texts,
                        size_t texts_room, PuffinLists *sizes);
 
@@ -154,6 +176,7 @@ typedef struct PuffinStream {
  * streams, at most room of them, and the name of each thread, followed by its stream, to the front of bytes. Sets *sizes to how
  * many streams and bytes there are. puffin_scopes lists the scopes of a stream. At the file's end, only frame->is_some is set, to
  * false, *sizes to 0, and *next. Fails with PUFFIN_INVALID_OFFSET past the file's end, or with the frame's fault. */
+PUFFIN_RESULT_
 uint32_t puffin_frame_streams(const uint8_t *file, size_t size, uint64_t offset, PuffinFrame *frame, uint64_t *next,
                               PuffinStream *streams, size_t room, uint8_t *bytes, size_t bytes_room, PuffinLists *sizes);
 
@@ -168,6 +191,7 @@ typedef struct PuffinFileThread {
 /* Lists the threads of a file, ordered by start and name. Copies them to the front of threads, at most room of them, and their
  * names, one behind the other, to the front of names. Sets *sizes to how many threads and bytes of names there are. Fails with the
  * first fault in the file. */
+PUFFIN_RESULT_
 uint32_t puffin_file_threads(const uint8_t *file, size_t size, PuffinFileThread *threads, size_t room, uint8_t *names,
                              size_t names_room, PuffinLists *sizes);
 
@@ -187,7 +211,9 @@ typedef struct PuffinMerged {
 /* Merges the scopes of the thread with this name and this start, or with this name and no start if has_start isn't set, over the
  * frames of a file. Lists the merged scopes, each before those in it: copies them to the front of merged, at most room of them,
  * and their texts, one behind the other, to the front of texts. Sets *sizes to how many merged scopes and bytes of texts there
- * are; there are none if no frame has the thread. Fails like puffin_report_file. */
+ * are; there are none if no frame has the thread. Fails with PUFFIN_NOT_TEXT if the name isn't UTF-8, whatever the file contains.
+ * Otherwise fails with the first fault in the file. */
+PUFFIN_RESULT_
 uint32_t puffin_merge_file(const uint8_t *file, size_t file_size, bool has_start, int64_t start_ns, const uint8_t *name,
                            size_t name_size, PuffinMerged *merged, size_t room, uint8_t *texts, size_t texts_room,
                            PuffinLists *sizes);
@@ -199,6 +225,7 @@ typedef struct PuffinIds {
     bool is_open_;
 } PuffinIds;
 
+PUFFIN_RESULT_
 uint32_t puffin_ids_open(PuffinIds *ids);
 /* Threads and profilers that were opened with the handle keep the ids. */
 uint32_t puffin_ids_close(PuffinIds *ids);
@@ -210,23 +237,23 @@ typedef struct PuffinThread {
     bool is_open_, is_on_;
 } PuffinThread;
 
-/* The texts of the thread's scopes are cut to at most 127 bytes, or 16,383 if long_texts is set. */
+/* Opens a handle for the scopes of one thread, which is to report to profilers that were opened with these ids. The texts of the
+ * scopes are cut to at most 127 bytes, or 16,383 if long_texts is set. */
+PUFFIN_RESULT_
 uint32_t puffin_thread_open(PuffinThread *thread, PuffinIds *ids, const uint8_t *name, size_t name_size, bool long_texts);
 /* Drops the scopes that weren't reported. */
 uint32_t puffin_thread_close(PuffinThread *thread);
 /* Gives up a thread's waiting scopes, for example those of a report that is refused again and again, and sets *scopes to how many
- * there were. The names that were registered stay for the next report. Fails while a scope is open. */
+ * there were. Fails while a scope is open. */
 uint32_t puffin_thread_discard(PuffinThread *thread, uint64_t *scopes);
 
-/* Register a function, or a scope within a function under a name of its own, and set *id. Pass 0 if the line is unknown. If
- * the call fails, an id may be used up. */
-uint32_t puffin_register_function(PuffinThread *thread, const uint8_t *function, size_t function_size,
-                                  const uint8_t *file, size_t file_size, uint32_t line, uint32_t *id);
-uint32_t puffin_register_scope(PuffinThread *thread, const uint8_t *name, size_t name_size, const uint8_t *function,
-                               size_t function_size, const uint8_t *file, size_t file_size, uint32_t line, uint32_t *id);
+/* Sets how many bytes of scopes the thread may hold, open ones and closed ones that no report took. A scope takes 31 bytes and its
+ * text; puffin_begin asks for 31 bytes and the longest text (127 or 16,383), and fails with PUFFIN_MEMORY where that is more than is
+ * left. The scopes before it stay. At first there is no such limit. */
+uint32_t puffin_set_max_bytes(PuffinThread *thread, uint64_t bytes);
 
-/* Begins a scope with this id and text at this time, and sets *scope to its offset, which puffin_end takes. A negative time
- * counts as 0, and a time before the thread's last one counts as the last one. */
+/* Begins a scope with this id and text at this time, and sets *scope to its offset, which puffin_end takes, or to PUFFIN_NO_SCOPE
+ * if it fails. A negative time counts as 0, and a time before the thread's last one counts as the last one. */
 uint32_t puffin_begin(PuffinThread *thread, int64_t now_ns, uint32_t id, const uint8_t *text, size_t text_size,
                       uint64_t *scope);
 /* Ends this scope, which must be the innermost open one. Does nothing if scope is PUFFIN_NO_SCOPE. */
@@ -249,7 +276,8 @@ enum { PUFFIN_NO_SCOPE = 0 };
 PUFFIN_INLINE_ int64_t puffin_now_ns(void) {
     struct timespec now;
     clock_gettime(CLOCK_MONOTONIC, &now);
-    return (int64_t)now.tv_sec * 1000000000 + now.tv_nsec;
+    const int64_t seconds = now.tv_sec;
+    return seconds * 1000000000 + now.tv_nsec;
 }
 #endif
 
@@ -261,8 +289,19 @@ typedef struct PuffinProfiler {
 } PuffinProfiler;
 
 /* The view keeps the last 1,000 frames and the 256 slowest ones, unless puffin_set_limits sets other limits. */
+PUFFIN_RESULT_
 uint32_t puffin_profiler_open(PuffinProfiler *profiler, PuffinIds *ids);
 uint32_t puffin_profiler_close(PuffinProfiler *profiler);
+
+/* Registers a function, or a scope within a function under a name of its own, and sets *id, under which any thread begins it. The
+ * next frame that is made lists it, so a file has its name. Call it once for each place in the code, between any two other calls.
+ * Pass 0 if the line is unknown. If the call fails, an id may be used up, and a later frame may list the scope under it. */
+PUFFIN_RESULT_
+uint32_t puffin_register_function(PuffinProfiler *profiler, const uint8_t *function, size_t function_size,
+                                  const uint8_t *file, size_t file_size, uint32_t line, uint32_t *id);
+PUFFIN_RESULT_
+uint32_t puffin_register_scope(PuffinProfiler *profiler, const uint8_t *name, size_t name_size, const uint8_t *function,
+                               size_t function_size, const uint8_t *file, size_t file_size, uint32_t line, uint32_t *id);
 
 /* Reports a thread's waiting scopes to a profiler: those that ended since the thread's last accepted report. Does nothing if
  * no scope is waiting or open. If the call fails, the scopes keep waiting. */
@@ -271,12 +310,14 @@ uint32_t puffin_report(PuffinThread *thread, PuffinProfiler *profiler);
 /* Appends the scopes of a stream to those that wait for the next frame. They are added under the thread with this name and
  * this start, or with this name and no start if has_start isn't set. The thread needn't exist. See puffin_count for bytes and
  * long_texts. Fails with the first fault in the bytes. */
+PUFFIN_RESULT_
 uint32_t puffin_user_scopes(PuffinProfiler *profiler, bool has_start, int64_t start_ns, const uint8_t *name,
                             size_t name_size, const uint8_t *bytes, size_t size, bool long_texts);
 
 /* Makes a frame of everything that was reported since the last one, adds it to the view, and fills in *frame. If the call
  * fails, nothing is lost: if the view has no memory for the frame, the frame waits, and the next call adds it instead of
  * making a new one. */
+PUFFIN_RESULT_
 uint32_t puffin_new_frame(PuffinProfiler *profiler, PuffinFrame *frame);
 /* Makes the next frame list every known scope, not only the new ones. A program that begins a new file calls it, so that the
  * file has all names. */
@@ -284,56 +325,49 @@ uint32_t puffin_snapshot(PuffinProfiler *profiler);
 
 /* Sets how many recent and how many slow frames the view keeps at most. This takes effect when the next frame is added. */
 uint32_t puffin_set_limits(PuffinProfiler *profiler, size_t recent, size_t slow);
+/* Sets how many bytes of scopes may wait for the next frame, of all threads together. puffin_report and puffin_user_scopes fail with
+ * PUFFIN_MEMORY where there would be more; what waits stays. At first there is no such limit. */
+uint32_t puffin_set_max_pending(PuffinProfiler *profiler, uint64_t bytes);
 /* Drops all frames of the view, recent and slow, and keeps its limits. What waits for the next frame stays. */
 uint32_t puffin_view_clear(PuffinProfiler *profiler);
 
 /* Merges the scopes of one thread over the newest frames of the view: over as many as frames says, or over all recent ones if
  * there are fewer. 1 means the newest frame. Gives the merged scopes like puffin_merge_file. Fails with PUFFIN_NOT_TEXT if the
  * name isn't UTF-8, or with PUFFIN_TOO_DEEP or PUFFIN_TOO_LARGE if the scopes can't be merged. */
+PUFFIN_RESULT_
 uint32_t puffin_merge_view(PuffinProfiler *profiler, size_t frames, bool has_start, int64_t start_ns, const uint8_t *name,
                            size_t name_size, PuffinMerged *merged, size_t room, uint8_t *texts, size_t texts_room,
                            PuffinLists *sizes);
 
 /* Makes a .puffin file in memory from the view's frames, and sets *size to its size in bytes. */
+PUFFIN_RESULT_
 uint32_t puffin_file_begin(PuffinProfiler *profiler, uint64_t *size);
 /* Copies that file's next bytes to the front of out, as many as fit, and sets *size to how many were copied: 0 at the end. */
+PUFFIN_RESULT_
 uint32_t puffin_file_next(PuffinProfiler *profiler, uint8_t *out, size_t room, uint64_t *size);
 
 /* A file consists of these four letters and of packets, so a program can write it as frames come. */
 #define PUFFIN_FILE_START "PUF0"
 /* Makes the packet of the view's newest frame in memory, and sets *size to its size in bytes, or to 0 if the view keeps no
  * recent frame. */
+PUFFIN_RESULT_
 uint32_t puffin_frame_begin(PuffinProfiler *profiler, uint64_t *size);
 /* Copies that packet's next bytes to the front of out, as many as fit, and sets *size to how many were copied: 0 at the end. */
+PUFFIN_RESULT_
 uint32_t puffin_frame_next(PuffinProfiler *profiler, uint8_t *out, size_t room, uint64_t *size);
-
-/* ---- sizes in bytes of these structs, for a program that compares its header with the library */
-
-enum {
-    PUFFIN_SIZE_OF_COUNT,
-    PUFFIN_SIZE_OF_FRAME,
-    PUFFIN_SIZE_OF_IDS,
-    PUFFIN_SIZE_OF_THREAD,
-    PUFFIN_SIZE_OF_PROFILER,
-    PUFFIN_SIZE_OF_LISTS,
-    PUFFIN_SIZE_OF_SCOPE,
-    PUFFIN_SIZE_OF_STREAM,
-    PUFFIN_SIZE_OF_FILE_THREAD,
-    PUFFIN_SIZE_OF_MERGED,
-    PUFFIN_SIZES /* how many sizes this header knows */
-};
-/* Copies the sizes to the front of sizes, at most room of them, and returns how many the library has. */
-size_t puffin_sizes(uint64_t *sizes, size_t room);
 
 /* ---- empty texts: the calls above get a pointer that isn't NULL. Scopes that are off: no call is made, and the answer is the
  * library's own. */
 
 PUFFIN_INLINE_ const uint8_t *puffin_bytes_(const uint8_t *bytes) {
-    return bytes ? bytes : (const uint8_t *)"";
+    static const uint8_t none = 0;
+    return bytes ? bytes : &none;
 }
+PUFFIN_RESULT_
 PUFFIN_INLINE_ uint32_t puffin_count_(const uint8_t *bytes, size_t size, bool long_texts, PuffinCount *count) {
     return puffin_count(puffin_bytes_(bytes), size, long_texts, count);
 }
+PUFFIN_RESULT_
 PUFFIN_INLINE_ uint32_t puffin_scopes_(const uint8_t *bytes, size_t size, bool long_texts, PuffinScope *scopes, size_t room,
                                        uint8_t *texts, size_t texts_room, PuffinLists *sizes) {
     PuffinScope none;
@@ -341,6 +375,7 @@ PUFFIN_INLINE_ uint32_t puffin_scopes_(const uint8_t *bytes, size_t size, bool l
     return puffin_scopes(puffin_bytes_(bytes), size, long_texts, scopes ? scopes : &none, room, texts ? texts : &no_text,
                          texts_room, sizes);
 }
+PUFFIN_RESULT_
 PUFFIN_INLINE_ uint32_t puffin_frame_streams_(const uint8_t *file, size_t size, uint64_t offset, PuffinFrame *frame,
                                               uint64_t *next, PuffinStream *streams, size_t room, uint8_t *bytes,
                                               size_t bytes_room, PuffinLists *sizes) {
@@ -349,6 +384,7 @@ PUFFIN_INLINE_ uint32_t puffin_frame_streams_(const uint8_t *file, size_t size, 
     return puffin_frame_streams(puffin_bytes_(file), size, offset, frame, next, streams ? streams : &none, room,
                                 bytes ? bytes : &no_byte, bytes_room, sizes);
 }
+PUFFIN_RESULT_
 PUFFIN_INLINE_ uint32_t puffin_file_threads_(const uint8_t *file, size_t size, PuffinFileThread *threads, size_t room,
                                              uint8_t *names, size_t names_room, PuffinLists *sizes) {
     PuffinFileThread none;
@@ -356,16 +392,12 @@ PUFFIN_INLINE_ uint32_t puffin_file_threads_(const uint8_t *file, size_t size, P
     return puffin_file_threads(puffin_bytes_(file), size, threads ? threads : &none, room, names ? names : &no_name,
                                names_room, sizes);
 }
+PUFFIN_RESULT_
 PUFFIN_INLINE_ uint32_t puffin_check_file_(const uint8_t *file, size_t size, uint64_t *frames, uint64_t *offset,
                                            uint64_t *read) {
     return puffin_check_file(puffin_bytes_(file), size, frames, offset, read);
 }
-PUFFIN_INLINE_ uint32_t puffin_report_file_(const uint8_t *file, size_t file_size, bool has_start, int64_t start_ns,
-                                            const uint8_t *name, size_t name_size, uint8_t *out, size_t room,
-                                            uint64_t *size) {
-    return puffin_report_file(puffin_bytes_(file), file_size, has_start, start_ns, puffin_bytes_(name), name_size, out, room,
-                              size);
-}
+PUFFIN_RESULT_
 PUFFIN_INLINE_ uint32_t puffin_merge_file_(const uint8_t *file, size_t file_size, bool has_start, int64_t start_ns,
                                            const uint8_t *name, size_t name_size, PuffinMerged *merged, size_t room,
                                            uint8_t *texts, size_t texts_room, PuffinLists *sizes) {
@@ -374,6 +406,7 @@ PUFFIN_INLINE_ uint32_t puffin_merge_file_(const uint8_t *file, size_t file_size
     return puffin_merge_file(puffin_bytes_(file), file_size, has_start, start_ns, puffin_bytes_(name), name_size,
                              merged ? merged : &none, room, texts ? texts : &no_text, texts_room, sizes);
 }
+PUFFIN_RESULT_
 PUFFIN_INLINE_ uint32_t puffin_merge_view_(PuffinProfiler *profiler, size_t frames, bool has_start, int64_t start_ns,
                                            const uint8_t *name, size_t name_size, PuffinMerged *merged, size_t room,
                                            uint8_t *texts, size_t texts_room, PuffinLists *sizes) {
@@ -382,24 +415,27 @@ PUFFIN_INLINE_ uint32_t puffin_merge_view_(PuffinProfiler *profiler, size_t fram
     return puffin_merge_view(profiler, frames, has_start, start_ns, puffin_bytes_(name), name_size, merged ? merged : &none,
                              room, texts ? texts : &no_text, texts_room, sizes);
 }
+PUFFIN_RESULT_
 PUFFIN_INLINE_ uint32_t puffin_thread_open_(PuffinThread *thread, PuffinIds *ids, const uint8_t *name, size_t name_size,
                                             bool long_texts) {
     return puffin_thread_open(thread, ids, puffin_bytes_(name), name_size, long_texts);
 }
-PUFFIN_INLINE_ uint32_t puffin_register_function_(PuffinThread *thread, const uint8_t *function, size_t function_size,
+PUFFIN_RESULT_
+PUFFIN_INLINE_ uint32_t puffin_register_function_(PuffinProfiler *profiler, const uint8_t *function, size_t function_size,
                                                   const uint8_t *file, size_t file_size, uint32_t line, uint32_t *id) {
-    return puffin_register_function(thread, puffin_bytes_(function), function_size, puffin_bytes_(file), file_size, line, id);
+    return puffin_register_function(profiler, puffin_bytes_(function), function_size, puffin_bytes_(file), file_size, line, id);
 }
-PUFFIN_INLINE_ uint32_t puffin_register_scope_(PuffinThread *thread, const uint8_t *name, size_t name_size,
+PUFFIN_RESULT_
+PUFFIN_INLINE_ uint32_t puffin_register_scope_(PuffinProfiler *profiler, const uint8_t *name, size_t name_size,
                                                const uint8_t *function, size_t function_size, const uint8_t *file,
                                                size_t file_size, uint32_t line, uint32_t *id) {
-    return puffin_register_scope(thread, puffin_bytes_(name), name_size, puffin_bytes_(function), function_size,
+    return puffin_register_scope(profiler, puffin_bytes_(name), name_size, puffin_bytes_(function), function_size,
                                  puffin_bytes_(file), file_size, line, id);
 }
 PUFFIN_INLINE_ uint32_t puffin_begin_(PuffinThread *thread, int64_t now_ns, uint32_t id, const uint8_t *text,
                                       size_t text_size, uint64_t *scope) {
+    *scope = PUFFIN_NO_SCOPE;
     if (!thread->is_on_ && thread->is_open_) {
-        *scope = PUFFIN_NO_SCOPE;
         return PUFFIN_OK;
     }
     return puffin_begin(thread, now_ns, id, puffin_bytes_(text), text_size, scope);
@@ -410,17 +446,26 @@ PUFFIN_INLINE_ uint32_t puffin_end_(PuffinThread *thread, int64_t now_ns, uint64
     }
     return puffin_end(thread, now_ns, scope);
 }
+PUFFIN_RESULT_
 PUFFIN_INLINE_ uint32_t puffin_user_scopes_(PuffinProfiler *profiler, bool has_start, int64_t start_ns, const uint8_t *name,
                                             size_t name_size, const uint8_t *bytes, size_t size, bool long_texts) {
     return puffin_user_scopes(profiler, has_start, start_ns, puffin_bytes_(name), name_size, puffin_bytes_(bytes), size,
                               long_texts);
 }
+PUFFIN_INLINE_ size_t puffin_fault_name_(uint32_t fault, char *name, size_t room) {
+    static const char written[] = "PUFFIN_NOT_WRITTEN";
+    if (fault != PUFFIN_NOT_WRITTEN) {
+        return puffin_fault_name(fault, name, room);
+    }
+    memcpy(name, written, room < sizeof written - 1 ? room : sizeof written - 1);
+    return sizeof written - 1;
+}
+#define puffin_fault_name puffin_fault_name_
 #define puffin_count puffin_count_
 #define puffin_scopes puffin_scopes_
 #define puffin_frame_streams puffin_frame_streams_
 #define puffin_file_threads puffin_file_threads_
 #define puffin_check_file puffin_check_file_
-#define puffin_report_file puffin_report_file_
 #define puffin_merge_file puffin_merge_file_
 #define puffin_merge_view puffin_merge_view_
 #define puffin_thread_open puffin_thread_open_
@@ -429,6 +474,56 @@ PUFFIN_INLINE_ uint32_t puffin_user_scopes_(PuffinProfiler *profiler, bool has_s
 #define puffin_begin puffin_begin_
 #define puffin_end puffin_end_
 #define puffin_user_scopes puffin_user_scopes_
+
+
+/* ---- the same calls with texts that end with a zero; a text with a zero in it needs the forms above. NULL is an empty text. */
+
+PUFFIN_INLINE_ size_t puffin_text_size_(const char *text) {
+    return text ? strlen(text) : 0;
+}
+PUFFIN_INLINE_ const uint8_t *puffin_text_(const char *text) {
+    const void *bytes = text;
+    return PUFFIN_CAST_(const uint8_t *, bytes);
+}
+PUFFIN_RESULT_ PUFFIN_INLINE_ uint32_t puffin_thread_open_str(PuffinThread *thread, PuffinIds *ids, const char *name,
+                                                              bool long_texts) {
+    return puffin_thread_open(thread, ids, puffin_text_(name), puffin_text_size_(name), long_texts);
+}
+PUFFIN_RESULT_ PUFFIN_INLINE_ uint32_t puffin_register_function_str(PuffinProfiler *profiler, const char *function,
+                                                                    const char *file, uint32_t line, uint32_t *id) {
+    return puffin_register_function(profiler, puffin_text_(function), puffin_text_size_(function), puffin_text_(file),
+                                    puffin_text_size_(file), line, id);
+}
+PUFFIN_RESULT_ PUFFIN_INLINE_ uint32_t puffin_register_scope_str(PuffinProfiler *profiler, const char *name,
+                                                                 const char *function, const char *file, uint32_t line,
+                                                                 uint32_t *id) {
+    return puffin_register_scope(profiler, puffin_text_(name), puffin_text_size_(name), puffin_text_(function),
+                                 puffin_text_size_(function), puffin_text_(file), puffin_text_size_(file), line, id);
+}
+PUFFIN_INLINE_ uint32_t puffin_begin_str(PuffinThread *thread, int64_t now_ns, uint32_t id, const char *text,
+                                         uint64_t *scope) {
+    return puffin_begin(thread, now_ns, id, puffin_text_(text), puffin_scopes_on(thread) ? puffin_text_size_(text) : 0, scope);
+}
+PUFFIN_RESULT_ PUFFIN_INLINE_ uint32_t puffin_user_scopes_str(PuffinProfiler *profiler, bool has_start, int64_t start_ns,
+                                                              const char *name, const uint8_t *bytes, size_t size,
+                                                              bool long_texts) {
+    return puffin_user_scopes(profiler, has_start, start_ns, puffin_text_(name), puffin_text_size_(name), bytes, size,
+                              long_texts);
+}
+PUFFIN_RESULT_ PUFFIN_INLINE_ uint32_t puffin_merge_file_str(const uint8_t *file, size_t file_size, bool has_start,
+                                                             int64_t start_ns, const char *name, PuffinMerged *merged,
+                                                             size_t room, uint8_t *texts, size_t texts_room,
+                                                             PuffinLists *sizes) {
+    return puffin_merge_file(file, file_size, has_start, start_ns, puffin_text_(name), puffin_text_size_(name), merged, room,
+                             texts, texts_room, sizes);
+}
+PUFFIN_RESULT_ PUFFIN_INLINE_ uint32_t puffin_merge_view_str(PuffinProfiler *profiler, size_t frames, bool has_start,
+                                                             int64_t start_ns, const char *name, PuffinMerged *merged,
+                                                             size_t room, uint8_t *texts, size_t texts_room,
+                                                             PuffinLists *sizes) {
+    return puffin_merge_view(profiler, frames, has_start, start_ns, puffin_text_(name), puffin_text_size_(name), merged, room,
+                             texts, texts_room, sizes);
+}
 
 #ifdef __cplusplus
 }

@@ -2,7 +2,7 @@
  * 10,000 frames each, of which the folder in the second argument keeps the last two. Each file is read by the library's checker
  * as soon as it is whole. Every file has all names, as its first frame lists them. */
 #define _GNU_SOURCE
-#include "puffin.h"
+#include "puffin_writer.h"
 #include <stdio.h>
 #include <stdlib.h>
 #include <string.h>
@@ -48,24 +48,8 @@ static void record(unsigned long number) {
     CALL(puffin_report(&thread, &profiler));
 }
 
-static void write_packet(FILE *file) {
-    uint8_t piece[512];
-    uint64_t size;
-    CALL(puffin_frame_begin(&profiler, &size));
-    if (size == 0) {
-        fail("no packet", size);
-    }
-    for (;;) {
-        CALL(puffin_frame_next(&profiler, piece, sizeof piece, &size));
-        if (size == 0) {
-            return;
-        }
-        fwrite(piece, 1, size, file);
-    }
-}
-
-/* Reads a whole file, and returns its size. */
-static uint64_t check(const char *path, uint64_t wanted) {
+/* Reads a whole file. */
+static void check(const char *path, uint64_t wanted) {
     static uint8_t bytes[4 << 20];
     uint64_t frames, offset, read;
     FILE *file = fopen(path, "rb");
@@ -79,56 +63,58 @@ static uint64_t check(const char *path, uint64_t wanted) {
     if (!memmem(bytes, size, "name 999", 8)) {
         fail("a name is missing", size);
     }
-    return size;
+}
+
+static char newest[512], older[512];
+
+/* Looks at the frame with this number: it is written, a file that is whole has all of its frames, and memory doesn't grow. */
+static void look(unsigned long number, const PuffinFrame *frame, const PuffinWriter *writer) {
+    static long early;
+    if (!frame->is_some || frame->index != number || writer->frames != number % FRAMES_OF_A_FILE + 1) {
+        fail("the frame's index", frame->index);
+    }
+    if (writer->frames == FRAMES_OF_A_FILE) {
+        check(newest, FRAMES_OF_A_FILE);
+    }
+    if (number == FRAMES_OF_A_FILE + 100) {
+        early = kilobytes();
+        check(older, FRAMES_OF_A_FILE);
+    }
+    if (number % 1000 == 0 && early && kilobytes() - early > 1024) {
+        fail("kilobytes more than after the first file", (unsigned long long)(kilobytes() - early));
+    }
 }
 
 int main(int argc, char **argv) {
-    unsigned long frames = argc > 2 ? strtoul(argv[1], NULL, 10) : 0, in_file = 0;
-    char path[2][512];
-    long early = 0;
-    FILE *file = NULL;
+    unsigned long frames = argc > 2 ? strtoul(argv[1], NULL, 10) : 0;
     PuffinFrame frame;
+    snprintf(newest, sizeof newest, "%s/long.puffin", argc > 2 ? argv[2] : ".");
+    snprintf(older, sizeof older, "%s/long.1.puffin", argc > 2 ? argv[2] : ".");
     CALL(puffin_ids_open(&ids));
-    CALL(puffin_thread_open(&thread, &ids, (const uint8_t *)"main", 4, false));
+    CALL(puffin_thread_open_str(&thread, &ids, "main", false));
     CALL(puffin_profiler_open(&profiler, &ids));
-    CALL(puffin_set_limits(&profiler, 1, 0));
     for (int i = 0; i < NAMES; i++) {
         char name[20];
-        int size = snprintf(name, sizeof name, "name %d", i);
-        const uint8_t *text = (const uint8_t *)name, *file_name = (const uint8_t *)"long.c";
-        CALL(puffin_register_function(&thread, text, (size_t)size, file_name, 6, 0, &names[i]));
+        snprintf(name, sizeof name, "name %d", i);
+        CALL(puffin_register_function_str(&profiler, name, "long.c", 0, &names[i]));
     }
-    for (int i = 0; i < 2; i++) {
-        snprintf(path[i], sizeof path[i], "%s/part%d.puffin", argc > 2 ? argv[2] : ".", i);
-    }
+    /* listing: writer */
+    PuffinWriter writer = {0};
+    writer.path = newest;                     /* "long.puffin" */
+    writer.max_frames = 10000;                /* then the next file begins, with all names */
+    writer.older_files = 1;                   /* the one before it stays, as "long.1.puffin" */
+    CALL(puffin_set_limits(&profiler, 1, 0)); /* the view keeps the newest frame alone */
+    CALL(puffin_writer_open(&writer));
     for (unsigned long number = 0; number < frames; number++) {
-        const char *here = path[number / FRAMES_OF_A_FILE % 2];
-        if (!file) {
-            file = fopen(here, "wb");
-            fwrite(PUFFIN_FILE_START, 1, 4, file);
-            CALL(puffin_snapshot(&profiler));
-            CALL(puffin_view_clear(&profiler));
-            in_file = 0;
-        }
         record(number);
-        CALL(puffin_new_frame(&profiler, &frame));
-        if (!frame.is_some || frame.index != number) {
-            fail("the frame's index", frame.index);
+        if (puffin_writer_frame(&writer, &profiler, &frame) == PUFFIN_NOT_WRITTEN) {
+            fprintf(stderr, "%s: %s\n", writer.failed, strerror(writer.error)); /* the next frame tries again */
         }
-        write_packet(file);
-        in_file++;
-        if (in_file == FRAMES_OF_A_FILE || number + 1 == frames) {
-            fclose(file);
-            file = NULL;
-            check(here, in_file);
-        }
-        if (number == FRAMES_OF_A_FILE + 100) {
-            early = kilobytes();
-        }
+        look(number, &frame, &writer);
     }
-    if (early && kilobytes() - early > 1024) {
-        fail("kilobytes more than after the first file", (unsigned long long)(kilobytes() - early));
-    }
+    CALL(puffin_writer_close(&writer));
+    /* end of listing */
+    check(newest, (frames + FRAMES_OF_A_FILE - 1) % FRAMES_OF_A_FILE + 1);
     CALL(puffin_thread_close(&thread));
     CALL(puffin_profiler_close(&profiler));
     CALL(puffin_ids_close(&ids));

@@ -6,24 +6,21 @@ LIBRARY is libpuffin_c.a, KIT_LIBRARY the kit's c/liblibc_c.a, TOOL puffin-tool,
 shows them, and SECOND the library as Rattle's own compiler makes it: the C programs run over both, and what they write
 and print has to be the same. The folder looked has what each word of puffin-look has to print. A C compiler is needed: `cc`, or
 what CC names. What else isn't there (a C++ compiler, cargo, valgrind, the thread sanitizer, pkg-config, cmake) is left out and
-named, and so are puffin-tool and puffin-look. The last line is 'N passed, M failed'.
+named, and so are puffin-tool and puffin-look. Where the environment has NEEDS_ALL, leaving anything out fails. The last line is 'N passed, M failed'.
 """
 
+import concurrent.futures
 import os
 import pathlib
 import re
 import shutil
-import subprocess
 import sys
 import tempfile
 
 from .. import common
+from . import headers, installing, measuring
+from .programs import ADDRESSES, BINDINGS, C_COMPILER, HEADER, HERE, LEFT_OUT, STRICT, Programs, is_there, leave_out, run
 
-HERE = pathlib.Path(__file__).resolve().parent
-HEADER = common.ROOT / "crates" / "puffin_c"
-BINDINGS = common.ROOT / "bindings"
-C_COMPILER = os.environ.get("CC", "cc")
-STRICT = ["-Wall", "-Wextra", "-Werror", "-I", HEADER]
 WRAPPED = ["-Wl,--wrap=malloc", "-Wl,--wrap=realloc"]
 # frames of the long session
 FRAMES = 100_000
@@ -31,14 +28,13 @@ FRAMES = 100_000
 READINGS = 20_000
 # the most instructions that the beginning and the end of a scope may take, with the loop that makes the calls and a report every
 # 128 scopes, but without those of the C library
-INSTRUCTIONS = {"on": 188, "text": 216, "off": 10}
+INSTRUCTIONS = {"on": 188, "text": 216, "off": 10, "zone": 225, "zone-off": 10}
 # the words of puffin-look
 LOOKED = ("threads", "frames", "frame", "trace", "folded")
 CALLS_REPORT = (
     b"frames 1\n",
     b"record pieces 2 total 800 per_frame 800 max 400 ",
     b"  part (step) pieces 4 total 200 per_frame 200 max 50 ",
-    b"allocations ",
 )
 
 
@@ -58,17 +54,9 @@ def viewed():
     return "".join(f"{line}\n" for line in lines).encode()
 
 
-def run(*words, cwd=None, **variables):
-    words = [str(word) for word in words]
-    variables = {name: str(value) for name, value in variables.items()}
-    return subprocess.run(words, capture_output=True, timeout=300, cwd=cwd, env={**os.environ, **variables})
-
-
-def is_there(program):
-    """Whether a program is installed; says so if it isn't."""
-    if not shutil.which(program):
-        print(f"left out: {program}")
-    return bool(shutil.which(program))
+def is_calls_report(told):
+    lines = told.splitlines(keepends=True)
+    return len(lines) == len(CALLS_REPORT) and all(map(bytes.startswith, lines, CALLS_REPORT))
 
 
 def numbers(said):
@@ -77,26 +65,8 @@ def numbers(said):
     return (int(found[1]), int(found[2])) if found else (0, 0)
 
 
-class Programs:
-    """The programs over the C interface, built and run in a folder."""
-
-    def __init__(self, place, library, kit, tool, look):
-        self.count = common.Count()
-        self.place = place
-        self.library = library
-        self.kit = kit
-        self.tool = tool
-        self.look = look
-
-    def check(self, what, is_fine, told=b""):
-        if not self.count.add(is_fine):
-            print(f"failed: {what}\n{told.decode()}")
-        return is_fine
-
-    def built(self, what, *words):
-        """Whether these words build a program."""
-        got = run(*words)
-        return self.check(f"{what} is built", got.returncode == 0, got.stderr)
+class Calls(Programs):
+    """The programs over the calls of puffin.h."""
 
     def check_report(self, what, thread, is_told):
         """What the program TOOL prints of the file that was written."""
@@ -107,17 +77,12 @@ class Programs:
     def calls(self):
         """The C program: each call, and each allocation refused in turn."""
         words = ["-std=c11", *STRICT, "-O1", HERE / "calls.c", self.library, self.kit, *WRAPPED, "-lpthread"]
-        program = self.place / "calls"
-        if not self.built("calls.c", C_COMPILER, *words, "-o", program):
-            return
-        got = run(program, self.place / "file")
-        self.check("calls.c", got.returncode == 0, got.stderr)
-        lines = got.stdout.splitlines(keepends=True)
-        is_fine = len(lines) == len(CALLS_REPORT) and all(map(bytes.startswith, lines, CALLS_REPORT))
-        self.check("the report of calls.c", is_fine, got.stdout)
-        self.check_report("puffin-tool reports the file so", "1000:main", lambda told: told == b"".join(lines[:-1]))
-        self.looked("calls", self.place / "file", 0)
-        self.refusals(program, got.stdout)
+        program = self.watched("calls.c", C_COMPILER, *words, given=[self.place / "file"])
+        if program.is_file():
+            usual = self.ran("calls.c", program, self.place / "file")
+            self.check_report("puffin-tool reports the file of calls.c", "1000:main", is_calls_report)
+            self.looked("calls", self.place / "file", 0)
+            self.refusals(program, usual)
 
     def looked(self, source, file, index):
         """What each word of puffin-look prints of the file of a C program; of the word `frame`, the frame with this index."""
@@ -138,23 +103,30 @@ class Programs:
             calls += told
             self.check(f"allocation {refused} refused", got.returncode == 0 and made >= refused and told <= 1, got.stderr + got.stdout)
         self.check("some call is refused for memory", calls > 0)
-        if not is_there("valgrind"):
-            return
         for refused in (0, number // 3, number - 2):
-            got = run("valgrind", "--error-exitcode=9", "--leak-check=full", "-q", program, self.place / "file", refused)
-            self.check(f"valgrind, allocation {refused} refused", got.returncode == 0, got.stderr)
+            self.ran_by_valgrind(f"calls.c, allocation {refused} refused,", program, self.place / "file", refused)
 
     def viewer(self):
         """The threads, frames and scopes of the file that calls.c wrote."""
         words = ["-std=c11", *STRICT, HERE / "viewer.c", self.library, self.kit]
         program = self.place / "viewer"
-        if not self.built("viewer.c", C_COMPILER, *words, "-o", program):
-            return
-        got = run(program, self.place / "file")
-        self.check("viewer.c", got.returncode == 0 and got.stdout == viewed(), got.stderr + got.stdout)
-        if is_there("valgrind"):
-            got = run("valgrind", "--error-exitcode=9", "--leak-check=full", "-q", program, self.place / "file")
-            self.check("viewer.c by valgrind", got.returncode == 0, got.stderr)
+        if self.built("viewer.c", C_COMPILER, *words, "-o", program):
+            self.ran("viewer.c", program, self.place / "file", printed=viewed())
+            self.ran_by_valgrind("viewer.c", program, self.place / "file")
+
+    def damaged(self):
+        """The listings over damaged files of the file that calls.c wrote."""
+        # the file twice over is cut at each byte, and each byte is changed in eight ways; one more file has many streams
+        size = 2 * (self.place / "file").stat().st_size - 4
+        printed = b"files %d\n" % (size + 1 + 8 * size + 1)
+        words = ["-std=gnu11", *STRICT, "-O1", HERE / "damaged.c", self.library, self.kit]
+        self.watched("damaged.c", C_COMPILER, *words, given=[self.place / "file"], printed=printed, by=[ADDRESSES])
+
+    def totals(self):
+        """A thread's merged scopes."""
+        words = ["-std=c99", *STRICT, HERE / "totals.c", self.library, self.kit]
+        if self.built("totals.c", C_COMPILER, *words, "-o", self.place / "totals"):
+            self.ran("totals.c", self.place / "totals", printed=2 * b"1 90 ns per frame\n  1 20 ns per frame\n")
 
     def clock(self):
         """Two threads read the clock of puffin.h in turn."""
@@ -164,23 +136,25 @@ class Programs:
             self.check("clock.c", got.returncode == 0 and got.stdout == b"readings %d\n" % (2 * READINGS), got.stderr)
 
     def cost(self):
-        """The instructions of scopes that are on, without and with a text, and of scopes that are off."""
-        words = ["-std=c11", *STRICT, "-O2", HERE / "cost.c", self.library, self.kit]
-        if not self.built("cost.c", C_COMPILER, *words, "-o", self.place / "cost") or not is_there("valgrind"):
+        """The instructions of scopes that are on, without and with a text, of scopes that are off, and of zones."""
+        program = self.place / "cost"
+        words = ["-std=gnu11", *STRICT, "-O2", HERE / "cost.c", self.library, self.kit]
+        if not self.built("cost.c", C_COMPILER, *words, "-o", program) or not is_there("valgrind"):
             return
         for kind, most in INSTRUCTIONS.items():
-            few, many = (self.instructions(kind, number) for number in (1280, 12800))
-            each = (many - few) / (12800 - 1280)
-            print(f"instructions of a scope, {kind}: {each:.1f}")
-            self.check(f"a scope, {kind}, takes at most {most} instructions", 0 < each < most + 0.5, str(each).encode())
+            reported = "off" not in kind
+            few, many = (self.instructions(program, [kind, it], b"%d\n" % (it * reported)) for it in (1280, 12800))
+            self.is_cheap(kind, (many - few) / (12800 - 1280), most)
 
-    def instructions(self, kind, number):
-        """How many instructions of its own cost.c takes for so many scopes."""
+    def is_cheap(self, kind, each, most):
+        print(f"instructions of a scope, {kind}: {each:.1f}")
+        self.check(f"a scope, {kind}, takes at most {most} instructions", 0 < each < most + 0.5, str(each).encode())
+
+    def instructions(self, program, words, printed):
+        """How many instructions of its own a program takes."""
         counted = self.place / "callgrind"
-        program = self.place / "cost"
-        got = run("valgrind", "--tool=callgrind", f"--callgrind-out-file={counted}", program, kind, number)
-        reported = 0 if kind == "off" else number
-        self.check(f"cost.c {kind} {number}", got.returncode == 0 and got.stdout == b"%d\n" % reported, got.stderr)
+        words = ["--tool=callgrind", f"--callgrind-out-file={counted}", program, *words]
+        self.ran(f"{program.name} by callgrind", "valgrind", *words, printed=printed)
         lines = run("callgrind_annotate", "--threshold=100", counted).stdout.decode().splitlines()
         own = [line.split()[0] for line in lines if line.endswith(f"[{program}]")]
         return sum(int(number.replace(",", "")) for number in own)
@@ -206,29 +180,11 @@ class Programs:
             got = run(self.place / "sizes")
             self.check(f"sizes.c by {compiler}", got.returncode == 0, got.stdout)
 
-    def headers(self):
-        """The headers by themselves, as the strictest programs compile them."""
-        strict = ["-Wall", "-Wextra", "-Werror", "-pedantic", "-I", HEADER, "-fsyntax-only"]
-        source = self.place / "header"
-        source.write_text('#include "puffin.h"\n')
-        self.built("puffin.h as C99", C_COMPILER, "-std=c99", *strict, "-x", "c", source)
-        if is_there("c++"):
-            self.built("puffin.h as C++17", "c++", "-std=c++17", *strict, "-x", "c++", source)
-            source.write_text('#include "puffin.hpp"\n')
-            self.built("puffin.hpp", "c++", "-std=c++17", "-fno-exceptions", *strict, "-x", "c++", source)
-
     def scopes(self):
-        """The program over puffin.hpp, on two threads; also where the sanitizer watches them."""
-        if not is_there("c++"):
-            return
-        words = ["-std=c++17", *STRICT, "-pedantic", HERE / "scopes.cc", self.library, self.kit, "-lpthread"]
-        for name, more in (("scopes.cc", []), ("scopes.cc with the thread sanitizer", ["-fsanitize=thread", "-g"])):
-            program = self.place / "scopes"
-            if more and run("c++", *more, *words, "-o", program).returncode:
-                print("left out: the thread sanitizer")
-            elif self.built(name, "c++", *more, *words, "-o", program):
-                got = run(program, self.place / "file")
-                self.check(name, got.returncode == 0, got.stderr)
+        """The program over puffin.hpp, on two threads."""
+        if is_there("c++"):
+            words = ["-std=c++11", *STRICT, "-pedantic", HERE / "scopes.cc", self.library, self.kit, "-lpthread"]
+            self.watched("scopes.cc", "c++", *words, given=[self.place / "file"])
 
     def long(self):
         """A long session, in files that are read as soon as they are whole, and in little memory."""
@@ -236,49 +192,10 @@ class Programs:
         program = self.place / "long"
         if not self.built("long.c", C_COMPILER, *words, "-o", program):
             return
-        got = run(program, FRAMES, self.place)
-        self.check("long.c", got.returncode == 0 and got.stdout == b"frames %d\n" % FRAMES, got.stderr)
-        got = run(program, 3, self.place)
-        self.check("long.c of three frames", got.returncode == 0 and got.stdout == b"frames 3\n", got.stderr)
-        self.looked("long", self.place / "part0.puffin", 1)
-        if is_there("valgrind"):
-            got = run("valgrind", "--error-exitcode=9", "--leak-check=full", "-q", program, 200, self.place)
-            self.check("long.c by valgrind", got.returncode == 0, got.stderr)
-
-    def installed(self):
-        """What bindings/c/install.py installs, used by pkg-config and by CMake."""
-        prefix = self.place / "prefix"
-        got = run(sys.executable, BINDINGS / "c" / "install.py", prefix, self.library, self.kit)
-        if not self.check("the library is installed", got.returncode == 0, got.stderr):
-            return
-        if is_there("pkg-config"):
-            where = {"PKG_CONFIG_PATH": prefix / "lib" / "pkgconfig"}
-            flags = run("pkg-config", "--cflags", "--libs", "--static", "puffin", **where).stdout.decode().split()
-            words = [C_COMPILER, "-std=gnu11", HERE / "first.c", *flags, "-o", self.place / "by_pkg_config"]
-            if self.built("first.c by pkg-config", *words):
-                got = run(self.place / "by_pkg_config", self.place / "file", LD_LIBRARY_PATH=prefix / "lib")
-                self.check("first.c by pkg-config", got.returncode == 0, got.stderr)
-        if is_there("cmake"):
-            self.by_cmake(prefix)
-        shared = prefix / "lib" / "libpuffin.so"
-        if shared.is_file() and is_there("nm"):
-            names = {line.split()[-1] for line in run("nm", "-D", "--defined-only", shared).stdout.splitlines()}
-            hidden = [name for name in names if not name.startswith(b"puffin_")]
-            self.check("libpuffin.so shows only puffin_*", names and not hidden, b" ".join(hidden))
-
-    def by_cmake(self, prefix):
-        source = self.place / "cmake"
-        source.mkdir()
-        (source / "CMakeLists.txt").write_text(
-            "cmake_minimum_required(VERSION 3.10)\nproject(first C)\nfind_package(puffin 0.20 REQUIRED)\n"
-            f"add_executable(first {HERE / 'first.c'})\ntarget_link_libraries(first puffin::puffin)\n"
-        )
-        made = run("cmake", "-S", source, "-B", source / "build", f"-DCMAKE_PREFIX_PATH={prefix}")
-        if self.check("cmake finds puffin", made.returncode == 0, made.stderr):
-            made = run("cmake", "--build", source / "build")
-            if self.check("first.c is built by cmake", made.returncode == 0, made.stdout):
-                got = run(source / "build" / "first", self.place / "file")
-                self.check("first.c by cmake", got.returncode == 0, got.stderr)
+        for frames in (FRAMES, 3):
+            self.ran(f"long.c of {frames} frames", program, frames, self.place, printed=b"frames %d\n" % frames)
+        self.looked("long", self.place / "long.puffin", 1)
+        self.ran_by_valgrind("long.c", program, 200, self.place)
 
     def bindings(self):
         """The Rust crate: its tests, and its examples, which profile themselves."""
@@ -286,48 +203,71 @@ class Programs:
             return
         crate = {"cwd": BINDINGS / "rust", "CARGO_TARGET_DIR": self.place / "target"}
         crate |= {"PUFFIN_LIBRARY": self.library, "PUFFIN_KIT_LIBRARY": self.kit}
-        got = run("cargo", "test", "--offline", "--quiet", **crate)
-        self.check("the tests of bindings/rust", got.returncode == 0, got.stdout + got.stderr)
-        got = run("cargo", "run", "--offline", "--quiet", "--example", "turns", self.place / "file", **crate)
-        self.check("turns.rs", got.returncode == 0, got.stderr)
+        self.ran("the tests of bindings/rust", "cargo", "test", "--offline", "--quiet", **crate)
+        example = ["cargo", "run", "--offline", "--quiet", "--example"]
+        self.ran("turns.rs", *example, "turns", self.place / "file", **crate)
         is_told = lambda told: told.startswith(b"frames 3\n")
         self.check_report("puffin-tool reads the file of turns.rs", "1000:main-loop", is_told)
-        got = run("cargo", "run", "--offline", "--quiet", "--example", "rounds", self.place / "file", **crate)
         wanted = b"frame 0 scopes 18\nframe 1 scopes 18\nframe 2 scopes 18\nrefused 0\n"
-        self.check("rounds.rs", got.returncode == 0 and got.stdout == wanted, got.stdout + got.stderr)
+        self.ran("rounds.rs", *example, "rounds", self.place / "file", printed=wanted, **crate)
+        self.ran("off.rs", "cargo", "build", "--offline", "--quiet", "--release", "--example", "off", **crate)
+        off = self.place / "target" / "release" / "examples" / "off"
+        if off.is_file() and is_there("valgrind"):
+            few, many = (self.instructions(off, [turns], b"turns %d\n" % turns) for turns in (1000, 11000))
+            self.is_cheap("off, by Rust", (many - few) / 10000, INSTRUCTIONS["off"])
+
+def calls_of(programs):
+    programs.calls()
+    programs.viewer()
+    programs.damaged()
+    programs.totals()
+    programs.clock()
+    programs.cost()
+    programs.first()
+    programs.sizes(C_COMPILER, [])
+    programs.sizes("c++", ["-x", "c++"])
+    programs.scopes()
+
+
+def second_calls_of(programs):
+    """What the archive of the second compiler is tried with."""
+    programs.calls()
+    programs.viewer()
+    programs.first()
+    programs.sizes(C_COMPILER, [])
+    programs.long()
+
+
+# what runs beside each other, each in a folder of its own
+LANES = (calls_of, Calls.long, Calls.bindings, installing.check, headers.without_warnings, headers.check, measuring.check)
 
 
 def main():
     library, kit, *rest = (pathlib.Path(word).resolve() for word in sys.argv[1:6])
     tool, look, second = (*rest, None, None, None)[:3]
-    with tempfile.TemporaryDirectory() as folder:
-        programs = Programs(pathlib.Path(folder), library, kit, tool, look)
-        if not shutil.which(C_COMPILER) or not all(it.is_file() for it in (tool, look) if it):
-            programs.check("this needs a C compiler (cc, or what CC names), and each program that is named", False)
-            return programs.count.end()
-        for name, it in (("puffin-tool", tool), ("puffin-look", look)):
-            if not it:
-                print(f"left out: {name}")
-        programs.headers()
-        programs.calls()
-        programs.viewer()
-        programs.clock()
-        programs.cost()
-        programs.first()
-        programs.sizes(C_COMPILER, [])
-        programs.sizes("c++", ["-x", "c++"])
-        programs.scopes()
-        programs.long()
-        programs.installed()
-        programs.bindings()
-        if second:
-            programs.library = second
-            programs.calls()
-            programs.viewer()
-            programs.first()
-            programs.sizes(C_COMPILER, [])
-            programs.long()
-    return programs.count.end()
+    count = common.Count()
+    if not shutil.which(C_COMPILER) or not all(it.is_file() for it in (tool, look) if it):
+        print("failed: this needs a C compiler (cc, or what CC names), and each program that is named")
+        count.add(False)
+        return count.end()
+    for name, it in (("puffin-tool", tool), ("puffin-look", look)):
+        if not it:
+            leave_out(name)
+    lanes = [(lane, library) for lane in LANES] + [(second_calls_of, second)] * bool(second)
+    with tempfile.TemporaryDirectory() as folder, concurrent.futures.ThreadPoolExecutor(len(lanes)) as threads:
+        all_programs = []
+        for number, (lane, archive) in enumerate(lanes):
+            place = pathlib.Path(folder, str(number))
+            place.mkdir()
+            all_programs.append(Calls(place, archive, kit, tool, look))
+        for done in [threads.submit(lane, programs) for (lane, _), programs in zip(lanes, all_programs)]:
+            done.result()
+    for programs in all_programs:
+        count.passed += programs.count.passed
+        count.failed += programs.count.failed
+    if os.environ.get("NEEDS_ALL"):
+        count.add(not LEFT_OUT)
+    return count.end()
 
 
 if __name__ == "__main__":

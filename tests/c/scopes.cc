@@ -4,6 +4,7 @@
 #include <cstdlib>
 #include <mutex>
 #include <thread>
+#include <utility>
 #include <vector>
 
 static puffin::Ids ids;
@@ -24,11 +25,11 @@ static void work(const char *name) {
     {
         std::lock_guard<std::mutex> held(lock);
         CALL(thread.open(ids, name));
+        CALL(profiler.register_function("work", __FILE__, __LINE__, whole));
+        CALL(profiler.register_scope(std::string("part"), "work", __FILE__, __LINE__, part));
     }
-    CALL(thread.register_function("work", __FILE__, __LINE__, whole));
-    CALL(thread.register_scope("part", "work", __FILE__, __LINE__, part));
     {
-        PUFFIN_SCOPE(thread, whole, std::string_view());
+        PUFFIN_SCOPE(thread, whole, puffin::Text());
         for (int step = 0; step < 3; step++) {
             PUFFIN_SCOPE(thread, part, "step");
         }
@@ -45,14 +46,31 @@ static bool are_off() {
     CALL(thread.set_scopes_on(false));
     {
         PUFFIN_SCOPE(thread, 1, "off");
+#if __cplusplus >= 201703L
+        PUFFIN_SCOPE(thread, 1, std::string_view("off"));
+#endif
     }
     CALL(thread.discard(scopes));
     return !thread.are_scopes_on() && scopes == 0;
 }
 
+/* A handle that is moved goes on where it was, and what it is moved from is closed. */
+static bool is_moved() {
+    puffin::Thread thread;
+    std::uint64_t place, scopes = 0;
+    CALL(thread.open(ids, "moved"));
+    CALL(thread.begin(1, 1, "text\0with a zero", place));
+    puffin::Thread other(std::move(thread));
+    CALL(other.end(2, place));
+    thread = std::move(other);
+    CALL(thread.discard(scopes));
+    return scopes == 1 && other.discard(scopes) == PUFFIN_NOT_OPEN;
+}
+
 /* The packet of the frame behind the letters of a file is a file, which has both threads. */
 static bool is_seen() {
-    std::vector<std::uint8_t> file(PUFFIN_FILE_START, PUFFIN_FILE_START + 4);
+    const std::string start = PUFFIN_FILE_START;
+    std::vector<std::uint8_t> file(start.begin(), start.end());
     auto append = [&file](const std::uint8_t *bytes, std::size_t size) { file.insert(file.end(), bytes, bytes + size); };
     CALL(profiler.packet(append));
     PuffinFileThread threads[3];
@@ -72,7 +90,7 @@ int main(int argc, char **argv) {
     other.join();
     CALL(profiler.new_frame(frame));
     if (frame.scopes != 8 || frame.start_ns < before || frame.stop_ns > puffin::now_ns()) {
-        std::fprintf(stderr, "scopes %llu\n", (unsigned long long)frame.scopes);
+        std::fprintf(stderr, "scopes %llu\n", static_cast<unsigned long long>(frame.scopes));
         return 1;
     }
     {
@@ -88,7 +106,7 @@ int main(int argc, char **argv) {
     }
     auto write = [file](const std::uint8_t *bytes, std::size_t size) { std::fwrite(bytes, 1, size, file); };
     CALL(profiler.file(write));
-    if (std::fclose(file) || !are_off() || !is_seen()) {
+    if (std::fclose(file) || !are_off() || !is_moved() || !is_seen()) {
         return 1;
     }
     return 0;

@@ -2,8 +2,8 @@
 
     python3 -m tests.cli.run PROGRAM [SCRIPT]
 
-SCRIPT is the script that builds and runs the program; it is run through a symbolic link from another folder, and on the
-cases of starter.py.
+SCRIPT is the script that builds and runs the program; it is run through a symbolic link from another folder, on the cases
+of starter.py and, where there is no program, on those of the cases here that it answers by itself.
 
 A case is a folder in cases/ with the files
   args    the program's words, one a line
@@ -129,6 +129,11 @@ def faults_through_a_link(script, case):
         return faults(str(link), case)
 
 
+def faults_at_once(script, case):
+    """The same of the script where nothing is built, in those cases beside this one that it answers without a program."""
+    return starter.faults_at_once(script, faults, case.parent)
+
+
 def all_cases():
     return sorted(it for it in (HERE / "cases").iterdir() if it.is_dir())
 
@@ -139,6 +144,8 @@ def main():
     runs = [(case.name, faults, program, case) for case in cases]
     runs += [("through_a_link", faults_through_a_link, it, HERE / "cases" / "replay_one_frame") for it in script]
     runs += [(name, starter.faults, it, steps) for it in script for name, steps in starter.CASES.items()]
+    runs += [("build", starter.faults_in_build, it, None) for it in script]
+    runs += [("words_at_once", faults_at_once, it, cases[0]) for it in script]
     count = common.Count()
     for name, compare, what, case in runs:
         try:

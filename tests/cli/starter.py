@@ -1,7 +1,7 @@
-"""Cases of the script puffin-tool: which program answers after a change of crates.txt or of a source.
+"""Cases of the scripts puffin-tool and puffin-look: which program answers after a change of crates.txt or of a source, what
+`--build` hands to `rt ci`, and what they answer without a program.
 
-Nothing is compiled or proved: in a copy of the crates, two scripts that print their names stand for the built program and
-for `rt`.
+Nothing is compiled or proved: in a copy of the crates, scripts that print their names stand for the built program and for `rt`.
 """
 
 import os
@@ -13,23 +13,39 @@ import time
 
 from .. import common
 
+PROGRAMS = {"puffin-tool": "puffin_tool", "puffin-look": "puffin_look_tool"}
 # of a crate whose folder isn't there yet
 LINE = "my_first: anyhow puffin\n"
 BUILT = "#!/bin/sh\necho built\n"
-# it ends as `rt try` does; the script needs no other word of rt
-UNPROVED = '#!/bin/sh\n[ "$1" = try ] || exit 1\necho unproved\necho run=ended status=0 runners=2 proved=no >&2\n'
+# they end as `rt try` and `rt ci` do; `ci` keeps a list of what it was given, and builds BUILT
+RT = """#!/bin/sh
+case $1 in
+    try) echo unproved; echo run=ended status=0 runners=2 proved=no >&2 ;;
+    ci) find * -type f >{0}.list; mkdir -p crates/{1}/out; cp {0}.built crates/{1}/out/{1} ;;
+    *) exit 1 ;;
+esac
+"""
+# an `rt` that nothing may need
+NO_RT = "#!/bin/sh\necho rt is run >&2\nexit 1\n"
 
 
 class Copy:
-    def __init__(self, script, folder):
+    def __init__(self, script, folder, names=None, left_out=("proofs", "specs")):
+        self.crate = PROGRAMS[pathlib.Path(script).name]
         self.top, self.tools = folder / "copy", folder / "tools"
         self.script = self.top / pathlib.Path(script).name
         self.top.mkdir()
-        common.copy_crates(common.crates(), self.top, ("proofs", "specs"))
-        shutil.copy(script, self.top)
-        self.lines, self.program = self.top / "crates.txt", self.top / "crates/puffin_tool/out/puffin_tool"
+        common.copy_crates(names or common.crates(), self.top, left_out)
+        for name in PROGRAMS:
+            shutil.copy(pathlib.Path(script).with_name(name), self.top)
+        self.lines, self.program = self.top / "crates.txt", self.top / "crates" / self.crate / "out" / self.crate
+        self.list = self.tools / "rt.list"
+        write_script(self.tools / "rt.built", BUILT)
+        write_script(self.tools / "rt", RT.format(self.tools / "rt", self.crate))
+
+    def build(self):
+        """Puts a built program there."""
         write_script(self.program, BUILT)
-        write_script(self.tools / "rt", UNPROVED)
         self.age()
 
     def age(self):
@@ -38,11 +54,14 @@ class Copy:
             os.utime(path, (1, 1))
         os.utime(self.program, (2, 2))
 
+    def run(self, *words):
+        tools = {**os.environ, "PATH": f"{self.tools}:{os.environ['PATH']}"}
+        words = [str(self.script), *words]
+        return subprocess.run(words, stdin=subprocess.DEVNULL, capture_output=True, timeout=60, env=tools)
+
     def answer(self):
         """Which program answers."""
-        tools = {**os.environ, "PATH": f"{self.tools}:{os.environ['PATH']}"}
-        words = [str(self.script), "count"]
-        ran = subprocess.run(words, stdin=subprocess.DEVNULL, capture_output=True, timeout=60, env=tools)
+        ran = self.run("count")
         return ran.stdout.decode().strip() or f"nothing, but {ran.stderr.decode()!r}"
 
 
@@ -116,8 +135,48 @@ def faults(script, steps):
     """What the script does otherwise than it should."""
     with tempfile.TemporaryDirectory() as folder:
         copy = Copy(script, pathlib.Path(folder))
+        copy.build()
         found = []
         for change, wanted in steps:
             change(copy)
             found.append((copy.answer(), wanted, change.__name__))
     return [f"after {what}, {got} answers and not {want}" for got, want, what in found if got != want]
+
+
+def read_by_builds(copy):
+    """All files of the copy's crates that a build reads."""
+    files = (it.relative_to(copy.top) for it in (copy.top / "crates").rglob("*") if it.is_file())
+    return {str(it) for it in files} | {"HANDLES", "crates.txt"}
+
+
+def faults_in_build(script, _case):
+    """What `--build` doesn't hand to `rt ci` of all that it reads, and what the script doesn't answer then."""
+    with tempfile.TemporaryDirectory() as folder:
+        crate = PROGRAMS[pathlib.Path(script).name]
+        copy = Copy(script, pathlib.Path(folder), [*common.below(crate), crate], ())
+        wanted = read_by_builds(copy)
+        ran = copy.run("--build")
+        given = set(copy.list.read_text().split()) if copy.list.exists() else set()
+        answer = copy.answer()
+    faults = [f"without {it}" for it in sorted(wanted - given)] + [f"also {it}" for it in sorted(given - wanted)]
+    return faults[:5] or ([] if ran.returncode == 0 and answer == "built" else [f"{ran.stderr[-200:]}, {answer} answers"])
+
+
+# the cases of words that each script answers without a program
+AT_ONCE = {
+    "puffin-tool": "no_words other_word word_in_capitals too_many_words replay_too_few_words report_too_few_words",
+    "puffin-look": "no_words other_word too_many_words frame_no_index help help_in_short version",
+}
+
+
+def faults_at_once(script, compare, folder_of_cases):
+    """What the script, where nothing is built and no `rt` may be run, does otherwise than the program in cases of words.
+    `compare` returns what a program does otherwise than a case wants."""
+    cases = [folder_of_cases / it for it in AT_ONCE[pathlib.Path(script).name].split()]
+    with tempfile.TemporaryDirectory() as folder:
+        crate = PROGRAMS[pathlib.Path(script).name]
+        copy = Copy(script, pathlib.Path(folder), [*common.below(crate), crate])
+        write_script(copy.tools / "rt", NO_RT)
+        alone = copy.tools / "alone"
+        write_script(alone, f'#!/bin/sh\nPATH={copy.tools}:$PATH exec {copy.script} "$@"\n')
+        return [f"{case.name}: {it}" for case in cases for it in compare(str(alone), case)]

@@ -103,7 +103,9 @@ def ends_of_cases(cases, folder):
 def ends_of_script(folder):
     """The same of the cases of the script."""
     cases = [("script_where_nothing_is_built", faults_of_script, (folder,))]
-    cases += [(name, starter.faults, (common.ROOT / "puffin-tool", steps)) for name, steps in starter.CASES.items()]
+    script = common.ROOT / "puffin-tool"
+    cases += [(name, starter.faults, (script, steps)) for name, steps in starter.CASES.items()]
+    cases += [("build", starter.faults_in_build, (script, None)), ("words_at_once", run.faults_at_once, (script, run.all_cases()[0]))]
     for name, compare, words in cases:
         try:
             yield name, compare(*words)

@@ -34,6 +34,7 @@ WORDS = {
     "puffin_look_tool": "lists, traces",
     "example_single": "one thread",
     "example_proved": "a proof of one's own",
+    "example_proved_rounds": "rounds, proved",
     "example_rounds": "four threads",
     "example_threads": "four threads, proved",
     "example_recorder": "frames as they come",

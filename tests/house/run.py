@@ -6,7 +6,7 @@ Clauses have at most 100 columns; crates cite of those below them no proofs but 
 runner has to notice, can be applied; each wrong body stands in docs/PROOFS.md, in italics where it is one of the long run, and
 the gate tries at most twelve of a crate; what the rows there cite is there, and leads to the functions that their wrong bodies
 change; each spec file begins with a line that says what it defines, and docs/SPECS.md has these lines as they are; each program
-has a file with what it prints; links in the documents lead somewhere. The last line is 'N passed, M failed'.
+has a file with what it prints; the listings of docs/C.md are parts of the programs of tests/c; links in the documents lead somewhere. The last line is 'N passed, M failed'.
 """
 
 import re
@@ -14,7 +14,7 @@ import subprocess
 import sys
 
 from .. import common
-from . import drawing, promises, spec_files
+from . import drawing, listings, promises, spec_files
 
 TOP = common.ROOT
 MOST_IN_THE_GATE = 12
@@ -172,6 +172,7 @@ def broken_links():
 
 
 RULES = (
+    listings.listings_that_are_old,
     wide_clauses,
     proofs_cited_from_above,
     edits_that_do_not_apply,

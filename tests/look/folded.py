@@ -1,6 +1,6 @@
 """Checks the folded stacks that puffin-look writes against another reading of the same file.
 
-The lines have to be those that this file makes anew from the reading's scopes, and their numbers have to add up to the durations
+The lines are read as flamegraph.pl reads them. They have to be those that this file makes anew from the reading's scopes, and their numbers have to add up to the durations
 of the top-level scopes. Of 10,000 scopes with random names, of all bytes, each has to be in the line of its name.
 """
 
@@ -9,13 +9,18 @@ import re
 from . import traces
 from .sources import printed
 
-RESERVED = re.compile(r"[\0-\x1f;\x7f]")
+RESERVED = re.compile(r"[\0-\x20;\x7f]")
+# the lines of flamegraph.pl, which looks for a second number before the first
+LINE = re.compile(r"^(.*)\s+?(\d+(?:\.\d*)?)$")
 
 
 def folded(program, data, *thread):
     """The lines that the program writes for these bytes of a file: pairs of a path and a number."""
-    lines = [it.rpartition(" ") for it in printed(program, data, "folded", *thread).split("\n")[:-1]]
-    return [(path, int(number)) for path, _, number in lines]
+    lines = [LINE.match(it).groups() for it in printed(program, data, "folded", *thread).split("\n")[:-1]]
+    twice = [path for path, _ in lines if LINE.match(path)]
+    if twice:
+        raise ValueError(f"two numbers behind {twice[0]!r}")
+    return [(path, int(number)) for path, number in lines]
 
 
 def shown(name):

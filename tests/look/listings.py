@@ -1,9 +1,19 @@
-"""Checks the lists and the trees that puffin-look prints of a file against another reading of it."""
+"""Checks the lists and the trees that puffin-look prints of a file against another reading of it, and a tree of 10,000 scopes
+with random names and texts, of all bytes."""
 
+import re
+
+from . import traces
 from .sources import printed
+
+CONTROLS = re.compile(r"[\0-\x1f\x7f]")
 
 
 # ---- what has to be printed
+
+def escaped(text):
+    return CONTROLS.sub(lambda it: f"\\x{ord(it[0]):02x}", text)
+
 
 def order(thread):
     """Where a thread stands among others."""
@@ -20,7 +30,7 @@ def thread_lines(frames):
         its = found[name]
         scopes, size = sum(it.count for it in its), sum(it.bytes for it in its)
         start, stop = min(it.start for it in its), max(it.stop for it in its)
-        yield f"frames {len(its)} scopes {scopes} bytes {size} range {start} {stop} thread {name}"
+        yield f"frames {len(its)} scopes {scopes} bytes {size} range {start} {stop} thread {escaped(name)}"
 
 
 def frame_line(it):
@@ -39,7 +49,7 @@ def share(part, whole):
 
 def scope_lines(scopes, begin, whole, indent):
     for (name, *_), start, stop, text, within in scopes:
-        shown = f"{indent}{name} ({text})" if text else f"{indent}{name}"
+        shown = escaped(f"{indent}{name} ({text})" if text else f"{indent}{name}")
         yield f"{shown} start {start - begin} duration {stop - start} share {share(stop - start, whole)}"
         yield from scope_lines(within, begin, stop - start, f"{indent}  ")
 
@@ -49,7 +59,7 @@ def tree_lines(frame, wanted=None):
     yield f"frame {frame.index} range {frame.start} {frame.stop} duration {frame.stop - frame.start}"
     for it in frame.threads:
         if wanted in (None, it.name):
-            yield f"thread {it.name}"
+            yield f"thread {escaped(it.name)}"
             yield from scope_lines(it.scopes, frame.start, frame.stop - frame.start, "")
 
 
@@ -86,4 +96,15 @@ def faults_in_trees(program, source):
     return faults
 
 
+def faults_in_names(program, _source):
+    """What differs between random names and texts and the lines of their scopes."""
+    names = traces.random_names()
+    texts = [name.encode() for name in reversed(names)]
+    scopes = [[(name,), at, at, text.decode(), []] for at, (name, text) in enumerate(zip(names, texts))]
+    last = len(names) - 1
+    wanted = [f"frame 0 range 0 {last} duration {last}", "thread -:main", *scope_lines(scopes, 0, last, "")]
+    return differences(printed(program, traces.file_of(names, texts), "frame", "0"), wanted)
+
+
+CHECKS_OF_NAMES = {"lines_of_all_bytes": faults_in_names}
 CHECKS = {"threads": faults_in_threads, "frames": faults_in_frames, "trees": faults_in_trees}

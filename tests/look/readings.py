@@ -54,11 +54,11 @@ def scopes_in(stream, names):
 # ---- a dump of the Rust crate
 
 def in_dump(dump):
-    """The reading of a dump. Under each id the first details count that the file lists."""
+    """The reading of a dump. Under each id the first details count that the file lists, in all of its frames."""
     frames, names = [], {}
+    for ident, name, function, file, line in DETAILS.findall(dump):
+        names.setdefault(int(ident), (name or function, file, int(line)))
     for lines in re.split(r"^frame ", dump, flags=re.MULTILINE)[1:]:
-        for ident, name, function, file, line in DETAILS.findall(lines):
-            names.setdefault(int(ident), (name or function, file, int(line)))
         head = re.match(r"(\d+) range (\S+) (\S+) bytes \d+ scopes (\d+)", lines)
         found = re.findall(r"^  thread (.*) scopes (\d+) depth \d+ range (\S+) (\S+) stream (\S*)$", lines, re.MULTILINE)
         threads = []
@@ -117,7 +117,7 @@ class Layout:
         return ident, (function if name is None else name, self.text(), self.number())
 
     def frame(self, names):
-        """The frame of the next packet, whose details are added to the names so far."""
+        """The frame of the next packet, with a stream in place of each list of scopes. Its details are added to the names."""
         if self.take(4) != b"PFD4":
             raise ValueError("a packet of another kind")
         meta, streams, details = self.part(), self.part(1), self.part()
@@ -125,7 +125,7 @@ class Layout:
         found = [streams.stream() for _ in range(streams.number())]
         for _ in range(details.number()):
             names.setdefault(*details.details())
-        threads = [Thread(it[0], len(it[1]), *it[2:], scopes_in(it[1], names)) for it in found]
+        threads = [Thread(it[0], len(it[1]), *it[2:], it[1]) for it in found]
         return Frame(index, start, stop, count, threads)
 
 
@@ -136,4 +136,5 @@ def in_file(data):
         raise ValueError("no file of frames")
     while layout.rest:
         frames.append(layout.frame(names))
-    return frames
+    named = lambda it: it._replace(scopes=scopes_in(it.scopes, names))
+    return [it._replace(threads=[*map(named, it.threads)]) for it in frames]

@@ -3,7 +3,7 @@
     python3 -m tests.look.run PROGRAM [SCRIPT [EXAMPLE]]
 
 A case is a folder in cases/ as those of tests/cli, which lists its files. SCRIPT is the script that builds and runs the
-program; it is run through a symbolic link from another folder. EXAMPLE is the program of crates/example, which writes a file;
+program; it is run as the script of tests/cli is. EXAMPLE is the program of crates/example, which writes a file;
 another is of the Rust crate. On both each word of the program is run, and compared with another reading of the file: listings.py
 has the checks of lists and trees, traces.py of traces, folded.py of folded stacks. tests/c runs the words on a file of a C
 program. The last line is 'N passed, M failed'.
@@ -15,7 +15,7 @@ import subprocess
 import sys
 
 from .. import common
-from ..cli import run
+from ..cli import run, starter
 from . import folded, listings, sources, traces
 
 CASES = pathlib.Path(__file__).resolve().parent / "cases"
@@ -33,7 +33,7 @@ def checks(example):
     found = checks_of_file("the_rust_crate", sources.original)
     found += checks_of_file("the_example", functools.partial(sources.of_example, example)) if example else []
     found += [("the_readings_of_both", sources.faults_in_python)]
-    return found + list((traces.CHECKS_OF_NAMES | folded.CHECKS_OF_NAMES).items())
+    return found + list((traces.CHECKS_OF_NAMES | folded.CHECKS_OF_NAMES | listings.CHECKS_OF_NAMES).items())
 
 
 def main():
@@ -41,7 +41,9 @@ def main():
     script, example = (*rest, None, None)[:2]
     cases = sorted(it for it in CASES.iterdir() if it.is_dir())
     runs = [(case.name, run.faults, program, case) for case in cases]
-    runs += [("through_a_link", run.faults_through_a_link, script, CASES / "frames_one_frame")] if script else []
+    if script:
+        runs += [("through_a_link", run.faults_through_a_link, script, CASES / "frames_one_frame")]
+        runs += [("build", starter.faults_in_build, script, None), ("words_at_once", run.faults_at_once, script, cases[0])]
     runs += [(name, compare, program, None) for name, compare in checks(example)]
     count = common.Count()
     for name, compare, what, case in runs:

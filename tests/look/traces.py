@@ -29,7 +29,7 @@ def frames_of(events):
             if event["name"] == "thread_name":
                 threads[event["tid"]] = f"{event['args']['start']}:{event['args']['name']}"
         elif event["ph"] == "i":
-            origin = event["args"]["start"] - nanoseconds(event["ts"]) if origin is None else origin
+            origin = int(event["args"]["start"]) - nanoseconds(event["ts"]) if origin is None else origin
             frames.append((int(event["name"].removeprefix("frame ")), {}))
             open_scopes = {}
         else:
@@ -48,8 +48,12 @@ def frames_of(events):
 
 
 def trace_of(program, data):
-    """The events that the program writes for these bytes of a file."""
-    return json.loads(printed(program, data, "trace"), parse_float=decimal.Decimal)
+    """The events that the program writes for these bytes of a file. Their times are no less than 0."""
+    trace = json.loads(printed(program, data, "trace"), parse_float=decimal.Decimal)
+    events = trace.pop("traceEvents")
+    if trace != {"displayTimeUnit": "ns"} or any(it.get("ts", 0) < 0 for it in events):
+        raise ValueError(f"a trace with {trace}, or with a time below 0")
+    return events
 
 
 def faults_in_forests(program, source):

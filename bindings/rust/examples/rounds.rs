@@ -1,10 +1,11 @@
 //! Profiles itself: rounds of work on two threads, written to the file that the first argument names.
 
+// listing: rounds
 use puffin_c::{profile_function, profile_scope};
 
 fn step(number: u32) {
     profile_function!();
-    std::hint::black_box(number);
+    assert!(number < 4);
 }
 
 fn round() {
@@ -14,6 +15,7 @@ fn round() {
         step(number);
     }
 }
+// end of listing
 
 fn main() -> Result<(), Box<dyn std::error::Error>> {
     for _ in 0..3 {

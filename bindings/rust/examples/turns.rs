@@ -23,8 +23,8 @@ fn main() -> Result<(), Box<dyn Error>> {
     let mut worker = Thread::new(&mut ids, "worker", false)?;
     let mut profiler = Profiler::new(&mut ids)?;
     let (main_id, worker_id) = (
-        main_loop.register_function("turn", "turns.rs", 7)?,
-        worker.register_function("work", "turns.rs", 7)?,
+        profiler.register_function("turn", "turns.rs", 7)?,
+        profiler.register_function("work", "turns.rs", 7)?,
     );
     let (mut now, mut later) = (1000, 1500);
     for _ in 0..3 {

@@ -39,8 +39,11 @@ fn with_shared<T>(call: impl FnOnce(&mut Shared) -> Result<T, Fault>) -> Result<
     call(shared.as_mut().expect("it was just made"))
 }
 
-fn with_local<T>(call: impl FnOnce(&mut Local) -> Result<T, Fault>) -> Result<T, Fault> {
-    LOCAL.with_borrow_mut(|local| {
+/// Makes a call with the thread's recorder, and counts a fault: the macros have nowhere to return it. A thread that is ending may
+/// have no recorder any more.
+fn with_local<T>(call: impl FnOnce(&mut Local) -> Result<T, Fault>) -> Option<T> {
+    let called = LOCAL.try_with(|local| {
+        let local = &mut *local.borrow_mut();
         if local.is_none() {
             let current = std::thread::current();
             let name = current.name().unwrap_or("unnamed");
@@ -48,15 +51,12 @@ fn with_local<T>(call: impl FnOnce(&mut Local) -> Result<T, Fault>) -> Result<T,
             *local = Some(Local { thread, depth: 0 });
         }
         call(local.as_mut().expect("it was just made"))
-    })
-}
-
-/// Counts a fault of the macros, which have nowhere to return it.
-fn counted<T>(result: Result<T, Fault>) -> Option<T> {
-    if result.is_err() {
+    });
+    let result = called.ok().and_then(Result::ok);
+    if result.is_none() {
         REFUSED.fetch_add(1, Ordering::Relaxed);
     }
-    result.ok()
+    result
 }
 
 /// Returns how many beginnings, ends and reports of the macros' scopes were refused.
@@ -91,12 +91,18 @@ pub fn set_limits(recent: usize, slow: usize) -> Result<(), Fault> {
     with_shared(|shared| shared.profiler.set_limits(recent, slow))
 }
 
+/// Limits the bytes that wait for the next frame. What a report would add beyond them keeps waiting on its thread.
+pub fn set_max_pending(bytes: u64) -> Result<(), Fault> {
+    with_shared(|shared| shared.profiler.set_max_pending(bytes))
+}
+
 /// Returns the `.puffin` file of the view's frames.
 pub fn file() -> Result<Vec<u8>, Fault> {
     with_shared(|shared| shared.profiler.file())
 }
 
 /// A place in the code, registered when it is first reached. The macros make one for each call.
+#[derive(Debug)]
 pub struct Place {
     id: AtomicU32,
 }
@@ -107,57 +113,74 @@ impl Place {
         Place { id: AtomicU32::new(0) }
     }
 
-    /// Begins a scope here, unless scopes are off. `name` is `None` for a whole function. Two threads that come here first at
-    /// once may register the place twice, under two ids.
-    #[inline]
-    pub fn begin(&self, name: Option<&str>, function: &str, file: &str, line: u32, text: &str) -> ScopeGuard {
-        if are_scopes_on() {
-            self.begin_on(name, function, file, line, text)
-        } else {
-            ScopeGuard { scope: None, here: PhantomData }
+    /// The place's id, which is drawn by the first thread that comes here. `name` is `None` for a whole function, and `function`
+    /// returns the function's path.
+    fn id(&self, name: Option<&str>, function: fn() -> &'static str, file: &str, line: u32) -> Result<u32, Fault> {
+        let known = self.id.load(Ordering::Relaxed);
+        if known != 0 {
+            return Ok(known);
         }
-    }
-
-    fn begin_on(&self, name: Option<&str>, function: &str, file: &str, line: u32, text: &str) -> ScopeGuard {
-        let begun = with_local(|local| {
+        with_shared(|shared| {
             let mut id = self.id.load(Ordering::Relaxed);
             if id == 0 {
                 id = match name {
-                    Some(name) => local.thread.register_scope(name, function, file, line)?,
-                    None => local.thread.register_function(function, file, line)?,
+                    Some(name) => shared.profiler.register_scope(name, function(), file, line)?,
+                    None => shared.profiler.register_function(function(), file, line)?,
                 };
                 self.id.store(id, Ordering::Relaxed);
             }
+            Ok(id)
+        })
+    }
+
+    /// Begins a scope here, whether scopes are on or off.
+    pub fn begin(&self, name: Option<&str>, function: fn() -> &'static str, file: &str, line: u32, text: &str) -> ScopeGuard {
+        let begun = with_local(|local| {
+            let id = self.id(name, function, file, line)?;
             let scope = local.thread.begin(now_ns(), id, text)?;
             local.depth += 1;
             Ok(scope)
         });
-        ScopeGuard { scope: counted(begun), here: PhantomData }
+        ScopeGuard { scope: begun, here: PhantomData }
     }
 }
 
 /// A scope that ends when this is dropped.
 #[must_use]
+#[derive(Debug)]
 pub struct ScopeGuard {
     scope: Option<Scope>,
     // It has to end on its own thread.
     here: PhantomData<*const ()>,
 }
 
-impl Drop for ScopeGuard {
-    fn drop(&mut self) {
-        let Some(scope) = self.scope.take() else {
-            return;
-        };
-        counted(with_local(|local| {
-            local.thread.end(now_ns(), scope)?;
-            local.depth -= 1;
-            if local.depth == 0 {
-                with_shared(|shared| shared.profiler.report(&mut local.thread))?;
-            }
-            Ok(())
-        }));
+impl ScopeGuard {
+    /// No scope, where scopes are off.
+    #[inline]
+    pub const fn off() -> ScopeGuard {
+        ScopeGuard { scope: None, here: PhantomData }
     }
+}
+
+impl Drop for ScopeGuard {
+    #[inline]
+    fn drop(&mut self) {
+        if let Some(scope) = self.scope.take() {
+            end(scope);
+        }
+    }
+}
+
+/// Ends a scope, and reports those of the thread if it was the outermost one.
+fn end(scope: Scope) {
+    with_local(|local| {
+        local.thread.end(now_ns(), scope)?;
+        local.depth -= 1;
+        if local.depth == 0 {
+            with_shared(|shared| shared.profiler.report(&mut local.thread))?;
+        }
+        Ok(())
+    });
 }
 
 /// The path of the function that this is called in.
@@ -166,34 +189,44 @@ impl Drop for ScopeGuard {
 macro_rules! function_path {
     () => {{
         struct Here;
-        std::any::type_name::<Here>().trim_end_matches("::Here")
+        std::any::type_name::<Here>().trim_end_matches("::{{closure}}::Here").trim_end_matches("::Here")
     }};
 }
 
-/// Profiles the rest of the block under the name of the function. `profile_function!("a text")` adds a text.
+/// A guard for the rest of the block. Nothing but a switch is looked at while scopes are off.
+#[doc(hidden)]
+#[macro_export]
+macro_rules! guard {
+    ($name:expr, $text:expr) => {
+        if $crate::are_scopes_on() {
+            static PLACE: $crate::Place = $crate::Place::new();
+            PLACE.begin($name, || $crate::function_path!(), file!(), line!(), $text)
+        } else {
+            $crate::ScopeGuard::off()
+        }
+    };
+}
+
+/// Profiles the rest of the block under the name of the function. `profile_function!("a text")` adds a text, which is evaluated only
+/// while scopes are on.
 #[macro_export]
 macro_rules! profile_function {
     () => {
         $crate::profile_function!("")
     };
     ($text:expr) => {
-        let _scope = {
-            static PLACE: $crate::Place = $crate::Place::new();
-            PLACE.begin(None, $crate::function_path!(), file!(), line!(), $text)
-        };
+        let _scope = $crate::guard!(None, $text);
     };
 }
 
-/// Profiles the rest of the block under a name. `profile_scope!("name", "a text")` adds a text.
+/// Profiles the rest of the block under a name. `profile_scope!("name", "a text")` adds a text, which is evaluated only while scopes
+/// are on.
 #[macro_export]
 macro_rules! profile_scope {
     ($name:expr) => {
         $crate::profile_scope!($name, "")
     };
     ($name:expr, $text:expr) => {
-        let _scope = {
-            static PLACE: $crate::Place = $crate::Place::new();
-            PLACE.begin(Some($name), $crate::function_path!(), file!(), line!(), $text)
-        };
+        let _scope = $crate::guard!(Some($name), $text);
     };
 }

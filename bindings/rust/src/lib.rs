@@ -16,64 +16,37 @@
 //! [`Ids`], [`Thread`] and [`Profiler`] are the library's handles, for programs that don't want one profiler for the process.
 //! Each may be sent to another thread; none is `Sync`, as the library takes a handle in one call at a time.
 
+mod fault;
 mod global;
 mod raw;
 mod view;
 
-pub use global::{are_scopes_on, file, new_frame, refused, set_limits, set_scopes_on, snapshot, Place, ScopeGuard};
+pub use fault::{EndFault, Fault, FileFault};
+pub use global::{
+    are_scopes_on, file, new_frame, refused, set_limits, set_max_pending, set_scopes_on, snapshot, Place, ScopeGuard,
+};
 pub use raw::Version;
 pub use view::{file_threads, merge_file, FileFrames, FileScope, FileStream, FileThread, MergedScope};
 
+use fault::told;
 use raw::{Handle, RawFrame};
-use std::{error, fmt, num::NonZeroU32, sync::OnceLock, time::Instant};
 
 /// The version of the library that is linked.
 pub fn version() -> Version {
     unsafe { raw::puffin_version() }
 }
 
-/// The time in nanoseconds since the first call, by the system's monotonic clock: one start for all threads.
+/// Whether the library that is linked has the interface that this crate was written for.
+pub fn is_interface_known() -> bool {
+    unsafe { raw::puffin_interface() == raw::INTERFACE }
+}
+
+/// The time in nanoseconds by the system's monotonic clock, which `puffin_now_ns` of `puffin.h` reads too: one clock for all
+/// threads of a process, whatever their language is.
 pub fn now_ns() -> i64 {
-    static START: OnceLock<Instant> = OnceLock::new();
-    i64::try_from(START.get_or_init(Instant::now).elapsed().as_nanos()).unwrap_or(i64::MAX)
-}
-
-/// Why a call failed. It displays as the name that `puffin.h` gives to its number.
-#[derive(Debug, Clone, Copy, PartialEq, Eq)]
-pub struct Fault(NonZeroU32);
-
-impl Fault {
-    pub fn number(self) -> u32 {
-        self.0.get()
-    }
-
-    pub fn name(self) -> String {
-        let mut name = [0; 64];
-        let size = unsafe { raw::puffin_fault_name(self.number(), name.as_mut_ptr(), name.len()) };
-        String::from_utf8_lossy(&name[..size.min(name.len())]).into_owned()
-    }
-}
-
-impl fmt::Display for Fault {
-    fn fmt(&self, f: &mut fmt::Formatter<'_>) -> fmt::Result {
-        f.write_str(&self.name())
-    }
-}
-
-impl error::Error for Fault {}
-
-fn told(answer: u32) -> Result<(), Fault> {
-    NonZeroU32::new(answer).map_or(Ok(()), |number| Err(Fault(number)))
-}
-
-/// A file with a fault: how many frames are before it, where the frame with the fault begins, and where the part of it ends that was
-/// read last, and that has the fault.
-#[derive(Debug, Clone, Copy, PartialEq, Eq)]
-pub struct FileFault {
-    pub fault: Fault,
-    pub frames: u64,
-    pub offset: u64,
-    pub read: u64,
+    let mut now = raw::Timespec { seconds: 0, nanoseconds: 0 };
+    unsafe { raw::clock_gettime(raw::MONOTONIC, &mut now) };
+    now.seconds * 1_000_000_000 + now.nanoseconds
 }
 
 /// Returns the number of a file's frames.
@@ -85,6 +58,7 @@ pub fn check_file(file: &[u8]) -> Result<u64, FileFault> {
 }
 
 /// A set of ids, which threads and profilers share.
+#[derive(Debug)]
 pub struct Ids(Handle);
 
 // The library proves that what a handle holds can be sent to another thread.
@@ -110,6 +84,7 @@ impl Drop for Ids {
 pub struct Scope(u64);
 
 /// Records the scopes of one thread.
+#[derive(Debug)]
 pub struct Thread(Handle);
 
 unsafe impl Send for Thread {}
@@ -122,7 +97,84 @@ impl Thread {
         Ok(Thread(handle))
     }
 
-    /// Registers a function, and returns its id. Pass 0 if the line is unknown.
+    /// Begins a scope. While scopes are off, none begins, and this returns at once.
+    #[inline]
+    pub fn begin(&mut self, now_ns: i64, id: u32, text: &str) -> Result<Scope, Fault> {
+        let mut scope = raw::NO_SCOPE;
+        if !self.0.is_on() {
+            return Ok(Scope(scope));
+        }
+        told(unsafe { raw::puffin_begin(&mut self.0, now_ns, id, text.as_ptr(), text.len(), &mut scope) })?;
+        Ok(Scope(scope))
+    }
+
+    /// Ends the innermost open scope, which must be this one. A failure gives the scope back, which is still open.
+    #[inline]
+    pub fn end(&mut self, now_ns: i64, scope: Scope) -> Result<(), EndFault> {
+        if scope.0 == raw::NO_SCOPE {
+            return Ok(());
+        }
+        told(unsafe { raw::puffin_end(&mut self.0, now_ns, scope.0) }).map_err(|fault| EndFault { fault, scope })
+    }
+
+    /// Limits the bytes of the scopes that are open or wait for a report. [`Thread::begin`] fails with [`Fault::MEMORY`] if its scope
+    /// would need more.
+    pub fn set_max_bytes(&mut self, bytes: u64) -> Result<(), Fault> {
+        told(unsafe { raw::puffin_set_max_bytes(&mut self.0, bytes) })
+    }
+
+    /// Turns scopes on or off. They are on at first. A scope that is open already is ended as usual.
+    pub fn set_scopes_on(&mut self, is_on: bool) -> Result<(), Fault> {
+        told(unsafe { raw::puffin_set_scopes_on(&mut self.0, is_on) })
+    }
+
+    /// Returns whether a scope would begin now.
+    pub fn are_scopes_on(&self) -> bool {
+        self.0.is_on()
+    }
+
+    /// Gives up the closed scopes that weren't reported, for example because a report is refused again and again, and returns
+    /// how many there were. Fails while a scope is open.
+    pub fn discard(&mut self) -> Result<u64, Fault> {
+        let mut scopes = 0;
+        told(unsafe { raw::puffin_thread_discard(&mut self.0, &mut scopes) })?;
+        Ok(scopes)
+    }
+}
+
+impl Drop for Thread {
+    fn drop(&mut self) {
+        unsafe { raw::puffin_thread_close(&mut self.0) };
+    }
+}
+
+/// Describes a frame.
+#[derive(Debug, Clone, Copy, PartialEq, Eq)]
+pub struct Frame {
+    pub index: u64,
+    pub scopes: u64,
+    pub bytes: u64,
+    pub start_ns: i64,
+    pub stop_ns: i64,
+}
+
+/// Collects what threads report into frames, and keeps a view of them.
+#[derive(Debug)]
+pub struct Profiler(Handle);
+
+unsafe impl Send for Profiler {}
+
+type Begin = unsafe extern "C" fn(*mut Handle, *mut u64) -> u32;
+type Next = unsafe extern "C" fn(*mut Handle, *mut u8, usize, *mut u64) -> u32;
+
+impl Profiler {
+    pub fn new(ids: &mut Ids) -> Result<Profiler, Fault> {
+        let mut handle = Handle::new();
+        told(unsafe { raw::puffin_profiler_open(&mut handle, &mut ids.0) })?;
+        Ok(Profiler(handle))
+    }
+
+    /// Registers a function, and returns its id; the next frame lists its name. Pass 0 if the line is unknown.
     pub fn register_function(&mut self, function: &str, file: &str, line: u32) -> Result<u32, Fault> {
         let mut id = 0;
         told(unsafe {
@@ -158,79 +210,14 @@ impl Thread {
         Ok(id)
     }
 
-    /// Begins a scope. While scopes are off, none begins, and this returns at once.
-    #[inline]
-    pub fn begin(&mut self, now_ns: i64, id: u32, text: &str) -> Result<Scope, Fault> {
-        let mut scope = raw::NO_SCOPE;
-        if !self.0.is_on() {
-            return Ok(Scope(scope));
-        }
-        told(unsafe { raw::puffin_begin(&mut self.0, now_ns, id, text.as_ptr(), text.len(), &mut scope) })?;
-        Ok(Scope(scope))
-    }
-
-    /// Ends the innermost open scope, which must be this one.
-    #[inline]
-    pub fn end(&mut self, now_ns: i64, scope: Scope) -> Result<(), Fault> {
-        if scope.0 == raw::NO_SCOPE {
-            return Ok(());
-        }
-        told(unsafe { raw::puffin_end(&mut self.0, now_ns, scope.0) })
-    }
-
-    /// Turns scopes on or off. They are on at first. A scope that is open already is ended as usual.
-    pub fn set_scopes_on(&mut self, is_on: bool) -> Result<(), Fault> {
-        told(unsafe { raw::puffin_set_scopes_on(&mut self.0, is_on) })
-    }
-
-    /// Returns whether a scope would begin now.
-    pub fn are_scopes_on(&self) -> bool {
-        self.0.is_on()
-    }
-
-    /// Gives up the closed scopes that weren't reported, for example because a report is refused again and again, and returns
-    /// how many there were. The names that were registered stay for the next report. Fails while a scope is open.
-    pub fn discard(&mut self) -> Result<u64, Fault> {
-        let mut scopes = 0;
-        told(unsafe { raw::puffin_thread_discard(&mut self.0, &mut scopes) })?;
-        Ok(scopes)
-    }
-}
-
-impl Drop for Thread {
-    fn drop(&mut self) {
-        unsafe { raw::puffin_thread_close(&mut self.0) };
-    }
-}
-
-/// Describes a frame.
-#[derive(Debug, Clone, Copy, PartialEq, Eq)]
-pub struct Frame {
-    pub index: u64,
-    pub scopes: u64,
-    pub bytes: u64,
-    pub start_ns: i64,
-    pub stop_ns: i64,
-}
-
-/// Collects what threads report into frames, and keeps a view of them.
-pub struct Profiler(Handle);
-
-unsafe impl Send for Profiler {}
-
-type Begin = unsafe extern "C" fn(*mut Handle, *mut u64) -> u32;
-type Next = unsafe extern "C" fn(*mut Handle, *mut u8, usize, *mut u64) -> u32;
-
-impl Profiler {
-    pub fn new(ids: &mut Ids) -> Result<Profiler, Fault> {
-        let mut handle = Handle::new();
-        told(unsafe { raw::puffin_profiler_open(&mut handle, &mut ids.0) })?;
-        Ok(Profiler(handle))
-    }
-
     /// Sets how many recent and how many slow frames the view keeps at most, from the next frame on.
     pub fn set_limits(&mut self, recent: usize, slow: usize) -> Result<(), Fault> {
         told(unsafe { raw::puffin_set_limits(&mut self.0, recent, slow) })
+    }
+
+    /// Limits the bytes that wait for the next frame. A report that would make them more fails with [`Fault::MEMORY`].
+    pub fn set_max_pending(&mut self, bytes: u64) -> Result<(), Fault> {
+        told(unsafe { raw::puffin_set_max_pending(&mut self.0, bytes) })
     }
 
     /// Reports a thread's closed scopes. If the call fails, they keep waiting.
@@ -284,23 +271,22 @@ impl Drop for Profiler {
 /// The letters that a file begins with.
 pub const FILE_START: &[u8; 4] = b"PUF0";
 
-/// The sizes of the library's structs must be those of the declarations here.
 #[cfg(test)]
 mod tests {
     use super::*;
-    use std::mem::size_of;
+
+    #[test]
+    fn the_library_has_the_interface_that_is_declared() {
+        assert!(is_interface_known());
+    }
 
     #[test]
     fn structs_have_the_library_s_sizes() {
-        let mut sizes = [0; 10];
-        assert_eq!(unsafe { raw::puffin_sizes(sizes.as_mut_ptr(), sizes.len()) }, sizes.len());
-        assert_eq!(sizes[1], size_of::<RawFrame>() as u64);
-        assert_eq!(sizes[2..5], [size_of::<Handle>() as u64; 3]);
-        assert_eq!(sizes[5], size_of::<raw::Lists>() as u64);
-        assert_eq!(sizes[6], size_of::<raw::RawScope>() as u64);
-        assert_eq!(sizes[7], size_of::<raw::RawStream>() as u64);
-        assert_eq!(sizes[8], size_of::<raw::RawFileThread>() as u64);
-        assert_eq!(sizes[9], size_of::<raw::RawMerged>() as u64);
+        use std::mem::size_of;
+        let of_handle_and_lists = [size_of::<Handle>(), size_of::<raw::Lists>()];
+        let of_file = [size_of::<RawFrame>(), size_of::<raw::RawStream>(), size_of::<raw::RawScope>()];
+        let of_threads = [size_of::<raw::RawFileThread>(), size_of::<raw::RawMerged>()];
+        assert_eq!((of_handle_and_lists, of_file, of_threads), ([16, 16], [48, 64, 48], [48, 72]));
     }
 
     #[test]

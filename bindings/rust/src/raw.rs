@@ -1,7 +1,11 @@
-//! The calls of `puffin.h`. The tests compare the sizes of these structs with the library's.
+//! The calls of `puffin.h`, and its structs. A test compares [`INTERFACE`] with the library's.
 
 use crate::Frame;
 use std::ffi::c_void;
+use std::fmt;
+
+/// The number of the interface that is declared here.
+pub const INTERFACE: u32 = 2;
 
 /// A handle. It isn't open when it is filled with zeros. Only that of a thread has scopes to turn on.
 #[repr(C)]
@@ -18,6 +22,12 @@ impl Handle {
 
     pub fn is_on(&self) -> bool {
         self.is_on
+    }
+}
+
+impl fmt::Debug for Handle {
+    fn fmt(&self, f: &mut fmt::Formatter<'_>) -> fmt::Result {
+        f.pad("..")
     }
 }
 
@@ -114,10 +124,20 @@ pub struct Version {
     pub patch: u32,
 }
 
+/// `struct timespec` of x86-64 Linux, where the library runs.
+#[repr(C)]
+pub struct Timespec {
+    pub seconds: i64,
+    pub nanoseconds: i64,
+}
+
+/// `CLOCK_MONOTONIC`.
+pub const MONOTONIC: i32 = 1;
+
 extern "C" {
+    pub fn clock_gettime(clock: i32, time: *mut Timespec) -> i32;
     pub fn puffin_version() -> Version;
-    #[cfg_attr(not(test), allow(dead_code))]
-    pub fn puffin_sizes(sizes: *mut u64, room: usize) -> usize;
+    pub fn puffin_interface() -> u32;
     pub fn puffin_fault_name(fault: u32, name: *mut u8, room: usize) -> usize;
     pub fn puffin_check_file(file: *const u8, size: usize, frames: *mut u64, offset: *mut u64, read: *mut u64) -> u32;
     pub fn puffin_ids_open(ids: *mut Handle) -> u32;
@@ -125,7 +145,7 @@ extern "C" {
     pub fn puffin_thread_open(thread: *mut Handle, ids: *mut Handle, name: *const u8, size: usize, long_texts: bool) -> u32;
     pub fn puffin_thread_close(thread: *mut Handle) -> u32;
     pub fn puffin_register_function(
-        thread: *mut Handle,
+        profiler: *mut Handle,
         function: *const u8,
         function_size: usize,
         file: *const u8,
@@ -134,7 +154,7 @@ extern "C" {
         id: *mut u32,
     ) -> u32;
     pub fn puffin_register_scope(
-        thread: *mut Handle,
+        profiler: *mut Handle,
         name: *const u8,
         name_size: usize,
         function: *const u8,
@@ -147,6 +167,7 @@ extern "C" {
     pub fn puffin_begin(thread: *mut Handle, now_ns: i64, id: u32, text: *const u8, size: usize, scope: *mut u64) -> u32;
     pub fn puffin_end(thread: *mut Handle, now_ns: i64, scope: u64) -> u32;
     pub fn puffin_set_scopes_on(thread: *mut Handle, is_on: bool) -> u32;
+    pub fn puffin_set_max_bytes(thread: *mut Handle, bytes: u64) -> u32;
     pub fn puffin_thread_discard(thread: *mut Handle, scopes: *mut u64) -> u32;
     pub fn puffin_scopes(
         bytes: *const u8,
@@ -211,6 +232,7 @@ extern "C" {
     pub fn puffin_new_frame(profiler: *mut Handle, frame: *mut RawFrame) -> u32;
     pub fn puffin_snapshot(profiler: *mut Handle) -> u32;
     pub fn puffin_set_limits(profiler: *mut Handle, recent: usize, slow: usize) -> u32;
+    pub fn puffin_set_max_pending(profiler: *mut Handle, bytes: u64) -> u32;
     pub fn puffin_view_clear(profiler: *mut Handle) -> u32;
     pub fn puffin_file_begin(profiler: *mut Handle, size: *mut u64) -> u32;
     pub fn puffin_file_next(profiler: *mut Handle, out: *mut u8, room: usize, size: *mut u64) -> u32;

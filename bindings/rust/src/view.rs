@@ -133,6 +133,7 @@ fn scopes_in(stream: &[u8], long_texts: bool) -> Result<Vec<FileScope>, Fault> {
 }
 
 /// The frames of a file, one after the other, each with its streams by thread. A fault ends it.
+#[derive(Debug, Clone)]
 pub struct FileFrames<'a> {
     file: &'a [u8],
     offset: Option<u64>,
@@ -149,8 +150,9 @@ impl<'a> FileFrames<'a> {
             let (file, size) = (self.file.as_ptr(), self.file.len());
             raw::puffin_frame_streams(file, size, offset, &mut frame, &mut next, rows, room, bytes, bytes_room, sizes)
         })?;
-        let Some(frame) = frame.told() else {
-            return Ok(None);
+        let frame = match frame.told() {
+            Some(frame) => frame,
+            None => return Ok(None),
         };
         let mut streams = Vec::new();
         for row in &rows {

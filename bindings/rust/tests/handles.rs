@@ -1,6 +1,7 @@
 //! The library's handles, on two threads.
 
-use puffin_c::{check_file, file_threads, merge_file, now_ns, FileFrames, Ids, Profiler, Thread, FILE_START};
+use puffin_c::{check_file, file_threads, merge_file, now_ns, Fault, FileFrames, Ids, Profiler, Thread, FILE_START};
+use std::error::Error;
 use std::sync::Mutex;
 
 /// A function with two scopes in it.
@@ -22,7 +23,7 @@ fn two_threads_report_to_one_profiler() {
         for mut thread in threads {
             let profiler = &profiler;
             scope.spawn(move || {
-                let id = thread.register_function("work", "handles.rs", 7).unwrap();
+                let id = profiler.lock().unwrap().register_function("work", "handles.rs", 7).unwrap();
                 work(&mut thread, id, 1000);
                 profiler.lock().unwrap().report(&mut thread).unwrap();
             });
@@ -45,7 +46,7 @@ fn a_file_is_seen_frame_by_frame() {
     let mut ids = Ids::new().unwrap();
     let mut profiler = Profiler::new(&mut ids).unwrap();
     let mut thread = Thread::new(&mut ids, "main", true).unwrap();
-    let id = thread.register_function("work", "handles.rs", 7).unwrap();
+    let id = profiler.register_function("work", "handles.rs", 7).unwrap();
     for start in [1000, 2000] {
         work(&mut thread, id, start);
         profiler.report(&mut thread).unwrap();
@@ -117,10 +118,54 @@ fn faults_have_names() {
     assert_eq!(fault.to_string(), "PUFFIN_NO_ID");
     let outer = thread.begin(0, 1, "").unwrap();
     let inner = thread.begin(1, 1, "").unwrap();
-    assert_eq!(thread.end(2, outer).unwrap_err().to_string(), "PUFFIN_MISMATCHED_END");
-    thread.end(2, inner).unwrap();
+    let refused = thread.end(2, outer).unwrap_err();
+    assert_eq!((refused.to_string().as_str(), refused.fault), ("PUFFIN_MISMATCHED_END", Fault::MISMATCHED_END));
     let mut profiler = Profiler::new(&mut ids).unwrap();
-    assert_eq!(profiler.report(&mut thread).unwrap_err().to_string(), "PUFFIN_SCOPES_OPEN");
+    assert_eq!(profiler.report(&mut thread), Err(Fault::SCOPES_OPEN));
+    // the refused end gave its scope back, so all can be ended
+    thread.end(2, inner).unwrap();
+    thread.end(2, refused.scope).unwrap();
+    profiler.report(&mut thread).unwrap();
+    assert_eq!(profiler.new_frame().unwrap().unwrap().scopes, 2);
+}
+
+#[test]
+fn faults_are_errors_and_handles_can_be_shown() {
+    let file = check_file(b"PUF0PFD4").unwrap_err();
+    let errors: [Box<dyn Error>; 2] = [Box::new(file), Box::new(file.fault)];
+    assert_eq!(errors.map(|it| it.to_string()), ["PUFFIN_FILE_TRUNCATED in the frame at 4, before 8", "PUFFIN_FILE_TRUNCATED"]);
+    let mut ids = Ids::new().unwrap();
+    let thread = Thread::new(&mut ids, "main", false).unwrap();
+    assert_eq!(format!("{ids:?} {thread:?}"), "Ids(..) Thread(..)");
+}
+
+#[test]
+fn what_is_over_a_limit_is_refused_for_memory() {
+    let mut ids = Ids::new().unwrap();
+    let mut thread = Thread::new(&mut ids, "main", false).unwrap();
+    let mut profiler = Profiler::new(&mut ids).unwrap();
+    thread.set_max_bytes(100).unwrap();
+    assert_eq!(thread.begin(1, 1, "").unwrap_err(), Fault::MEMORY);
+    thread.set_max_bytes(1000).unwrap();
+    profiler.set_max_pending(30).unwrap();
+    let scope = thread.begin(1, 1, "").unwrap();
+    thread.end(2, scope).unwrap();
+    assert_eq!(profiler.report(&mut thread), Err(Fault::MEMORY));
+    profiler.set_max_pending(31).unwrap();
+    profiler.report(&mut thread).unwrap();
+}
+
+/// The clock of `puffin.h`.
+#[test]
+fn the_clock_is_the_system_s() {
+    extern "C" {
+        fn clock_gettime(clock: i32, time: *mut [i64; 2]) -> i32;
+    }
+    let mut time = [0; 2];
+    let before = now_ns();
+    assert_eq!(unsafe { clock_gettime(1, &mut time) }, 0);
+    let between = time[0] * 1_000_000_000 + time[1];
+    assert!(before <= between && between <= now_ns());
 }
 
 #[test]

@@ -28,8 +28,21 @@ struct Game {
 }
 
 impl Rounds for Game {
+    type State = ();
+
+    fn state<R: Wait>(&self, _rt: &R, _number: usize) -> io::Result<()> {
+        Ok(())
+    }
+
     /// A thread with an even number loads; the others paint, and load within that.
-    fn part<T: Records>(&self, number: usize, thread: &mut T) -> io::Result<()> {
+    fn part<R: Wait, T: Records>(
+        &self,
+        _rt: &R,
+        number: usize,
+        _round: usize,
+        _state: &mut (),
+        thread: &mut T,
+    ) -> io::Result<()> {
         if number % 2 == 0 {
             profile!(_load, thread, self.load);
         } else {
@@ -55,14 +68,6 @@ impl Program for Untaken {
     }
 
     fn lead<R: Wait, T: Records, F: Frames>(&self, _rt: &R, _thread: &mut T, _frames: &mut F) {}
-
-    fn settings(&self) -> Settings {
-        Settings {
-            max_thread_bytes: 100_000,
-            max_pending_bytes: 1_000_000,
-            ..Settings::default()
-        }
-    }
 }
 
 /// Prints the name and the number of pieces of each scope, indented by `blanks`.
@@ -121,7 +126,7 @@ fn run<R: AllocGlobal + Clock + Print + Threads + Wait + Copy + Send + Sync>(
     scopes: &Scopes,
     game: &Game,
 ) -> Result<()> {
-    let outcome = in_rounds(rt, names, scopes, 3, game)?;
+    let outcome = in_rounds(rt, names, scopes, &Settings::default(), 3, game)?;
     report(&rt, title, names, &outcome.view.lock(&rt))
 }
 
@@ -145,7 +150,12 @@ fn run_untaken<R: AllocGlobal + Clock + Print + Threads + Wait + Copy + Send + S
     scopes: &Scopes,
     program: &Untaken,
 ) -> Result<()> {
-    let outcome = profiled(rt, &["alone"], scopes, program)?;
+    let settings = Settings {
+        max_thread_bytes: 100_000,
+        max_pending_bytes: 1_000_000,
+        ..Settings::default()
+    };
+    let outcome = profiled(rt, &["alone"], scopes, &settings, program)?;
     let ThreadCounts {
         reported,
         unreported,

@@ -1,6 +1,6 @@
 //! Three threads that work in rounds, for a run in which one allocation or the start of one thread is refused.
 
-use puffin::light::{GuardState, Outcome, Place, Records, Rounds, Scopes, in_rounds};
+use puffin::light::{GuardState, Outcome, Place, Records, Rounds, Scopes, Settings, in_rounds};
 use puffin::{Result, place};
 use std::alloc::Global;
 use std::io;
@@ -46,8 +46,21 @@ impl Parts {
 }
 
 impl Rounds for Parts {
+    type State = ();
+
+    fn state<R: Wait>(&self, _rt: &R, _number: usize) -> io::Result<()> {
+        Ok(())
+    }
+
     /// Makes a scope within another.
-    fn part<T: Records>(&self, _number: usize, thread: &mut T) -> io::Result<()> {
+    fn part<R: Wait, T: Records>(
+        &self,
+        _rt: &R,
+        _number: usize,
+        _round: usize,
+        _state: &mut (),
+        thread: &mut T,
+    ) -> io::Result<()> {
         self.done.fetch_add(1, Ordering::SeqCst);
         let mut outer = thread.scope(&self.outer);
         self.count(outer.state());
@@ -90,7 +103,14 @@ pub(crate) fn run<R: AllocGlobal + Clock + Print + Threads + Wait + Copy + Send 
     let Ok((scopes, parts)) = registered(rt.alloc()) else {
         return println!(rt; "parts 0 begun 0 refused").ok();
     };
-    let outcome = in_rounds(rt, &["a", "b", "c"], &scopes, ROUNDS, &parts);
+    let outcome = in_rounds(
+        rt,
+        &["a", "b", "c"],
+        &scopes,
+        &Settings::default(),
+        ROUNDS,
+        &parts,
+    );
     parts.print(&rt)?;
     match outcome {
         Ok(outcome) => print_outcome(&rt, &outcome),

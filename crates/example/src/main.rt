@@ -8,7 +8,7 @@ mod picture;
 use anyhow::{Context, Result};
 use picture::Picture;
 use puffin::data::Counted;
-use puffin::light::{Frames, Place, Program, Records, Scopes, profiled};
+use puffin::light::{Frames, Place, Program, Records, Scopes, Settings, profiled};
 use puffin::profile_view::{FrameView, FrameWriter};
 use puffin::{place, profile};
 use std::fs::File;
@@ -80,7 +80,7 @@ fn main(rt: HostRuntime) -> Result<()> {
         meeting: Barrier::new(names.len() + 1),
         writer: Mutex::new(FrameWriter::new(Counted::new(File::create(&rt, out.as_str())?))?),
     };
-    let outcome = profiled(rt, &names, &scopes, &studio)?;
+    let outcome = profiled(rt, &names, &scopes, &Settings::default(), &studio)?;
     println!(rt; "steps {}", studio.picture.steps.load(Ordering::Relaxed))?;
     let view = outcome.view.lock(&rt);
     print(&rt, out.as_str(), &view, outcome.settled.handed)

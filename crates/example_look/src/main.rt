@@ -10,7 +10,7 @@ use puffin::light::{Place, Scopes};
 use puffin::place;
 use puffin::profile_view::{FrameReader, FrameView};
 use puffin::thread_profiler::{ScriptClock, ThreadProfiler};
-use puffin_look::print_frame;
+use puffin_look::{print_frame, read_overview};
 
 /// The start of each frame and of the scope in it, and the stops of both.
 const TIMES: [[i64; 4]; 3] = [
@@ -106,6 +106,14 @@ fn main(rt: HostRuntime) -> Result<()> {
     let bytes: &[u8] = &file;
     let index = slowest(&view).context("a frame")?;
     let mut out = Counted::new(rt.stdout());
-    print_frame(alloc, &mut Buffered::new(bytes), &mut out, index, None)?;
+    let overview = read_overview(alloc, &mut Buffered::new(bytes))?;
+    print_frame(
+        alloc,
+        &overview,
+        &mut Buffered::new(bytes),
+        &mut out,
+        index,
+        None,
+    )?;
     walk(&rt, bytes)
 }

@@ -1,7 +1,7 @@
 //! Four threads answer a hundred requests. Each request is recorded under a name of its own, as if it had a thread of its own.
 #![tactic(auto)]
 
-use puffin::light::{Frames, Place, Pool, Records, Scopes, pooled, save};
+use puffin::light::{Frames, Place, Pool, Records, Scopes, Settings, pooled, save};
 use puffin::{place, profile};
 use std::alloc::Global;
 use std::io;
@@ -74,7 +74,7 @@ fn main(rt: HostRuntime) -> anyhow::Result<()> {
         steps: AtomicUsize::new(0),
         end: Barrier::new(THREADS + 1),
     };
-    let outcome = pooled(rt, THREADS, &scopes, &server)?;
+    let outcome = pooled(rt, THREADS, &scopes, &Settings::default(), &server)?;
     let steps = server.steps.load(Ordering::SeqCst);
     println!(rt;
         "steps {steps} scopes handed out {}",

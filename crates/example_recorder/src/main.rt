@@ -11,7 +11,7 @@ mod rotation;
 use anyhow::{Context, Result};
 use puffin::data::Counted;
 use puffin::global_profiler::{Emitted, GlobalProfiler};
-use puffin::light::{Frames, Place, Records, Rounds, Scopes, Thread, in_rounds};
+use puffin::light::{Frames, Place, Records, Rounds, Scopes, Settings, Thread, in_rounds};
 use puffin::profile_view::{FrameReader, FrameWriter};
 use puffin::{FileError, place, profile};
 use rotation::Rotation;
@@ -94,7 +94,20 @@ struct Game {
 }
 
 impl Rounds for Game {
-    fn part<T: Records>(&self, _number: usize, thread: &mut T) -> io::Result<()> {
+    type State = ();
+
+    fn state<R: Wait>(&self, _rt: &R, _number: usize) -> io::Result<()> {
+        Ok(())
+    }
+
+    fn part<R: Wait, T: Records>(
+        &self,
+        _rt: &R,
+        _number: usize,
+        _round: usize,
+        _state: &mut (),
+        thread: &mut T,
+    ) -> io::Result<()> {
         self.places.update(thread);
         Ok(())
     }
@@ -145,7 +158,14 @@ fn main(rt: HostRuntime) -> Result<()> {
         places: Places::new(&mut scopes)?,
         files: Mutex::new(Rotation::new(rt, path, every, kept)?),
     };
-    let outcome = in_rounds(rt, &["left", "right"], &scopes, frames, &game)?;
+    let outcome = in_rounds(
+        rt,
+        &["left", "right"],
+        &scopes,
+        &Settings::default(),
+        frames,
+        &game,
+    )?;
     println!(rt;
         "frames {} scopes {}",
         outcome.frames, outcome.settled.handed

@@ -1,9 +1,10 @@
 //! Four threads work in rounds; a frame is taken after each round.
 #![tactic(auto)]
 
-use puffin::light::{Place, Records, Rounds, Scopes, in_rounds, save};
+use puffin::light::{Place, Records, Rounds, Scopes, Settings, in_rounds, save};
 use puffin::{place, profile};
 use std::io;
+use std::sync::Wait;
 
 #[derive(Drop)]
 struct Game {
@@ -12,7 +13,20 @@ struct Game {
 }
 
 impl Rounds for Game {
-    fn part<T: Records>(&self, _number: usize, thread: &mut T) -> io::Result<()> {
+    type State = ();
+
+    fn state<R: Wait>(&self, _rt: &R, _number: usize) -> io::Result<()> {
+        Ok(())
+    }
+
+    fn part<R: Wait, T: Records>(
+        &self,
+        _rt: &R,
+        _number: usize,
+        _round: usize,
+        _state: &mut (),
+        thread: &mut T,
+    ) -> io::Result<()> {
         profile!(whole, thread, self.update);
         profile!(_physics, whole, self.physics, "all bodies");
         Ok(())
@@ -25,7 +39,8 @@ fn main(rt: HostRuntime) -> anyhow::Result<()> {
         update: place!(scopes, "update")?,
         physics: place!(scopes, "update", "physics")?,
     };
-    let outcome = in_rounds(rt, &["north", "east", "south", "west"], &scopes, 10, &game)?;
+    let names = ["north", "east", "south", "west"];
+    let outcome = in_rounds(rt, &names, &scopes, &Settings::default(), 10, &game)?;
     let handed = outcome.settled.handed;
     println!(rt; "scopes handed out {handed}")?;
     Ok(save(&rt, "frames.puffin", &outcome.view.lock(&rt))?)

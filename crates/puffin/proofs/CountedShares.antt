@@ -1,7 +1,7 @@
 -- Shares with the numbers that their threads counted.
-use Rattle.std.proofs.Common.{◌≡◌, ℕ, ◌+◌, ◌<◌, ◌≤◌, ◌^◌, List, [], ◌∷◌, ◌++◌, sum_by, ◌∙◌, arith}
+use Rattle.std.proofs.Common.{◌≡◌, ℕ, ◌+◌, ◌<◌, ◌^◌, List, [], ◌∷◌, ◌++◌, sum_by, ◌∙◌, arith}
 use Rattle.std.proofs.lemmas.List.Sums.{sum_by-append}
-use Rattle.puffin.specs.declared.light.program.ThreadCounts.{ThreadCounts}
+use Rattle.puffin.specs.declared.light.outcome.ThreadCounts.{ThreadCounts}
 use Rattle.puffin.specs.Members.{Member, all_reported, all_handed}
 
 -- one share more, whose thread counted as much, beside what the leader counted
@@ -14,14 +14,8 @@ counted_more leader shares counts s t so_far one below =
     let last : s.counts.reported < 2 ^ 64 = omega (arith, whole, below) in
     omega (arith, whole, each, so_far before, one last)
 
--- one share more, to which nothing was handed out if there was no frame
-pub none_more : (shares : List Member) (s : Member) (frames : ℕ) → (frames ≡ 0 → all_handed shares ≡ 0) → (frames ≡ 0 → s.counts.handed ≡ 0) → frames ≡ 0 → all_handed (shares ++ s ∷ []) ≡ 0
-none_more shares s frames so_far one none =
+-- one share more, to which nothing was handed out
+pub handed_more : (shares : List Member) (s : Member) (n : ℕ) → all_handed shares ≡ n → s.counts.handed ≡ 0 → all_handed (shares ++ s ∷ []) ≡ n
+handed_more shares s n so_far none =
     let whole : all_handed (shares ++ s ∷ []) ≡ all_handed shares + s.counts.handed = sum_by-append (λ (m : Member). m.counts.handed) shares (s ∷ []) ∙ omega arith in
-    omega (arith, whole, so_far none, one none)
-
--- one share more, where the others count at least as many scopes as there are frames
-pub some_more : (shares : List Member) (s : Member) (frames : ℕ) → frames ≤ all_handed shares → frames ≤ all_handed (shares ++ s ∷ [])
-some_more shares s frames so_far =
-    let whole : all_handed (shares ++ s ∷ []) ≡ all_handed shares + s.counts.handed = sum_by-append (λ (m : Member). m.counts.handed) shares (s ∷ []) ∙ omega arith in
-    omega (arith, whole, so_far)
+    omega (arith, whole, so_far, none)

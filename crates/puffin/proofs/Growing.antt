@@ -13,7 +13,7 @@ use Rattle.puffin_frames.proofs.lemmas.Honest.{no_scopes_there}
 use Rattle.puffin_frames.specs.Frame.Contents.{Streams, AreHonest, no_scopes}
 use Rattle.history.specs.Entries.{events}
 use Rattle.history.proofs.lemmas.AllAuthors.{events-append}
-use Rattle.puffin.specs.Happenings.{Happening, left, History, after, pending_after, due_at, due_after, frame_of, frames_in, IsReport, AreReports, HaveNoScopes, ArePending, Stands}
+use Rattle.puffin.specs.Happenings.{Happening, left, History, after, pending_after, due_at, due_after, frame_of, frames_in, IsReport, AreReports, ArePending, Stands}
 use Rattle.puffin.specs.Leaving.{last_entries}
 
 pending_last : (s : Streams) (hs : List Happening) (h : Happening) → pending_after s (hs ++ h ∷ []) ≡ after (pending_after s hs) h

@@ -15,3 +15,6 @@ mod Registered
 mod Telling
 mod TellingCode
 mod ShownCode
+mod JoinedThreads
+mod TakenFrames
+mod ShownRuns

@@ -1,23 +1,27 @@
 -- The frames show what the threads did.
-use Rattle.std.proofs.Common.{◌≡◌, ◌≢◌, ℕ, zero, suc, ◌<◌, ◌^◌, ℤ, Bool, true, false, List, [], ◌∷◌, ◌++◌, Option, Some, None, length, map, if◌then◌else◌, refl, ap, sym, subst, ◌∙◌, arith}
+use Rattle.std.proofs.Common.{◌≡◌, ◌≢◌, ℕ, zero, suc, ◌<◌, ◌≤◌, ◌^◌, Bool, true, false, List, [], ◌∷◌, ◌++◌, Option, Some, length, map, get_or, if◌then◌else◌, refl, ap, sym, subst, ◌∙◌, arith}
 use mathlib.Core.Logic.{∥∥₁_map}
-use Rattle.std.specs.Prelude.{slice_get}
+use Rattle.std.specs.Prelude.{slice_get, count_by, cond}
+use Rattle.std.specs.Str.{bytes_eq}
+use Rattle.std.proofs.lemmas.List.Sums.{sum_by-cons}
+use Rattle.std.proofs.lemmas.Slice.Eq.{bytes_eq-Decides}
 use Rattle.std.specs.List.{All, Contains}
 use Rattle.std.proofs.lemmas.List.Elements.{All-cons, All-nil}
+use Rattle.std.proofs.lemmas.Option.{slice_get_within, slice_get-get_or}
 use Rattle.puffin_data.specs.declared.data.form.Form.TheVariants.{Short}
 use Rattle.puffin_data.specs.Forest.{Forest, append}
 use Rattle.puffin_data.specs.Forest.Spelling.{spelling}
-use Rattle.puffin_data.specs.Honesty.{StreamFacts, AreHonestFacts}
+use Rattle.puffin_data.specs.Honesty.{StreamFacts}
 use Rattle.puffin_data.proofs.lemmas.Unique.{same_forest}
 use Rattle.puffin_threads.specs.Thread.ThreadKey.{ThreadKey, has_same_key}
 use Rattle.puffin_threads.proofs.lemmas.ThreadKeys.{has_same_key-one, has_same_key-itself}
 use Rattle.puffin.specs.Code.{Code, AreScopesOf}
-use Rattle.puffin.specs.Happenings.{Happening, reported, History, frames_in, reports_under}
+use Rattle.puffin.specs.Happenings.{Happening, reported, frames_in, reports_under}
 use Rattle.puffin.specs.Leaving.{accounts_of}
 use Rattle.puffin.specs.Members.{Member, account_of}
-use Rattle.puffin.specs.Recounted.{SpellInTurn, ReportsAlone, TakesAlone, Recounts}
+use Rattle.puffin.specs.Recounted.{SpellInTurn}
 use Rattle.puffin.specs.Telling.{AllFit, HasRun}
-use Rattle.puffin.specs.Shown.{ShowsCode, RanEach, FramesShow}
+use Rattle.puffin.specs.Shown.{ShowsCode, IsAlone, FramesShow}
 
 -- ---- reports under one key
 
@@ -50,18 +54,42 @@ spelled_once (r ∷ rs) f g fit (a, b, honest, rest, is) (c, d, honest2, rest2, 
 at_most_one : {A : Type 0} (o : Option A) (x y : A) → o ≡ Some x → o ≡ Some y → x ≡ y
 at_most_one o x y p q = let same = sym p ∙ q in cc
 
-contained : (ms : List Member) (t : Member) (k : ℕ) (m : Member) → slice_get ms k ≡ Some m → Contains (accounts_of (ms ++ t ∷ [])) (account_of m)
-contained [] t k m e = absurd cc
-contained (x ∷ ms) t zero m e = (0, omega arith, let same : x ≡ m = cc in ap account_of same)
-contained (x ∷ ms) t (suc k) m e = let c = contained ms t k m e in let less = c.1 in (suc c.0, omega arith, c.2)
+contained : (ms : List Member) (k : ℕ) (m : Member) → slice_get ms k ≡ Some m → Contains (accounts_of ms) (account_of m)
+contained [] k m e = absurd cc
+contained (x ∷ ms) zero m e = (0, omega arith, let same : x ≡ m = cc in ap account_of same)
+contained (x ∷ ms) (suc k) m e = let c = contained ms k m e in let less = c.1 in (suc c.0, omega arith, c.2)
 
-last_contained : (ms : List Member) (t : Member) → Contains (accounts_of (ms ++ t ∷ [])) (account_of t)
-last_contained [] t = (0, omega arith, refl)
-last_contained (x ∷ ms) t = let c = last_contained ms t in let less = c.1 in (suc c.0, omega arith, c.2)
+every : (P : ℕ × List Happening → Type 0) (ms : List Member) → ((j : ℕ) (m : Member) → slice_get ms j ≡ Some m → P (account_of m)) → All P (accounts_of ms)
+every P [] h = All-nil P
+every P (x ∷ ms) h = All-cons P (account_of x) (accounts_of ms) (h 0 x refl) (every P ms (λ j m e. h (suc j) m e))
 
-every : (P : ℕ × List Happening → Type 0) (ms : List Member) (t : Member) → ((j : ℕ) (m : Member) → slice_get ms j ≡ Some m → P (account_of m)) → P (account_of t) → All P (accounts_of (ms ++ t ∷ []))
-every P [] t h k = All-cons P (account_of t) [] k (All-nil P)
-every P (x ∷ ms) t h k = All-cons P (account_of x) (accounts_of (ms ++ t ∷ [])) (h 0 x refl) (every P ms t (λ j m e. h (suc j) m e) k)
+-- the name at each place where there is a share
+named_at : (names : List (List ℕ)) (shares : List Member) (j : ℕ) (m : Member) → length shares ≡ length names → slice_get shares j ≡ Some m → (name : List ℕ) × (slice_get names j ≡ Some name)
+named_at names shares j m same e = (get_or names j [], slice_get-get_or names j [] (subst (λ (n : ℕ). j < n) same (slice_get_within shares j m e)))
+
+none_in : {A : Type 0} (xs : List A) → length xs ≡ 0 → xs ≡ []
+none_in [] none = refl
+none_in (x ∷ xs) none = absurd (omega arith)
+
+abbrev here : List ℕ → List ℕ → ℕ
+here name x = cond (bytes_eq name x) 1 0
+
+is_here : (name x : List ℕ) → name ≡ x → here name x ≡ 1
+is_here name x same = ap (λ (b : Bool). cond b 1 0) ((bytes_eq-Decides name x).1 same)
+
+-- a name that stands in a list is counted there
+counted : (name : List ℕ) (names : List (List ℕ)) (k : ℕ) → slice_get names k ≡ Some name → 1 ≤ count_by (bytes_eq name) names
+counted name [] k at = absurd cc
+counted name (x ∷ xs) zero at = let same : name ≡ x = cc in omega (arith, sum_by-cons (here name) x xs, is_here name x same)
+counted name (x ∷ xs) (suc k) at = omega (arith, sum_by-cons (here name) x xs, counted name xs k at)
+
+-- and if it stands there once, then at one place
+one_place : (name : List ℕ) (names : List (List ℕ)) (j k : ℕ) → IsAlone name names → slice_get names j ≡ Some name → slice_get names k ≡ Some name → j ≡ k
+one_place name [] j k once at also = absurd cc
+one_place name (x ∷ xs) zero zero once at also = refl
+one_place name (x ∷ xs) zero (suc k) once at also = let same : name ≡ x = cc in absurd (omega (arith, once, sum_by-cons (here name) x xs, is_here name x same, counted name xs k also))
+one_place name (x ∷ xs) (suc j) zero once at also = let same : name ≡ x = cc in absurd (omega (arith, once, sum_by-cons (here name) x xs, is_here name x same, counted name xs j at))
+one_place name (x ∷ xs) (suc j) (suc k) once at also = let rest : count_by (bytes_eq name) xs ≡ 1 = omega (arith, once, sum_by-cons (here name) x xs, counted name xs j at) in ap suc (one_place name xs j k rest at also)
 
 -- ---- what the frames show
 
@@ -69,17 +97,16 @@ abbrev key_for : {name : List ℕ} {known : ℕ} {code : Code} {w : ℕ} (m : Me
 key_for {name = name} m ran = record { start = ran.start; name = name }
 
 pub frames_show : FramesShow
-frames_show known n codes names shares waits taker log pending did quiet recounts k share name code waiting there named coded waited alone =
-    let d = did k share there in
-    let its_name : d.0 ≡ name = at_most_one (slice_get names k) d.0 name d.3 named in
-    let its_code : d.1 ≡ code = at_most_one (slice_get codes k) d.1 code d.4 coded in
-    let its_wait : d.2 ≡ waiting = at_most_one (slice_get waits k) d.2 waiting d.5 waited in
-    shown (subst (λ (x : List ℕ). HasRun x Short known code [] share.own waiting) its_name (subst (λ (x : Code). HasRun d.0 Short known x [] share.own waiting) its_code (subst (HasRun d.0 Short known d.1 [] share.own) its_wait d.6)))
+frames_show known n is names shares counts taker log pending did same quiet recounts k name named alone =
+    let d = did k name named in (d.2, d.1, d.5, d.4, shown d.0 d.2 d.1.unreported d.3 d.6)
   where
-    shown : (ran : HasRun name Short known code [] share.own waiting) → ∥ ShowsCode known code name (frames_in taker.own) pending waiting ∥₁
-    shown ran =
-        ∥∥₁_map (recounts.threads (key_for share ran) (account_of share) (account_of taker) (contained shares taker k share there) (last_contained shares taker) reports takes) (λ t.
-        let one : t.0 ≡ ran.shown = spelled_once ran.streams t.0 ran.shown ran.fit (subst (λ (rs : List StreamFacts). SpellInTurn rs t.0) (ap (reports_under (key_for share ran)) ran.told ∙ under_itself (key_for share ran) ran.streams) t.2) ran.spelled in
+    all : List Member
+    all = taker ∷ shares
+
+    shown : (share : Member) (code : Code) (waiting : ℕ) → slice_get shares k ≡ Some share → HasRun name Short known code [] share.own waiting → ∥ ShowsCode known code name (frames_in taker.own) pending waiting ∥₁
+    shown share code waiting there ran =
+        ∥∥₁_map (recounts.threads i (account_of share) (account_of taker) (contained all (suc k) share there) (contained all 0 taker refl) (every Others all reports) (every Untaken all takes)) (λ t.
+        let one : t.0 ≡ ran.shown = spelled_once ran.streams t.0 ran.shown ran.fit (subst (λ (rs : List StreamFacts). SpellInTurn rs t.0) (ap (reports_under i) ran.told ∙ under_itself i ran.streams) t.2) ran.spelled in
         record {
           start = ran.start;
           shown = t.0;
@@ -89,14 +116,28 @@ frames_show known n codes names shares waits taker log pending did quiet recount
           counted = ran.counted;
         })
       where
-        reports : ReportsAlone (key_for share ran) (account_of share) (accounts_of (shares ++ taker ∷ []))
-        reports = every (λ b. b.0 ≢ share.number → reports_under (key_for share ran) b.1 ≡ []) shares taker
-            (λ j m e apart.
-            let d = did j m e in
-            ap (reports_under (key_for share ran)) d.6.told ∙ under_others (key_for m d.6) (key_for share ran) (λ same. let at : j ≡ k = alone j d.0 d.3 (sym same) in apart (ap (λ (x : Member). x.number) (at_most_one (slice_get shares j) m share e (ap (slice_get shares) at ∙ there)))) d.6.streams)
-            (λ apart. quiet (key_for share ran))
+        i : ThreadKey
+        i = key_for share ran
 
-        takes : TakesAlone (account_of taker) (accounts_of (shares ++ taker ∷ []))
-        takes = every (λ b. b.0 ≢ taker.number → frames_in b.1 ≡ []) shares taker
-            (λ j m e apart. let d = did j m e in ap frames_in d.6.told ∙ no_frames (key_for m d.6) d.6.streams)
-            (λ apart. absurd (apart refl))
+        Others : ℕ × List Happening → Type 0
+        Others b = b.0 ≢ share.number → reports_under i b.1 ≡ []
+
+        Untaken : ℕ × List Happening → Type 0
+        Untaken b = b.0 ≢ taker.number → frames_in b.1 ≡ []
+
+        reports : (j : ℕ) (m : Member) → slice_get all j ≡ Some m → Others (account_of m)
+        reports zero m e other = let is_taker : taker ≡ m = cc in subst (λ (x : Member). reports_under i x.own ≡ []) is_taker (none_in (reports_under i taker.own) (quiet i))
+        reports (suc j) m e other =
+            let its = named_at names shares j m same e in
+            let d = did j its.0 its.1 in
+            let is_d : d.0 ≡ m = at_most_one (slice_get shares j) d.0 m d.3 e in
+            subst (λ (x : Member). reports_under i x.own ≡ []) is_d
+            (ap (reports_under i) d.6.told ∙ under_others (key_for d.0 d.6) i (λ same_name. let at : j ≡ k = one_place name names j k alone (its.1 ∙ ap Some (sym same_name)) named in other (ap (λ (x : Member). x.number) (at_most_one (slice_get shares j) m share e (ap (slice_get shares) at ∙ there)))) d.6.streams)
+
+        takes : (j : ℕ) (m : Member) → slice_get all j ≡ Some m → Untaken (account_of m)
+        takes zero m e other = let is_taker : taker ≡ m = cc in absurd (other (ap (λ (x : Member). x.number) (sym is_taker)))
+        takes (suc j) m e other =
+            let its = named_at names shares j m same e in
+            let d = did j its.0 its.1 in
+            let is_d : d.0 ≡ m = at_most_one (slice_get shares j) d.0 m d.3 e in
+            subst (λ (x : Member). frames_in x.own ≡ []) is_d (ap frames_in d.6.told ∙ no_frames (key_for d.0 d.6) d.6.streams)

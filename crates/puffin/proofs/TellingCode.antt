@@ -1,10 +1,8 @@
 -- Code on a light thread, by what its reporter tells.
-use Rattle.std.proofs.Common.{◌≡◌, ℕ, ℤ, pos, Bool, true, false, List, [], ◌∷◌, ◌++◌, Option, Some, None, Result, Ok, Err, inl, inr, refl, sym, ap, ◌∙◌, subst}
-use Rattle.std.specs.Prelude.{OnOk}
+use Rattle.std.proofs.Common.{◌≡◌, ℕ, ℤ, pos, Bool, true, false, List, Some, Result, Ok, Err, inl, inr, refl, sym, ap, ◌∙◌, subst}
 use Rattle.puffin_data.specs.declared.error.Error.{Error}
 use Rattle.puffin_data.specs.declared.data.form.Form.{Form}
 use Rattle.puffin_data.specs.Forest.{Forest, empty, append}
-use Rattle.puffin_data.specs.Forest.Measures.{scope_count}
 use Rattle.puffin_data.specs.Honesty.{StreamFacts}
 use Rattle.puffin_data.specs.Text.{cut_text}
 use Rattle.puffin_threads.specs.declared.thread_profiler.profiler.ThreadProfiler.{ThreadProfiler}
@@ -26,7 +24,7 @@ use Rattle.puffin.specs.Places.{num_known}
 use Rattle.puffin.specs.Guards.{BeginsAt, EndsIn, Leaves}
 use Rattle.puffin.specs.Code.{Code, nothing, scope, Runs, AreScopesOf, MayBe, scope_if, span_at}
 use Rattle.puffin.specs.Happenings.{Happening}
-use Rattle.puffin.specs.Telling.{KeepsReports, HasRun, RunsAs, HasRunAs}
+use Rattle.puffin.specs.Telling.{KeepsReports, HasRun, RunsAs, HasRunAs, LeadsAs, HasLedAs}
 use Rattle.puffin.proofs.lemmas.Waiting.{num_ended-tour}
 use Rattle.puffin.proofs.Telling.{Stage, Adds, Accepts, Refuses, adds_nothing, adds_both, innermost, around, told_all}
 
@@ -148,3 +146,10 @@ module _ {C R : Type 0} (answers : C → ℤ → C → Type 0) (accepts : R → 
   has_run_as false is old mid last after name form r result waiting first runs reports counted = tt
   has_run_as true is old mid last after name form (Ok x) result waiting first (code, it, runs) reports counted = (code, it, has_run code old mid last after name form result waiting first runs reports counted)
   has_run_as true is old mid last after name form (Err e) result waiting first runs reports counted = tt
+
+  pub has_led_as : (states : Bool) (is : Code → Type 0) (old mid : Thread C R) (last : calls.Thread) (after : R) (name : List ℕ) (form : Form) (result : Result Bool Error) (waiting : ℕ) → thread_of (profiler_of old) ≡ new_thread name form
+      → LeadsAs states is (BeginsAt answers) (EndsIn answers accepts refuses) old mid
+      → Reports accepts refuses (thread_of (profiler_of mid)) last (reporter_of mid) after result → waiting ≡ num_ended last.word
+      → HasLedAs states is name form (num_known (scopes_of old)) (told (reporter_of old)) (told after) waiting
+  has_led_as false is old mid last after name form result waiting first runs reports counted = tt
+  has_led_as true is old mid last after name form result waiting first (code, it, runs) reports counted = (code, it, has_run code old mid last after name form result waiting first runs reports counted)

@@ -7,7 +7,7 @@ use Rattle.puffin_frames.specs.declared.frame_data.frame.FrameData.{FrameData}
 use Rattle.puffin_frames.specs.Frame.Contents.{Streams, holding_of}
 use Rattle.puffin_collector.specs.Collector.State.{Collected}
 use Rattle.puffin_collector.specs.Collector.Collecting.{Collects}
-use Rattle.puffin.specs.Happenings.{Happening, framed, History}
+use Rattle.puffin.specs.Happenings.{framed, History}
 use Rattle.puffin.specs.Members.{Member, IsNewMember, Tells, unpacked_in}
 
 -- what a frame has is what was pending, and nothing is afterwards

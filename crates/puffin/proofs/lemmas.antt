@@ -3,3 +3,4 @@
 pub mod Sending
 pub mod Waiting
 pub mod Offsets
+pub mod CodeRuns

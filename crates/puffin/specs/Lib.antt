@@ -19,4 +19,5 @@ pub mod Ended
 pub mod Code
 pub mod Telling
 pub mod Shown
+pub mod Joined
 pub mod inner

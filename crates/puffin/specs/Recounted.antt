@@ -1,5 +1,5 @@
 -- What all shares together know: the whole history, and that its frames and what is pending spell what each thread reported.
-use Rattle.std.specs.Prelude.{◌≡◌, ◌≢◌, ℕ, List, [], ◌∷◌, ◌++◌, All, map, Contains}
+use Rattle.std.specs.Prelude.{◌≡◌, ◌≢◌, ℕ, List, [], ◌∷◌, ◌++◌, All, map, length, Contains}
 use Rattle.puffin_data.specs.Forest.{Forest, empty, append}
 use Rattle.puffin_data.specs.Honesty.{StreamFacts, AreHonestFacts}
 use Rattle.puffin_threads.specs.Thread.ThreadKey.{ThreadKey}
@@ -48,3 +48,7 @@ pub record Recounts (n : ℕ) (accounts : List (ℕ × List Happening)) (log : H
       Contains accounts a → Contains accounts taker →
       ReportsAlone i a accounts → TakesAlone taker accounts →
       SpellReports i (frames_in taker.1) pending (reports_under i a.1)
+
+-- nothing was reported, under no thread's start and name
+abbrev pub ReportsNothing : List Happening → Type 0
+ReportsNothing own = (i : ThreadKey) → length (reports_under i own) ≡ 0

@@ -58,3 +58,15 @@ abbrev pub HasRunAs : {X E : Type 0} → Bool → (Code → Type 0) → (name : 
 HasRunAs false is name form known result before after waiting = Unit {0}
 HasRunAs true is name form known result before after waiting =
     OnOk result ((code : Code) × is code × HasRun name form known code before after waiting)
+
+-- The same of code that can't fail.
+abbrev pub LeadsAs : {T : Type 0} → Bool → (Code → Type 0) →
+    (T → Place → List ℕ → GuardState → T → Type 0) → (T → ℕ → T → Type 0) → T → T → Type 0
+LeadsAs false is begins ends old new = Unit {0}
+LeadsAs true is begins ends old new = (code : Code) × is code × Runs begins ends code old new
+
+abbrev pub HasLedAs : Bool → (Code → Type 0) → (name : List ℕ) → Form → (known : ℕ) →
+    (before after : List Happening) → (waiting : ℕ) → Type 0
+HasLedAs false is name form known before after waiting = Unit {0}
+HasLedAs true is name form known before after waiting =
+    (code : Code) × is code × HasRun name form known code before after waiting

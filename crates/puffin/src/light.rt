@@ -12,7 +12,6 @@
 //! | take a frame of one thread | [`Thread::new_frame`] |
 //! | write frames to a file | [`save`] |
 //! | profile several threads that work in rounds, with a frame for each round | [`Rounds`], [`in_rounds`] |
-//! | the same, if each thread keeps a state from round to round | [`StatefulRounds`] |
 //! | profile several threads, and take frames when you choose | [`Program`], [`profiled`] |
 //! | profile a server or a pool, each of whose jobs has a name of its own | [`Pool`], [`pooled`] |
 //! | name the leader of several threads, limit what their scopes may take, or set what their view keeps | [`Settings`] |
@@ -21,9 +20,11 @@ mod counted;
 pub mod files;
 mod gate;
 pub mod guard;
+mod joined;
 pub mod laws;
 mod leader;
 mod macros;
+pub mod outcome;
 pub mod place;
 pub mod pool;
 pub mod program;
@@ -38,10 +39,11 @@ mod worker;
 
 pub use files::{SaveCause, SaveError, save};
 pub use guard::{Guard, GuardState, Records};
+pub use outcome::{Failed, Outcome, ThreadCounts};
 pub use place::Place;
 pub use pool::{Pool, pooled};
-pub use program::{Failed, Frames, Outcome, Program, ThreadCounts, profiled};
-pub use rounds::{Rounds, StatefulRounds, in_rounds};
+pub use program::{Frames, Program, profiled};
+pub use rounds::{Rounds, in_rounds};
 pub use scopes::{Scopes, ThreadScopes};
 pub use settings::Settings;
 pub use thread::Thread;

@@ -31,7 +31,7 @@ use Rattle.puffin_c.specs.declared.profiler.Profiler.{Profiler}
 use Rattle.puffin_c.specs.Faults.{file_fault}
 use Rattle.puffin_c.specs.Lists.{GetsLists}
 use Rattle.puffin_c.specs.Recording.{IsNoText}
-use Rattle.puffin_c.specs.Reporting.{key_given, LacksLines}
+use Rattle.puffin_c.specs.Reporting.{key_given, LacksSummary}
 use Rattle.puffin_c.specs.Merges.{nodes_from, merged_rows, IsListOf, GetsMerged, MergesFile, LacksMerge, MergesView}
 use Rattle.puffin_c.proofs.Named.{name_given, refused_name}
 
@@ -49,7 +49,7 @@ pub summed_up : (info : ThreadKey) (bytes dev : List ℕ) → dev ≡ bytes → 
 summed_up info bytes dev same left summary (stored, took, sums) =
     (left, record { stored = stored; took = subst (λ (bs : List ℕ). TookFrames file_at (Some bs) left stored) same took; sums = sums })
 
-pub not_summed_up : (info : ThreadKey) (bytes dev : List ℕ) → dev ≡ bytes → (left : Option (List ℕ)) (e : FileError) → FailsToSumUp info (Some dev) left e → LacksLines bytes info e
+pub not_summed_up : (info : ThreadKey) (bytes dev : List ℕ) → dev ≡ bytes → (left : Option (List ℕ)) (e : FileError) → FailsToSumUp info (Some dev) left e → LacksSummary bytes info e
 not_summed_up info bytes dev same left e fails = (left, subst (λ (bs : List ℕ). FailsToSumUp info (Some bs) left e) same fails)
 
 module _ (bytes : List ℕ) (has_start : Bool) (start : ℤ) (name : List ℕ) (rows : List PuffinMerged) (texts : List ℕ) (sizes : PuffinLists) where
@@ -59,7 +59,7 @@ module _ (bytes : List ℕ) (has_start : Bool) (start : ℤ) (name : List ℕ) (
   pub name_not_merged : (f e : Fault) → f ≡ e → IsNoText name e → Unmerged f
   name_not_merged f e same why = rw same (refl, refl, refl, refused_name bytes (key_given has_start start name) e (name_given has_start start name e why))
 
-  pub file_not_merged : (f : Fault) (e : FileError) → f ≡ file_fault e → IsUtf8 (key_given has_start start name).name → LacksLines bytes (key_given has_start start name) e → Unmerged f
+  pub file_not_merged : (f : Fault) (e : FileError) → f ≡ file_fault e → IsUtf8 (key_given has_start start name).name → LacksSummary bytes (key_given has_start start name) e → Unmerged f
   file_not_merged f e is text lacks = (refl, refl, refl, inr (text, e, is, lacks))
 
   pub no_room_for_file : (f : Fault) → f ≡ fault.Refused error.Memory → IsUtf8 (key_given has_start start name).name → Unmerged f

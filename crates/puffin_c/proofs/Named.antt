@@ -1,6 +1,6 @@
 -- The name of a thread that a caller gives.
-use Rattle.std.proofs.Common.{◌≡◌, ◌⊎◌, ℕ, List, refl, inl, inr}
-use Rattle.std.specs.Prelude.{Bool, true, false, ℤ, None, Err}
+use Rattle.std.proofs.Common.{◌≡◌, ◌⊎◌, ℕ, List, inl, inr}
+use Rattle.std.specs.Prelude.{Bool, true, false, ℤ, None}
 use Rattle.std.specs.Str.{IsUtf8}
 use Rattle.puffin_data.specs.declared.file_error.FileError.{FileError}
 use Rattle.puffin_data.specs.declared.file_error.FileError.TheVariants as file
@@ -9,7 +9,7 @@ use Rattle.puffin_c.specs.declared.fault.Fault.{Fault}
 use Rattle.puffin_c.specs.declared.fault.Fault.TheVariants as fault
 use Rattle.puffin_c.specs.Faults.{file_fault}
 use Rattle.puffin_c.specs.Recording.{IsNoText}
-use Rattle.puffin_c.specs.Reporting.{key_given, LacksLines, IsPrinted}
+use Rattle.puffin_c.specs.Reporting.{key_given, LacksSummary}
 
 pub name_given : (has_start : Bool) (start : ℤ) (name : List ℕ) (f : Fault) → IsNoText name f →
     IsNoText (key_given has_start start name).name f
@@ -23,13 +23,6 @@ text_given false start name h = h
 -- a name that is refused is no text, or memory ran out
 pub refused_name : (bytes : List ℕ) (info : ThreadKey) (f : Fault) → IsNoText info.name f →
     ((f ≡ fault.NotText) × ¬ (IsUtf8 info.name))
-    ⊎ (IsUtf8 info.name × (e : FileError) × (f ≡ file_fault e) × LacksLines bytes info e)
+    ⊎ (IsUtf8 info.name × (e : FileError) × (f ≡ file_fault e) × LacksSummary bytes info e)
 refused_name bytes info f (inl none) = inl none
 refused_name bytes info f (inr (memory, text)) = inr (text, file.Memory, memory, (None, inl tt))
-
-pub name_not_printed : (has_start : Bool) (start : ℤ) (name bytes old : List ℕ) (size : ℕ) (f e : Fault) → f ≡ e →
-    IsNoText name e → IsPrinted bytes (key_given has_start start name) old old size size (Err f)
-name_not_printed true start name bytes old size f e is why =
-    rw is (refl, refl, refused_name bytes (key_given true start name) e why)
-name_not_printed false start name bytes old size f e is why =
-    rw is (refl, refl, refused_name bytes (key_given false start name) e why)

@@ -8,7 +8,7 @@ use Rattle.puffin_data.specs.declared.data.walk.Walk.{Walk}
 use Rattle.puffin_data.specs.Forest.{Forest}
 use Rattle.puffin_data.specs.Forest.Spelling.{Spells}
 use Rattle.puffin_data.specs.Honesty.{Counts}
-use Rattle.puffin_data.specs.Walk.{Refuses}
+use Rattle.puffin_data.specs.Walk.{IsFault}
 use Rattle.puffin_c.specs.declared.fault.Fault.{Fault}
 use Rattle.puffin_c.specs.declared.fault.Fault.TheVariants as fault
 use Rattle.puffin_c.specs.declared.count.PuffinCount.{PuffinCount}
@@ -26,11 +26,12 @@ walk_in count = record {
 }
 
 -- Either the bytes spell a forest of scopes, and the numbers are its counts; or memory ran out or the bytes are refused with
--- their first fault, and only the tries are set.
+-- their first fault, and nothing is changed.
 abbrev pub IsCounted : Form → List ℕ → PuffinCount → PuffinCount → Result (Unit {0}) Fault → Type 0
 IsCounted form bytes old new (Ok _) =
-    (f : Forest) × Spells form bytes f × Counts (walk_in new) f × (new.tries ≡ new.scopes)
+    (f : Forest) × Spells form bytes f × Counts (walk_in new) f
 IsCounted form bytes old new (Err f) =
-    (new ≡ record old { tries = new.tries })
-    × ((f ≡ fault.Refused error.Memory)
-    ⊎ ((e : Error) × (f ≡ fault.Refused e) × Refuses form bytes e new.tries))
+    (new ≡ old)
+    × (e : Error)
+    × (f ≡ fault.Refused e)
+    × ((e ≡ error.Memory) ⊎ IsFault form bytes e)

@@ -2,9 +2,9 @@ pub mod Counting
 pub mod FaultNames
 pub mod Faults
 pub mod Handles
-pub mod Layout
 pub mod Lists
 pub mod Merges
+pub mod Naming
 pub mod Owning
 pub mod Pieces
 pub mod Profiling
@@ -12,4 +12,3 @@ pub mod Recording
 pub mod Reporting
 pub mod ScopeLists
 pub mod Threads
-pub mod Version

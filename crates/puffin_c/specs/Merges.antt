@@ -25,7 +25,7 @@ use Rattle.puffin_c.specs.declared.merged.PuffinMerged.{PuffinMerged}
 use Rattle.puffin_c.specs.declared.profiler.Profiler.{Profiler}
 use Rattle.puffin_c.specs.Faults.{file_fault}
 use Rattle.puffin_c.specs.Lists.{GetsLists}
-use Rattle.puffin_c.specs.Reporting.{LacksLines}
+use Rattle.puffin_c.specs.Reporting.{LacksSummary}
 
 -- ---- the nodes of a forest
 
@@ -98,7 +98,7 @@ MergesFile file info old_rows new_rows old_texts new_texts before sizes (Err f) 
     × (new_texts ≡ old_texts)
     × (sizes ≡ before)
     × (((f ≡ fault.NotText) × ¬ (IsUtf8 info.name))
-    ⊎ (IsUtf8 info.name × (e : FileError) × (f ≡ file_fault e) × LacksLines file info e))
+    ⊎ (IsUtf8 info.name × (e : FileError) × (f ≡ file_fault e) × LacksSummary file info e))
 
 -- ---- merging a view
 

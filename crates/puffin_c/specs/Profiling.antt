@@ -21,7 +21,7 @@ use Rattle.puffin_frames.specs.Frame.Contents.{frame_meta}
 use Rattle.puffin_frames.specs.Frame.Sums.{total_scopes}
 use Rattle.puffin_frames.specs.Packet.Grammar.{packet}
 use Rattle.puffin_frames.specs.Packet.Writing.{HasLongPart}
-use Rattle.puffin_collector.specs.Collector.State.{Collected, nothing_collected, AcceptsReport, RefusesReport, IsReportRefusal, after_frame, after_no_frame, after_wanting}
+use Rattle.puffin_collector.specs.Collector.State.{Collected, nothing_collected, AcceptsReport, RefusesReport, IsReportRefusal, after_frame, after_no_frame}
 use Rattle.puffin_collector.specs.Collector.Collecting.{HoldsAll, HaveNoScopes, KeepsPending}
 use Rattle.puffin_threads.specs.Details.Collection.{no_details}
 use Rattle.puffin_view.specs.View.{empty_view, without_frames, after_taking, KeepsFrames}
@@ -247,11 +247,11 @@ TakesFrame p p' before told (Err f) =
     × (p' ≡ Some new)
     × IsLeft old new e))
 
--- the next frame is to list every known scope
-abbrev pub WantsAll : Option Profiler → Option Profiler → Result (Unit {0}) Fault → Type 0
-WantsAll p p' (Ok _) =
-    (q : Profiler) × (p ≡ Some q) × (p' ≡ Some (with_collected q (after_wanting q.collector)))
-WantsAll p p' (Err f) = (f ≡ fault.NotOpen) × (p ≡ None) × (p' ≡ None)
+-- what an open handle holds is changed so; or the call is refused
+abbrev pub Changes : (Profiler → Profiler) → Option Profiler → Option Profiler →
+    Result (Unit {0}) Fault → Type 0
+Changes change p p' (Ok _) = (q : Profiler) × (p ≡ Some q) × (p' ≡ Some (change q))
+Changes change p p' (Err f) = (f ≡ fault.NotOpen) × (p ≡ None) × (p' ≡ None)
 
 -- ---- what a program reads in pieces
 
@@ -292,16 +292,3 @@ Reads piece p p' old new before size (Ok _) =
     × (new ≡ laid_over old (unread_in piece q.unread))
 Reads piece p p' old new before size (Err f) =
     (f ≡ fault.NotOpen) × (p ≡ None) × (p' ≡ None) × (new ≡ old) × (size ≡ before)
-
--- ---- the view
-
--- the view keeps at most so many frames from now on; or the call is refused
-abbrev pub SetsLimits : Option Profiler → ℕ → ℕ → Option Profiler → Result (Unit {0}) Fault → Type 0
-SetsLimits p recent slow p' (Ok _) =
-    (q : Profiler) × (p ≡ Some q) × (p' ≡ Some (with_limits q recent slow))
-SetsLimits p recent slow p' (Err f) = (f ≡ fault.NotOpen) × (p ≡ None) × (p' ≡ None)
-
--- the view's frames are dropped; or the call is refused
-abbrev pub ClearsView : Option Profiler → Option Profiler → Result (Unit {0}) Fault → Type 0
-ClearsView p p' (Ok _) = (q : Profiler) × (p ≡ Some q) × (p' ≡ Some (without_view q))
-ClearsView p p' (Err f) = (f ≡ fault.NotOpen) × (p ≡ None) × (p' ≡ None)

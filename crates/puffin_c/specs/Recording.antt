@@ -1,12 +1,11 @@
 -- How the calls on the handles of ids and threads change what the handles hold.
-use Rattle.std.specs.Prelude.{◌≡◌, ◌≢◌, ◌⊎◌, ℕ, ◌<◌, ℤ, Bool, true, false, List, [], ◌∷◌, Option, Some, None, Result, Ok, Err, is_some, slice_get}
+use Rattle.std.specs.Prelude.{◌≡◌, ◌≢◌, ◌⊎◌, ℕ, ◌<◌, ℤ, Bool, true, false, List, Option, Some, None, Result, Ok, Err, is_some, slice_get}
 use Rattle.std.specs.Str.{IsUtf8}
 use Rattle.puffin_data.specs.declared.data.form.Form.{Form}
 use Rattle.puffin_data.specs.declared.error.Error.TheVariants as error
 use Rattle.puffin_data.specs.Text.{cut_text}
-use Rattle.puffin_threads.specs.Details.{Details, default_details, with_id}
 use Rattle.puffin_data.specs.Forest.Words.{open_after}
-use Rattle.puffin_threads.specs.Thread.Calls.{Thread, new_thread, after_begin, after_end, after_registering, offsets_of, num_ended, clock_time, begun_place}
+use Rattle.puffin_threads.specs.Thread.Calls.{Thread, new_thread, after_begin, after_end, offsets_of, num_ended, clock_time, begun_place}
 use Rattle.puffin_threads.specs.Thread.Discarding.{after_discarding}
 use Rattle.puffin_c.specs.declared.fault.Fault.{Fault}
 use Rattle.puffin_c.specs.declared.fault.Fault.TheVariants as fault
@@ -15,22 +14,6 @@ use Rattle.puffin_c.specs.declared.fault.Fault.TheVariants as fault
 abbrev pub IsNoText : List ℕ → Fault → Type 0
 IsNoText text f =
     ((f ≡ fault.NotText) × ¬ (IsUtf8 text)) ⊎ ((f ≡ fault.Refused error.Memory) × IsUtf8 text)
-
--- all of these texts are UTF-8
-abbrev pub AreTexts : List (List ℕ) → Type 0
-AreTexts [] = Unit {0}
-AreTexts (text ∷ rest) = IsUtf8 text × AreTexts rest
-
--- some of these texts aren't UTF-8
-abbrev pub HasNoText : List (List ℕ) → Type 0
-HasNoText [] = ⊥
-HasNoText (text ∷ rest) = (¬ (IsUtf8 text)) ⊎ HasNoText rest
-
--- why texts are refused: the first cause that applies
-abbrev pub AreNoTexts : List (List ℕ) → Fault → Type 0
-AreNoTexts texts f =
-    ((f ≡ fault.NotText) × HasNoText texts)
-    ⊎ ((f ≡ fault.Refused error.Memory) × AreTexts texts)
 
 -- a handle that held nothing now holds ids; or nothing is changed
 abbrev pub OpensIds : {X : Type 0} → Option X → Option X → Result (Unit {0}) Fault → Type 0
@@ -125,40 +108,7 @@ Discards old new before number (Err f) =
     × (old ≡ Some t)
     × (0 < open_after 0 t.word)))
 
--- an open handle's scopes are on or off, as was asked; or the handle isn't open
-abbrev pub Switches : Option Thread → Option Thread → Result (Unit {0}) Fault → Type 0
-Switches old new (Ok _) = (new ≡ old) × (is_some old ≡ true)
-Switches old new (Err f) = (new ≡ old) × (f ≡ fault.NotOpen) × (old ≡ None)
-
--- the details of a function, and of a scope with a name of its own
-abbrev pub function_details : List ℕ → List ℕ → ℕ → Details
-function_details function file line = record default_details {
-  function_name = function;
-  file_path = file;
-  line_nr = line;
-}
-
-abbrev pub scope_details : List ℕ → List ℕ → List ℕ → ℕ → Details
-scope_details name function file line = record default_details {
-  scope_name = Some name;
-  function_name = function;
-  file_path = file;
-  line_nr = line;
-}
-
--- A scope with these details was registered under this id, and the details go with the thread's next report. Or nothing is
--- changed, and the fault is the first that applies.
-abbrev pub RegistersFor : Option Thread → List (List ℕ) → Details → Option Thread → ℕ → ℕ →
-    Result (Unit {0}) Fault → Type 0
-RegistersFor old texts d new before id (Ok _) =
-    (t : Thread)
-    × (old ≡ Some t)
-    × AreTexts texts
-    × (0 < id)
-    × (new ≡ Some (after_registering t (with_id d id)))
-RegistersFor old texts d new before id (Err f) =
-    (new ≡ old)
-    × (id ≡ before)
-    × (((f ≡ fault.NotOpen) × (old ≡ None))
-    ⊎ ((is_some old ≡ true)
-    × (AreNoTexts texts f ⊎ ((f ≡ fault.Refused error.IdsExhausted) × AreTexts texts))))
+-- what an open handle holds is as it was; or the handle isn't open
+abbrev pub Keeps : {X : Type 0} → Option X → Option X → Result (Unit {0}) Fault → Type 0
+Keeps old new (Ok _) = (new ≡ old) × (is_some old ≡ true)
+Keeps old new (Err f) = (new ≡ old) × (f ≡ fault.NotOpen) × (old ≡ None)

@@ -1,6 +1,5 @@
--- The results of checking a file and of reporting on it.
+-- The results of checking a file, and why it has no summary.
 use Rattle.std.specs.Prelude.{◌≡◌, ◌≢◌, ◌⊎◌, ℕ, ℤ, Bool, true, false, List, ◌++◌, ◌+◌, ◌-◌, length, take, drop, min, Option, Some, None, Result, Ok, Err}
-use Rattle.std.specs.Str.{IsUtf8}
 use Rattle.puffin_data.specs.declared.file_error.FileError.{FileError}
 use Rattle.puffin_data.specs.declared.file_error.FileError.TheVariants as file
 use Rattle.puffin_data.specs.Device.{FailsAt}
@@ -8,12 +7,8 @@ use Rattle.puffin_threads.specs.Thread.ThreadKey.{ThreadKey}
 use Rattle.puffin_frames.specs.Packet.Stored.{Stored}
 use Rattle.puffin_view.specs.View.File.{file_at, TookFrames, FailsToRead}
 use Rattle.puffin_view.specs.View.FrameFile.{HasGiven, frame_at}
-use Rattle.puffin_report.specs.declared.summary.Summary.{Summary}
 use Rattle.puffin_report.specs.Summary.{FailsToSumUp}
-use Rattle.puffin_report.specs.Report.{HasSummary}
-use Rattle.puffin_report.specs.ReportLines.{report_lines}
 use Rattle.puffin_c.specs.declared.fault.Fault.{Fault}
-use Rattle.puffin_c.specs.declared.fault.Fault.TheVariants as fault
 use Rattle.puffin_c.specs.Faults.{file_fault}
 
 -- the magic bytes and these frames are at the file's beginning, up to this offset, from which these bytes follow
@@ -57,34 +52,11 @@ abbrev pub key_given : Bool → ℤ → List ℕ → ThreadKey
 key_given true start name = record { start = Some start; name = name }
 key_given false start name = record { start = None; name = name }
 
--- the lines of the file's report
-abbrev pub HasLines : List ℕ → ThreadKey → List ℕ → Type 0
-HasLines bytes info lines =
-    (left : Option (List ℕ))
-    × (summary : Summary)
-    × HasSummary info (Some bytes) left summary
-    × (lines ≡ report_lines summary)
-
--- why there is no report: the file's fault, or a lack of memory
-abbrev pub LacksLines : List ℕ → ThreadKey → FileError → Type 0
-LacksLines bytes info e = (left : Option (List ℕ)) × FailsToSumUp info (Some bytes) left e
+-- why a file has no summary for a thread: the file's fault, or a lack of memory
+abbrev pub LacksSummary : List ℕ → ThreadKey → FileError → Type 0
+LacksSummary bytes info e = (left : Option (List ℕ)) × FailsToSumUp info (Some bytes) left e
 
 -- `old` after as many of `items` as fit were copied over its beginning
 abbrev pub laid_over : {X : Type 0} → List X → List X → List X
 laid_over old items =
     take (min (length items) (length old)) items ++ drop (min (length items) (length old)) old
-
--- Either the name is UTF-8, the report is copied over the beginning of `old`, and `size` is its length; or nothing is changed.
--- A name that isn't UTF-8 is reported before any fault in the file.
-abbrev pub IsPrinted : List ℕ → ThreadKey → List ℕ → List ℕ → ℕ → ℕ → Result (Unit {0}) Fault → Type 0
-IsPrinted bytes info old new before size (Ok _) =
-    IsUtf8 info.name
-    × (lines : List ℕ)
-    × HasLines bytes info lines
-    × (new ≡ laid_over old lines)
-    × (size ≡ length lines)
-IsPrinted bytes info old new before size (Err f) =
-    (new ≡ old)
-    × (size ≡ before)
-    × (((f ≡ fault.NotText) × ¬ (IsUtf8 info.name))
-    ⊎ (IsUtf8 info.name × (e : FileError) × (f ≡ file_fault e) × LacksLines bytes info e))

@@ -1,6 +1,7 @@
 -- How the scopes of a stream are listed, one after the other: steps of the proof.
 use Rattle.std.specs.Prelude.{◌≡◌, ◌+◌, ◌≤◌, ℕ, List, [], ◌∷◌, ◌++◌, length}
-use Rattle.std.proofs.Common.{sym, ap, refl, ◌∙◌, append_assoc, arith, length-append}
+use Rattle.std.proofs.lemmas.Grind.{flat_map-append}
+use Rattle.std.proofs.Common.{sym, ap, ◌∙◌, append_assoc, append-nil, arith, length-append}
 use Rattle.puffin_data.specs.declared.error.Error.{Error}
 use Rattle.puffin_data.specs.Forest.{Span}
 use Rattle.puffin_data.specs.Walk.PlacedScopes.{ScopeInContext}
@@ -22,17 +23,6 @@ abbrev pub StandsFor : ScopeList → ℕ → List Span → Type 0
 StandsFor list depth around = (depth ≡ length around) × (depth ≤ length list.rows.items)
 
 -- ---- laws
-
-pub append-nil : {A : Type 0} (xs : List A) → xs ++ [] ≡ xs
-append-nil [] = refl
-append-nil (x ∷ xs) = ap (λ l. x ∷ l) (append-nil xs)
-
-pub texts-append : (xs ys : List ScopeInContext) →
-    scope_texts (xs ++ ys) ≡ scope_texts xs ++ scope_texts ys
-texts-append [] ys = refl
-texts-append (x ∷ xs) ys =
-    ap (λ (l : List ℕ). x.span.text ++ l) (texts-append xs ys)
-    ∙ sym (append_assoc x.span.text (scope_texts xs) (scope_texts ys))
 
 pub rows-append : (at : ℕ) (xs ys : List ScopeInContext) →
     scope_rows at (xs ++ ys) ≡ scope_rows at xs ++ scope_rows (at + length (scope_texts xs)) ys
@@ -70,7 +60,7 @@ takes_more u v w xs ys a b =
       texts = b.texts
           ∙ ap (λ (l : List ℕ). l ++ scope_texts ys) a.texts
           ∙ append_assoc u.texts.items (scope_texts xs) (scope_texts ys)
-          ∙ ap (λ (l : List ℕ). u.texts.items ++ l) (sym (texts-append xs ys));
+          ∙ ap (λ (l : List ℕ). u.texts.items ++ l) (sym (flat_map-append (λ s. s.span.text) xs ys));
     }
 
 pub still_stands : (u v : ScopeList) (xs : List ScopeInContext) (depth : ℕ) (around : List Span) →

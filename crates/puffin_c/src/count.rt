@@ -10,6 +10,4 @@ pub struct PuffinCount {
     pub start_ns: i64,
     /// The greatest stop of all scopes, in nanoseconds, or `i64::MIN` if there are none.
     pub stop_ns: i64,
-    /// The number of attempts to read a scope.
-    pub tries: u64,
 }

@@ -1,14 +1,13 @@
 //! Handles, which a C program owns and passes to each call.
 
 ghost use Rattle.std.specs.Prelude.{◌≡◌, None, Some, is_some, true};
+ghost use Rattle.puffin_c.specs.Owning.{ids_of, thread_of, profiler_of};
 
-use crate::ids_slot::IdsSlot;
 use crate::profiler::Profiler;
-use crate::profiler_slot::ProfilerSlot;
 use crate::raw_box::RawBox;
 use crate::recorder::Recorder;
 use crate::shared_ids::SharedIds;
-use crate::thread_slot::ThreadSlot;
+use crate::slot::Slot;
 use std::alloc::Global;
 use std::mem;
 
@@ -16,9 +15,9 @@ use std::mem;
 /// isn't open at that point.
 #[repr(C)]
 pub struct PuffinIds {
-    pub(crate) slot: IdsSlot,
+    pub(crate) slot: Slot,
     pub(crate) is_open: bool,
-    ghost tied: { is_open ≡ is_some slot.held },
+    ghost tied: { is_open ≡ is_some (ids_of slot.held) },
 }
 
 impl PuffinIds {
@@ -26,21 +25,21 @@ impl PuffinIds {
     #[inline(always)]
     pub(crate) fn take(&mut self, alloc: Global) -> Box<SharedIds>
         requires { self.old.is_open ≡ true }
-        ensures taken { self.old.slot.held ≡ Some result.value }
-        ensures left { self.new.slot.held ≡ None }
+        ensures taken { ids_of self.old.slot.held ≡ Some result.value }
+        ensures left { ids_of self.new.slot.held ≡ None }
     {
-        let slot = mem::replace(&mut self.slot, IdsSlot::empty(alloc));
+        let slot = mem::replace(&mut self.slot, Slot::empty(alloc));
         self.is_open = false;
-        slot.into_raw().restore()
+        slot.into_ids().restore()
     }
 
     /// Opens the handle with this set of ids.
     #[inline(always)]
     pub(crate) fn put(&mut self, held: Box<SharedIds>)
-        requires { self.old.slot.held ≡ None }
-        ensures { self.new.slot.held ≡ Some held.value }
+        requires { ids_of self.old.slot.held ≡ None }
+        ensures { ids_of self.new.slot.held ≡ Some held.value }
     {
-        self.slot = IdsSlot::of(RawBox::take(held));
+        self.slot = Slot::of_ids(RawBox::take(held));
         self.is_open = true;
     }
 }
@@ -49,10 +48,10 @@ impl PuffinIds {
 /// are off, none begins.
 #[repr(C)]
 pub struct PuffinThread {
-    pub(crate) slot: ThreadSlot,
+    pub(crate) slot: Slot,
     pub(crate) is_open: bool,
     pub(crate) is_on: bool,
-    ghost tied: { is_open ≡ is_some slot.held },
+    ghost tied: { is_open ≡ is_some (thread_of slot.held) },
     ghost on_is_open: { is_on ≡ true → is_open ≡ true },
 }
 
@@ -61,23 +60,23 @@ impl PuffinThread {
     #[inline(always)]
     pub(crate) fn take(&mut self, alloc: Global) -> Box<Recorder>
         requires { self.old.is_open ≡ true }
-        ensures taken { self.old.slot.held ≡ Some result.value }
-        ensures left { self.new.slot.held ≡ None }
+        ensures taken { thread_of self.old.slot.held ≡ Some result.value }
+        ensures left { thread_of self.new.slot.held ≡ None }
     {
-        let slot = mem::replace(&mut self.slot, ThreadSlot::empty(alloc));
+        let slot = mem::replace(&mut self.slot, Slot::empty(alloc));
         self.is_open = false;
         self.is_on = false;
-        slot.into_raw().restore()
+        slot.into_thread().restore()
     }
 
     /// Opens the handle with this recorder, and with scopes on or off.
     #[inline(always)]
     pub(crate) fn put(&mut self, held: Box<Recorder>, is_on: bool)
-        requires { self.old.slot.held ≡ None }
-        ensures held { self.new.slot.held ≡ Some held.value }
+        requires { thread_of self.old.slot.held ≡ None }
+        ensures held { thread_of self.new.slot.held ≡ Some held.value }
         ensures on { self.new.is_on ≡ is_on }
     {
-        self.slot = ThreadSlot::of(RawBox::take(held));
+        self.slot = Slot::of_thread(RawBox::take(held));
         self.is_open = true;
         self.is_on = is_on;
     }
@@ -86,9 +85,9 @@ impl PuffinThread {
 /// A handle to a profiler. A C program initializes it with zeros, and it isn't open at that point.
 #[repr(C)]
 pub struct PuffinProfiler {
-    pub(crate) slot: ProfilerSlot,
+    pub(crate) slot: Slot,
     pub(crate) is_open: bool,
-    ghost tied: { is_open ≡ is_some slot.held },
+    ghost tied: { is_open ≡ is_some (profiler_of slot.held) },
 }
 
 impl PuffinProfiler {
@@ -96,21 +95,31 @@ impl PuffinProfiler {
     #[inline(always)]
     pub(crate) fn take(&mut self, alloc: Global) -> Box<Profiler>
         requires { self.old.is_open ≡ true }
-        ensures taken { self.old.slot.held ≡ Some result.value }
-        ensures left { self.new.slot.held ≡ None }
+        ensures taken { profiler_of self.old.slot.held ≡ Some result.value }
+        ensures left { profiler_of self.new.slot.held ≡ None }
     {
-        let slot = mem::replace(&mut self.slot, ProfilerSlot::empty(alloc));
+        let slot = mem::replace(&mut self.slot, Slot::empty(alloc));
         self.is_open = false;
-        slot.into_raw().restore()
+        slot.into_profiler().restore()
     }
 
     /// Opens the handle with this profiler.
     #[inline(always)]
     pub(crate) fn put(&mut self, held: Box<Profiler>)
-        requires { self.old.slot.held ≡ None }
-        ensures { self.new.slot.held ≡ Some held.value }
+        requires { profiler_of self.old.slot.held ≡ None }
+        ensures { profiler_of self.new.slot.held ≡ Some held.value }
     {
-        self.slot = ProfilerSlot::of(RawBox::take(held));
+        self.slot = Slot::of_profiler(RawBox::take(held));
         self.is_open = true;
     }
+}
+
+/// Requires that a value may be sent to another thread.
+fn may_cross<T: Send>(_value: &T) {}
+
+/// A law: each handle may be sent to another thread.
+pub fn handles_may_cross(ids: &PuffinIds, thread: &PuffinThread, profiler: &PuffinProfiler) {
+    may_cross(ids);
+    may_cross(thread);
+    may_cross(profiler);
 }

@@ -13,14 +13,14 @@ ghost use Rattle.puffin_c.specs.declared.fault.Fault.{Fault};
 ghost use Rattle.puffin_c.specs.Faults.{answer_code};
 ghost use Rattle.puffin_c.specs.Handles.{profiler_in};
 ghost use Rattle.puffin_c.specs.Merges.{IsListOf, MergesFile, newest_fields, IsMergeOf, LacksMerge, MergesView};
-ghost use Rattle.puffin_c.specs.Reporting.{LacksLines, key_given};
+ghost use Rattle.puffin_c.specs.Reporting.{LacksSummary, key_given};
 
 use crate::fault::{Fault, answer_code};
-use crate::file::named_thread;
 use crate::handles::PuffinProfiler;
 use crate::lists::PuffinLists;
 use crate::memory_source::MemorySource;
 use crate::merged::{MergedList, PuffinMerged, list_of};
+use crate::texts::named_thread;
 use puffin_data::FileError;
 use puffin_frames::frame_data::{FrameData, UnpackedFrameData};
 use puffin_merge::merge::merge_scopes_for_thread;
@@ -34,7 +34,7 @@ use std::sync::Arc;
 fn summary_of(alloc: Global, file: &[u8], thread: &ThreadInfo) -> Result<Summary, FileError>
     ensures ok { IfOk result (λ summary.
         (left : Option (List ℕ)) × HasSummary (key_of thread.now) (Some file.now) left summary) }
-    ensures err { IfErr result (LacksLines file.now (key_of thread.now)) }
+    ensures err { IfErr result (LacksSummary file.now (key_of thread.now)) }
 {
     summarize(alloc, &mut MemorySource::new(file), thread)
 }
@@ -60,15 +60,12 @@ fn file_merged(
 }
 
 /// Merges the scopes of one thread over the frames of a file of any origin: of the thread with this name and this start, or with
-/// this name and no start if `has_start` isn't set. The frames, their merge and its nodes are those of [`puffin_report_file`].
-/// Copies the merged scopes, each before its children and with its depth, to the front of `merged` and their texts, one behind
+/// this name and no start if `has_start` isn't set. The frames, their merge and its nodes are those of [`summarize`]. Copies the merged scopes, each before its children and with its depth, to the front of `merged` and their texts, one behind
 /// the other, to the front of `texts`, as many of each as fit, and sets `sizes` to how many merged scopes and bytes of texts there
 /// are.
 ///
 /// Fails with `NotText` if the name isn't UTF-8, whatever the file contains. Otherwise fails with the first fault in the file, which
 /// is that of its merge if every frame is sound; or with `Memory`. Nothing changes then.
-///
-/// [`puffin_report_file`]: crate::file::puffin_report_file
 #[unsafe(no_mangle)]
 pub extern "C" fn puffin_merge_file(
     alloc: Global,

@@ -6,7 +6,7 @@ ghost use Rattle.std.specs.List.{Any, list_any};
 ghost use Rattle.std.specs.Option.{option_map};
 ghost use Rattle.puffin_data.specs.declared.error.Error.TheVariants as error;
 ghost use Rattle.puffin_data.specs.declared.file_error.FileError.TheVariants as file;
-ghost use Rattle.puffin_threads.specs.Details.{lacks_id};
+ghost use Rattle.puffin_threads.specs.Details.{lacks_id, details_of, with_id};
 ghost use Rattle.puffin_frames.specs.declared.frame_data.frame.FrameData.{FrameData};
 ghost use Rattle.puffin_frames.specs.Frame.Contents.{frame_details, packet_fields};
 ghost use Rattle.puffin_frames.specs.Packet.Grammar.{packet};
@@ -17,9 +17,10 @@ ghost use Rattle.puffin_view.specs.View.File.{fields_in};
 use crate::shared_ids::SharedIds;
 use crate::unread::{Piece, Pieces, Unread};
 use puffin_collector::Collector;
-use puffin_data::data::Counted;
+use puffin_data::data::{Counted, ScopeId};
 use puffin_data::{FileError, Result as Answer};
 use puffin_frames::frame_data::{FrameData, FrameMeta};
+use puffin_threads::scope_details::ScopeDetails;
 use puffin_view::profile_view::FrameView;
 use std::alloc::Global;
 use std::sync::Arc;
@@ -58,7 +59,8 @@ pub(crate) struct Profiler {
 }
 
 impl Profiler {
-    ghost use Rattle.puffin_c.specs.Profiling.{waiting_frame, IsNew, IsCollected, IsTaken, IsLeft, view_file, newest_packet, HasLongNewest, bytes_of, HasLong, with_unread, with_limits, without_view};
+    ghost use Rattle.puffin_c.specs.Naming.{after_naming, IsUnregistered};
+    ghost use Rattle.puffin_c.specs.Profiling.{with_collected, waiting_frame, IsNew, IsCollected, IsTaken, IsLeft, view_file, newest_packet, HasLongNewest, bytes_of, HasLong, with_unread, with_limits, without_view};
 
     /// Makes a profiler without scopes or frames.
     pub(crate) fn new(alloc: Global, shared: SharedIds) -> Profiler
@@ -74,6 +76,22 @@ impl Profiler {
                 packet: Unread::nothing(alloc),
             },
         }
+    }
+
+    /// Registers a scope with these details under a newly drawn id. The next frame lists it, with all that were registered before.
+    ///
+    /// Fails with `IdsExhausted`, and changes nothing then; or with `Memory`, and a later frame may list the scope then.
+    pub(crate) fn register(&mut self, alloc: Global, details: ScopeDetails) -> Answer<ScopeId>
+        ensures ok { IfOk result (λ id. self.new
+            ≡ with_collected self.old
+            (after_naming self.old.collector (with_id (details_of details) id))) }
+        ensures err { IfErr result (IsUnregistered self.old (details_of details) self.new) }
+    {
+        let id = self.shared.ids.draw()?;
+        let details = Arc::new(alloc, details.with_scope_id(id))?;
+        self.collector.learn(&[details])?;
+        self.collector.emit_scope_snapshot();
+        Ok(id)
     }
 
     /// Collects the next frame into `waiting`. Does nothing if a frame is waiting there already.

@@ -1,11 +1,12 @@
 //! Collects what threads report into frames.
 
 ghost use Rattle.std.specs.Prelude.{◌≡◌, None, Some, Result, is_some, true};
+ghost use Rattle.puffin_collector.specs.Collector.State.{after_wanting};
 ghost use Rattle.puffin_c.specs.declared.fault.Fault.{Fault};
 ghost use Rattle.puffin_c.specs.Faults.{answer_code};
 ghost use Rattle.puffin_c.specs.Handles.{ids_in, profiler_in, thread_in, scopes_on};
 ghost use Rattle.puffin_c.specs.Recording.{Closes};
-ghost use Rattle.puffin_c.specs.Profiling.{OpensProfiler, Hands, IsTold, TakesFrame, WantsAll};
+ghost use Rattle.puffin_c.specs.Profiling.{OpensProfiler, Hands, IsTold, TakesFrame, Changes, with_collected};
 
 use crate::fault::{Fault, answer_code};
 use crate::frame::PuffinFrame;
@@ -100,11 +101,14 @@ fn reported(
     }
 }
 
-/// Reports a thread's waiting scopes to a profiler: those that ended since the thread's last accepted report. The details that
-/// were registered since then go with them. Does nothing if no scope is waiting or open.
+/// Reports a thread's waiting scopes to a profiler: those that ended since the thread's last accepted report. Does nothing if no
+/// scope is waiting or open.
 ///
 /// Fails with `NotOpen`; with `ScopesOpen` while a scope is open; with `UnlikeForms`, `TooLarge` or `RangeTooLong` if
-/// the profiler refuses the scopes; or with `Memory`. The scopes keep waiting then.
+/// the profiler refuses the scopes; or with `Memory`, also if more would wait than [`puffin_set_max_pending`] allows. The scopes
+/// keep waiting then.
+///
+/// [`puffin_set_max_pending`]: crate::view::puffin_set_max_pending
 #[unsafe(no_mangle)]
 pub extern "C" fn puffin_report(
     alloc: Global,
@@ -171,7 +175,8 @@ pub extern "C" fn puffin_new_frame(
 }
 
 fn wanted(alloc: Global, profiler: &mut PuffinProfiler) -> Result<(), Fault>
-    ensures { WantsAll (profiler_in profiler.old) (profiler_in profiler.new) result }
+    ensures { Changes (λ q. with_collected q (after_wanting q.collector))
+        (profiler_in profiler.old) (profiler_in profiler.new) result }
 {
     if !profiler.is_open {
         return Err(Fault::NotOpen);
@@ -189,7 +194,8 @@ fn wanted(alloc: Global, profiler: &mut PuffinProfiler) -> Result<(), Fault>
 pub extern "C" fn puffin_snapshot(alloc: Global, profiler: &mut PuffinProfiler) -> u32
     ensures { (answer : Result (Unit {0}) Fault)
         × (result ≡ answer_code answer)
-        × WantsAll (profiler_in profiler.old) (profiler_in profiler.new) answer }
+        × Changes (λ q. with_collected q (after_wanting q.collector)) (profiler_in profiler.old)
+        (profiler_in profiler.new) answer }
 {
     let answer = wanted(alloc, profiler);
     answer_code(answer)

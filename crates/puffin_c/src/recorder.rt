@@ -5,26 +5,22 @@ ghost use Rattle.puffin_data.specs.declared.error.Error.TheVariants.{Memory, Mis
 ghost use Rattle.puffin_data.specs.Text.{cut_text};
 ghost use Rattle.puffin_data.specs.Forest.Words.{open_after};
 ghost use Rattle.puffin_threads.specs.Thread.Calls.{new_thread, after_begin, after_end, offsets_of, num_ended};
-ghost use Rattle.puffin_threads.specs.Thread.Calls.{RegistersScope, clock_time, begun_place};
+ghost use Rattle.puffin_threads.specs.Thread.Calls.{clock_time, begun_place};
 ghost use Rattle.puffin_threads.specs.Thread.Closing.{Reports};
 ghost use Rattle.puffin_threads.specs.Thread.Discarding.{after_discarding};
-ghost use Rattle.puffin_threads.specs.Details.{default_details};
 ghost use Rattle.puffin_collector.specs.Collector.State.{AcceptsReport, RefusesReport};
 
-use crate::shared_ids::SharedIds;
 use puffin_collector::Collector;
 use puffin_data::data::{Form, ScopeId};
 use puffin_data::{NanoSecond, Result};
 use puffin_threads::thread_profiler::{ScriptClock, ThreadProfiler};
 use std::alloc::Global;
-use std::borrow::CowStr;
 use std::marker::Model;
 
 /// A thread's profiler. Contracts see what the thread has recorded.
 #[derive(Drop)]
 pub(crate) struct Recorder {
     profiler: ThreadProfiler<ScriptClock>,
-    shared: SharedIds,
 }
 
 impl Model for Recorder {
@@ -38,12 +34,11 @@ impl Model for Recorder {
 
 impl Recorder {
     /// Makes a recorder for a thread with this name. It has no scopes yet.
-    pub(crate) fn new(alloc: Global, shared: SharedIds, name: String, form: Form) -> Recorder
+    pub(crate) fn new(alloc: Global, name: String, form: Form) -> Recorder
         ensures { result ≡ new_thread (string_bytes name) form }
     {
         Recorder {
             profiler: ThreadProfiler::with_form(alloc, name, ScriptClock::new(0), form),
-            shared,
         }
     }
 
@@ -83,8 +78,8 @@ impl Recorder {
         self.profiler.report_closed(collector)
     }
 
-    /// Gives up the closed scopes that are waiting, and returns how many there were. The registered details stay for the next
-    /// report. Fails only with `ScopesOpen`; nothing changes then.
+    /// Gives up the closed scopes that are waiting, and returns how many there were. Fails only with `ScopesOpen`; nothing
+    /// changes then.
     pub(crate) fn discard(&mut self) -> Result<usize>
         ensures number { IfOk result (λ number. number ≡ num_ended self.old.word) }
         ensures none_open { OnOk result (open_after 0 self.old.word ≡ 0) }
@@ -95,50 +90,10 @@ impl Recorder {
         self.profiler.discard_closed()
     }
 
-    /// Registers a function as a scope, under a newly drawn id. Fails with `IdsExhausted` or `Memory`.
-    pub(crate) fn register_function(
-        &mut self,
-        function: String,
-        file: String,
-        line: u32,
-    ) -> Result<ScopeId>
-        ensures { RegistersScope self.old
-            (record default_details {
-              function_name = string_bytes function;
-              file_path = string_bytes file;
-              line_nr = line;
-            }) result self.new }
+    /// Sets how many bytes of scopes the thread may hold.
+    pub(crate) fn set_max_bytes(&mut self, bytes: usize)
+        ensures { self.new ≡ self.old }
     {
-        self.profiler.register_function_scope(
-            &self.shared.ids,
-            CowStr::Owned(function),
-            CowStr::Owned(file),
-            line,
-        )
-    }
-
-    /// Registers a scope with a name of its own, under a newly drawn id. Fails with `IdsExhausted` or `Memory`.
-    pub(crate) fn register_scope(
-        &mut self,
-        name: String,
-        function: String,
-        file: String,
-        line: u32,
-    ) -> Result<ScopeId>
-        ensures { RegistersScope self.old
-            (record default_details {
-              scope_name = Some (string_bytes name);
-              function_name = string_bytes function;
-              file_path = string_bytes file;
-              line_nr = line;
-            }) result self.new }
-    {
-        self.profiler.register_named_scope(
-            &self.shared.ids,
-            CowStr::Owned(name),
-            CowStr::Owned(function),
-            CowStr::Owned(file),
-            line,
-        )
+        self.profiler.set_max_bytes(bytes);
     }
 }

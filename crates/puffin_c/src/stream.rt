@@ -1,7 +1,6 @@
 //! Counts the scopes of a stream.
 
-ghost use Rattle.std.specs.Prelude.{◌≡◌, ◌≤◌, Result};
-ghost use Rattle.puffin_data.specs.Walk.{most_tries_in};
+ghost use Rattle.std.specs.Prelude.{◌≡◌, Result};
 ghost use Rattle.puffin_c.specs.declared.fault.Fault.{Fault};
 ghost use Rattle.puffin_c.specs.Faults.{answer_code};
 ghost use Rattle.puffin_c.specs.Counting.{IsCounted, form_given};
@@ -20,10 +19,10 @@ pub(crate) fn form_of(long_texts: bool) -> Form
 
 /// Walks over the bytes, and sets the counts.
 fn counted(alloc: Global, bytes: &[u8], form: Form, count: &mut PuffinCount) -> Result<(), Fault>
-    ensures counted { IsCounted form bytes.now count.old count.new result }
-    ensures few { count.new.tries ≤ most_tries_in bytes.now }
+    ensures { IsCounted form bytes.now count.old count.new result }
 {
-    let walk = walk_forest(alloc, form, bytes, &mut count.tries)?;
+    let mut tries = 0;
+    let walk = walk_forest(alloc, form, bytes, &mut tries)?;
     count.scopes = walk.num_scopes as u64;
     count.depth = walk.depth as u64;
     (count.start_ns, count.stop_ns) = walk.range_ns;
@@ -33,7 +32,7 @@ fn counted(alloc: Global, bytes: &[u8], form: Form, count: &mut PuffinCount) -> 
 /// Counts the scopes of a stream of any origin. The length of each text takes one byte, or up to two bytes if `long_texts` is
 /// set.
 ///
-/// Fails with the first fault in the bytes, or with `Memory`. Only `tries` is set then.
+/// Fails with the first fault in the bytes, or with `Memory`. Nothing changes then.
 #[unsafe(no_mangle)]
 pub extern "C" fn puffin_count(
     alloc: Global,
@@ -41,10 +40,9 @@ pub extern "C" fn puffin_count(
     long_texts: bool,
     count: &mut PuffinCount,
 ) -> u32
-    ensures counted { (answer : Result (Unit {0}) Fault)
+    ensures { (answer : Result (Unit {0}) Fault)
         × (result ≡ answer_code answer)
         × IsCounted (form_given long_texts) bytes.now count.old count.new answer }
-    ensures few { count.new.tries ≤ most_tries_in bytes.now }
 {
     let answer = counted(alloc, bytes, form_of(long_texts), count);
     answer_code(answer)

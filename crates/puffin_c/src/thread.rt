@@ -6,15 +6,15 @@ ghost use Rattle.puffin_c.specs.declared.fault.Fault.TheVariants as fault;
 ghost use Rattle.puffin_c.specs.Faults.{answer_code};
 ghost use Rattle.puffin_c.specs.Handles.{ids_in, thread_in, scopes_on};
 ghost use Rattle.puffin_c.specs.Counting.{form_given};
-ghost use Rattle.puffin_c.specs.Recording.{Opens, Closes, no_scope, Skips, BeginsIf, Ends, Discards, Switches};
+ghost use Rattle.puffin_c.specs.Recording.{Opens, Closes, no_scope, Skips, BeginsIf, Ends, Discards, Keeps};
 
 use crate::fault::{Fault, answer_code};
 use crate::handles::{PuffinIds, PuffinThread};
 use crate::raw_box::RawBox;
 use crate::recorder::Recorder;
+use crate::slot::Slot;
 use crate::stream::form_of;
 use crate::texts::{copied, text};
-use crate::thread_slot::ThreadSlot;
 use puffin_data::Error;
 use puffin_data::data::{Form, ScopeId};
 use std::alloc::Global;
@@ -40,9 +40,8 @@ fn opened(
         return Err(Fault::NotOpen);
     }
     let name = text(name)?;
-    let shared = ids.share(alloc)?;
     let name = copied(alloc, name)?;
-    match Box::new(alloc, Recorder::new(alloc, shared, name, form)) {
+    match Box::new(alloc, Recorder::new(alloc, name, form)) {
         Ok(held) => {
             thread.put(held, true);
             Ok(())
@@ -51,8 +50,8 @@ fn opened(
     }
 }
 
-/// Opens a handle with a profiler for a thread with this name. The thread's scopes are registered under ids from `ids`. Their
-/// texts are cut at a character boundary to at most 127 bytes, or 16,383 if `long_texts` is set.
+/// Opens a handle with a profiler for a thread with this name, which reports to profilers that were opened with `ids`. The texts
+/// of its scopes are cut at a character boundary to at most 127 bytes, or 16,383 if `long_texts` is set.
 ///
 /// Fails with the first of these that applies: `IsOpen`; `NotOpen` if `ids` isn't open; `NotText` if the name isn't UTF-8;
 /// `Memory`. Nothing changes then.
@@ -116,7 +115,7 @@ fn discarded(alloc: Global, thread: &mut PuffinThread, scopes: &mut u64) -> Resu
 }
 
 /// Gives up a thread's waiting scopes, for example those of a report that is refused again and again, and sets `scopes` to how
-/// many there were. The details of registered scopes stay for the next report.
+/// many there were.
 ///
 /// Fails with `NotOpen`, or with `ScopesOpen` while a scope is open. Nothing changes then.
 #[unsafe(no_mangle)]
@@ -135,7 +134,7 @@ pub extern "C" fn puffin_thread_discard(
 }
 
 fn switched(thread: &mut PuffinThread, is_on: bool) -> Result<(), Fault>
-    ensures switches { Switches (thread_in thread.old) (thread_in thread.new) result }
+    ensures keeps { Keeps (thread_in thread.old) (thread_in thread.new) result }
     ensures on { OnOk result (scopes_on thread.new ≡ is_on) }
     ensures err { OnErr result (scopes_on thread.new ≡ scopes_on thread.old) }
 {
@@ -154,11 +153,41 @@ fn switched(thread: &mut PuffinThread, is_on: bool) -> Result<(), Fault>
 pub extern "C" fn puffin_set_scopes_on(thread: &mut PuffinThread, is_on: bool) -> u32
     ensures { (answer : Result (Unit {0}) Fault)
         × (result ≡ answer_code answer)
-        × Switches (thread_in thread.old) (thread_in thread.new) answer
+        × Keeps (thread_in thread.old) (thread_in thread.new) answer
         × OnOk answer (scopes_on thread.new ≡ is_on)
         × OnErr answer (scopes_on thread.new ≡ scopes_on thread.old) }
 {
     let answer = switched(thread, is_on);
+    answer_code(answer)
+}
+
+fn limited(alloc: Global, thread: &mut PuffinThread, bytes: u64) -> Result<(), Fault>
+    ensures keeps { Keeps (thread_in thread.old) (thread_in thread.new) result }
+    ensures same_switch { scopes_on thread.new ≡ scopes_on thread.old }
+{
+    if !thread.is_open {
+        return Err(Fault::NotOpen);
+    }
+    let is_on = thread.is_on;
+    let mut recorder = thread.take(alloc);
+    recorder.set_max_bytes(bytes as usize);
+    thread.put(recorder, is_on);
+    Ok(())
+}
+
+/// Sets how many bytes of scopes a thread may hold, open ones and closed ones that no report took. A scope takes 31 bytes and its
+/// text; [`puffin_begin`] asks for 31 bytes and the longest text, and fails with `Memory` where that is more than is left. At first
+/// there is no such limit.
+///
+/// Fails with `NotOpen`. Allocates nothing.
+#[unsafe(no_mangle)]
+pub extern "C" fn puffin_set_max_bytes(alloc: Global, thread: &mut PuffinThread, bytes: u64) -> u32
+    ensures keeps { (answer : Result (Unit {0}) Fault)
+        × (result ≡ answer_code answer)
+        × Keeps (thread_in thread.old) (thread_in thread.new) answer }
+    ensures same_switch { scopes_on thread.new ≡ scopes_on thread.old }
+{
+    let answer = limited(alloc, thread, bytes);
     answer_code(answer)
 }
 
@@ -198,10 +227,10 @@ fn begun(
         return Err(Fault::NoId);
     };
     let text = text(bytes)?;
-    let slot = mem::replace(&mut thread.slot, ThreadSlot::empty(alloc));
-    let mut recorder = slot.into_raw().restore();
+    let slot = mem::replace(&mut thread.slot, Slot::empty(alloc));
+    let mut recorder = slot.into_thread().restore();
     let answer = recorder.begin(now_ns, id, text);
-    thread.slot = ThreadSlot::of(RawBox::take(recorder));
+    thread.slot = Slot::of_thread(RawBox::take(recorder));
     *scope = answer? as u64;
     Ok(())
 }
@@ -250,10 +279,10 @@ fn ended(alloc: Global, thread: &mut PuffinThread, now_ns: i64, scope: u64) -> R
     if !thread.is_open {
         return Err(Fault::NotOpen);
     }
-    let slot = mem::replace(&mut thread.slot, ThreadSlot::empty(alloc));
-    let mut recorder = slot.into_raw().restore();
+    let slot = mem::replace(&mut thread.slot, Slot::empty(alloc));
+    let mut recorder = slot.into_thread().restore();
     let answer = recorder.end(now_ns, scope as usize);
-    thread.slot = ThreadSlot::of(RawBox::take(recorder));
+    thread.slot = Slot::of_thread(RawBox::take(recorder));
     match answer {
         Ok(()) => Ok(()),
         Err(cause) => unended(scope, cause),

@@ -12,9 +12,9 @@ ghost use Rattle.puffin_c.specs.Reporting.{key_given};
 ghost use Rattle.puffin_c.specs.Profiling.{TakesOwn};
 
 use crate::fault::{Fault, answer_code};
-use crate::file::named_thread;
 use crate::handles::PuffinProfiler;
 use crate::stream::form_of;
+use crate::texts::named_thread;
 use puffin_data::data::{Form, StreamInfoRef, walk_forest};
 use std::alloc::Global;
 

@@ -1,10 +1,11 @@
-//! The view of a profiler's frames: its limits, and dropping its frames.
+//! What a profiler may hold: the limits of its view and of what waits for a frame; dropping the view's frames.
 
 ghost use Rattle.std.specs.Prelude.{◌≡◌, Result};
 ghost use Rattle.puffin_c.specs.declared.fault.Fault.{Fault};
 ghost use Rattle.puffin_c.specs.Faults.{answer_code};
 ghost use Rattle.puffin_c.specs.Handles.{profiler_in};
-ghost use Rattle.puffin_c.specs.Profiling.{SetsLimits, ClearsView};
+ghost use Rattle.puffin_c.specs.Profiling.{Changes, with_limits, without_view};
+ghost use Rattle.puffin_c.specs.Recording.{Keeps};
 
 use crate::fault::{Fault, answer_code};
 use crate::handles::PuffinProfiler;
@@ -16,7 +17,8 @@ fn limited(
     recent: usize,
     slow: usize,
 ) -> Result<(), Fault>
-    ensures { SetsLimits (profiler_in profiler.old) recent slow (profiler_in profiler.new) result }
+    ensures { Changes (λ q. with_limits q recent slow) (profiler_in profiler.old)
+        (profiler_in profiler.new) result }
 {
     if !profiler.is_open {
         return Err(Fault::NotOpen);
@@ -39,14 +41,49 @@ pub extern "C" fn puffin_set_limits(
 ) -> u32
     ensures { (answer : Result (Unit {0}) Fault)
         × (result ≡ answer_code answer)
-        × SetsLimits (profiler_in profiler.old) recent slow (profiler_in profiler.new) answer }
+        × Changes (λ q. with_limits q recent slow) (profiler_in profiler.old)
+        (profiler_in profiler.new) answer }
 {
     let answer = limited(alloc, profiler, recent, slow);
     answer_code(answer)
 }
 
+fn pending_limited(alloc: Global, profiler: &mut PuffinProfiler, bytes: u64) -> Result<(), Fault>
+    ensures { Keeps (profiler_in profiler.old) (profiler_in profiler.new) result }
+{
+    if !profiler.is_open {
+        return Err(Fault::NotOpen);
+    }
+    let mut whole = profiler.take(alloc);
+    whole.collector.set_max_pending(bytes as usize);
+    profiler.put(whole);
+    Ok(())
+}
+
+/// Sets how many bytes of scopes may wait for the next frame, of all threads together. [`puffin_report`] and
+/// [`puffin_user_scopes`] fail with `Memory` where there would be more, and change nothing. What waits stays. At first there is no
+/// such limit.
+///
+/// Fails with `NotOpen`. Allocates nothing.
+///
+/// [`puffin_report`]: crate::profiling::puffin_report
+/// [`puffin_user_scopes`]: crate::user_scopes::puffin_user_scopes
+#[unsafe(no_mangle)]
+pub extern "C" fn puffin_set_max_pending(
+    alloc: Global,
+    profiler: &mut PuffinProfiler,
+    bytes: u64,
+) -> u32
+    ensures { (answer : Result (Unit {0}) Fault)
+        × (result ≡ answer_code answer)
+        × Keeps (profiler_in profiler.old) (profiler_in profiler.new) answer }
+{
+    let answer = pending_limited(alloc, profiler, bytes);
+    answer_code(answer)
+}
+
 fn cleared(alloc: Global, profiler: &mut PuffinProfiler) -> Result<(), Fault>
-    ensures { ClearsView (profiler_in profiler.old) (profiler_in profiler.new) result }
+    ensures { Changes without_view (profiler_in profiler.old) (profiler_in profiler.new) result }
 {
     if !profiler.is_open {
         return Err(Fault::NotOpen);
@@ -64,7 +101,7 @@ fn cleared(alloc: Global, profiler: &mut PuffinProfiler) -> Result<(), Fault>
 pub extern "C" fn puffin_view_clear(alloc: Global, profiler: &mut PuffinProfiler) -> u32
     ensures { (answer : Result (Unit {0}) Fault)
         × (result ≡ answer_code answer)
-        × ClearsView (profiler_in profiler.old) (profiler_in profiler.new) answer }
+        × Changes without_view (profiler_in profiler.old) (profiler_in profiler.new) answer }
 {
     let answer = cleared(alloc, profiler);
     answer_code(answer)

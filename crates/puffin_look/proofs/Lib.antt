@@ -1,7 +1,9 @@
 mod Listed
+mod FirstRead
 mod HeldStreams
 mod ThreadsTotaled
 mod ThreadsPrinted
+mod ThreadsNamed
 mod Quotes
 mod Indents
 mod Pushed

@@ -1,5 +1,5 @@
 -- Frames that were listed, one after the other.
-use Rattle.std.proofs.Common.{◌≡◌, ℕ, ◌-◌, ◌^◌, ◌≤◌, true, false, List, [], ◌∷◌, ◌++◌, length, Option, Result, Ok, Err, inl, inr, refl, sym, ap, subst, ◌∙◌, append_assoc}
+use Rattle.std.proofs.Common.{◌≡◌, ℕ, ◌-◌, ◌^◌, ◌≤◌, true, false, List, [], ◌∷◌, ◌++◌, length, Option, ◌⊎◌, Result, Ok, Err, inl, inr, refl, sym, ap, subst, ◌∙◌, append_assoc}
 use Rattle.std.specs.Prelude.{IfErr}
 use Rattle.std.specs.Io.KnownBytes.{Appends}
 use Rattle.std.proofs.KnownBytes.{Appends-nil, Appends-trans}
@@ -8,7 +8,7 @@ use Rattle.puffin_data.specs.declared.data.form.Form.{Form}
 use Rattle.puffin_data.specs.declared.error.Error.{Error}
 use Rattle.puffin_data.specs.declared.file_error.FileError.{FileError}
 use Rattle.puffin_data.specs.declared.file_error.FileError.TheVariants as file
-use Rattle.puffin_data.specs.Device.{WritesBeginning}
+use Rattle.puffin_data.specs.Device.{FailsAt, IsOutside, WritesBeginning}
 use Rattle.puffin_threads.specs.Details.{Details}
 use Rattle.puffin_frames.specs.declared.frame_data.kind.Kind.TheVariants.{Uncompressed}
 use Rattle.puffin_frames.specs.declared.frame_data.frame.FrameData.{FrameData}
@@ -22,10 +22,10 @@ use Rattle.puffin_frames.specs.Packet.Next.{stored_of, IsFresh}
 use Rattle.puffin_view.specs.View.ViewedFrames.{Frame, fields_of}
 use Rattle.puffin_view.specs.View.FrameOf.{frame_of}
 use Rattle.puffin_view.specs.View.File.{frame_stored, file_at, FailsToRead}
-use Rattle.puffin_view.specs.View.FrameFile.{HasGiven}
+use Rattle.puffin_view.specs.View.FrameFile.{frame_at, HasGiven}
 use Rattle.puffin_look.specs.OpenFrame.{OpenFrame, opened, opened_fields, AreOpened}
-use Rattle.puffin_look.specs.Printed.{IsRefused, IsStopped}
-use Rattle.puffin_look.specs.inner.Listings.{AddsFrame, FailsToAdd, HasListed, StopsListing}
+use Rattle.puffin_look.specs.Printed.{IsRefused, HasFaultBehind, IsStopped}
+use Rattle.puffin_look.specs.inner.Listings.{AddsFrame, FailsToAdd, HasListed, StopsBehind, StopsListing}
 
 pub if_err_so : {T E : Type 0} {P Q : E → Type 0} (r : Result T E) → ((e : E) → P e → Q e) → IfErr r P → IfErr r Q
 if_err_so (Ok x) step h = tt
@@ -45,9 +45,13 @@ fresh_by frame (Shared u) same fresh = ap (first_said _ _ _) (fresh.no_details r
 fresh_by frame (Packed p) same fresh = refl
 fresh_by frame (Both b) same fresh = absurd (true_is_not_false fresh.one_way)
 
+-- what it says
+pub said_fresh : (frame : FrameData) → IsFresh frame → packet_fields frame ≡ fields_of (frame_stored (stored_of frame))
+said_fresh frame fresh = ap fields_of (fresh_by frame frame.held frame.same_meta fresh)
+
 -- what it is opened as
 pub opened_fresh : (frame : FrameData) → IsFresh frame → opened_fields (packet_fields frame) ≡ opened (stored_of frame)
-opened_fresh frame fresh = ap (λ (f : Frame). opened_fields (fields_of f)) (fresh_by frame frame.held frame.same_meta fresh)
+opened_fresh frame fresh = ap opened_fields (said_fresh frame fresh)
 
 -- ---- one frame more
 
@@ -90,6 +94,15 @@ module _ {L : Type 0} (text : L → List ℕ) (takes : L → List OpenFrame → 
       taken = subst (λ (t : List ℕ). takes old h.frames t new) (append-nil more) (subst (λ (xs : List OpenFrame). takes old xs (more ++ []) new) (append-nil h.frames) (joined old now new h.frames [] more [] h.taken same));
     }
 
+    -- nothing was listed yet, and what was pending was written
+    pub listing_begun : (v new : L) (unread left before after : Option (List ℕ)) (pending : List ℕ) → HasGiven unread left [] → pending ≡ text v → Appends before after pending → text new ≡ [] → takes v [] [] new → IsListing v new unread left before after [] []
+    listing_begun v new unread left before after pending given is written empty same = record {
+      given = given;
+      listed = record { frames = []; opens = tt; taken = same };
+      none_left = empty;
+      written = subst (Appends before after) (is ∙ sym (append-nil (text v))) written;
+    }
+
     -- the next frame was added, and its text written
     pub goes_on : (old now added new : L) (unread at left before mid after : Option (List ℕ)) (stored : List Stored) (s : Stored) (more pending : List ℕ) → IsListing old now unread at before mid stored more
         → HasGiven unread left (stored ++ s ∷ []) → (a : AddsFrame text takes now added (opened s)) → pending ≡ text added → Appends mid after pending → text new ≡ [] → takes added [] [] new → IsListing old new unread left before after (stored ++ s ∷ []) (more ++ a.more)
@@ -103,7 +116,7 @@ module _ {L : Type 0} (text : L → List ℕ) (takes : L → List OpenFrame → 
     module _ (refuses : L → OpenFrame → Error → Type 0) where
       -- the next frame was added, and a prefix of its text written
       pub frame_cut : (old now new : L) (unread at left before mid after : Option (List ℕ)) (stored : List Stored) (s : Stored) (more pending : List ℕ) (fault : FileError) → IsListing old now unread at before mid stored more
-          → HasGiven unread left (stored ++ s ∷ []) → AddsFrame text takes now new (opened s) → pending ≡ text new → fault ≡ file.Io → WritesBeginning mid after pending → StopsListing text takes refuses old new unread left before after fault
+          → HasGiven unread left (stored ++ s ∷ []) → AddsFrame text takes now new (opened s) → pending ≡ text new → fault ≡ file.Io → WritesBeginning mid after pending → StopsBehind text takes refuses old new unread left before after fault
       frame_cut old now new unread at left before mid after stored s more pending fault h given a is io part = record {
         stored = stored ++ s ∷ [];
         begins = inr (left, given);
@@ -116,17 +129,10 @@ module _ {L : Type 0} (text : L → List ℕ) (takes : L → List OpenFrame → 
   module _ (refuses : L → OpenFrame → Error → Type 0) where
     -- the file doesn't begin with its letters
     pub not_a_file : (v : L) (unread left before : Option (List ℕ)) (fault : FileError) → takes v [] [] v → FailsToRead file_at unread left fault → StopsListing text takes refuses v v unread left before before fault
-    not_a_file v unread left before fault none fails = record {
-      stored = [];
-      begins = inl refl;
-      more = [];
-      state = v;
-      listed = record { frames = []; opens = tt; taken = none };
-      outcome = inr (inr (inr (refl, refl, fails, Appends-nil before)));
-    }
+    not_a_file v unread left before fault none fails = inr (record { same = refl; none = none; fails = fails; written = Appends-nil before })
 
     -- a prefix of what was pending was written
-    pub head_cut : (v : L) (unread left before after : Option (List ℕ)) (pending : List ℕ) (fault : FileError) → takes v [] [] v → pending ≡ text v → fault ≡ file.Io → WritesBeginning before after pending → StopsListing text takes refuses v v unread left before after fault
+    pub head_cut : (v : L) (unread left before after : Option (List ℕ)) (pending : List ℕ) (fault : FileError) → takes v [] [] v → pending ≡ text v → fault ≡ file.Io → WritesBeginning before after pending → StopsBehind text takes refuses v v unread left before after fault
     head_cut v unread left before after pending fault none is io part = record {
       stored = [];
       begins = inl refl;
@@ -138,18 +144,29 @@ module _ {L : Type 0} (text : L → List ℕ) (takes : L → List OpenFrame → 
 
     -- the next frame can't be added
     pub not_added : (old now new : L) (unread at left before after : Option (List ℕ)) (stored : List Stored) (s : Stored) (more : List ℕ) (fault : FileError) → IsListing old now unread at before after stored more
-        → HasGiven unread left (stored ++ s ∷ []) → FailsToAdd refuses now new (opened s) fault → StopsListing text takes refuses old new unread left before after fault
+        → HasGiven unread left (stored ++ s ∷ []) → FailsToAdd refuses now new (opened s) fault → StopsBehind text takes refuses old new unread left before after fault
     not_added old now new unread at left before after stored s more fault h given fails = record {
       stored = stored;
       begins = inr (at, h.given);
       more = more;
       state = now;
       listed = h.listed;
-      outcome = inr (inr (inl (h.written, s, given, fails)));
+      outcome = inr (inr (h.written, s, given, fails));
+    }
+
+    -- the next frame can't be read
+    pub not_read : (old now : L) (unread at left before after : Option (List ℕ)) (stored : List Stored) (more : List ℕ) (fault : FileError) → IsListing old now unread at before after stored more → FailsAt fault at left frame_at → StopsBehind text takes refuses old now unread left before after fault
+    not_read old now unread at left before after stored more fault h fails = record {
+      stored = stored;
+      begins = inr (at, h.given);
+      more = more;
+      state = now;
+      listed = h.listed;
+      outcome = inr (inl (h.written, refl, at, h.given, inl fails));
     }
 
     -- there are too many frames
-    pub too_many : (old now : L) (unread left before after : Option (List ℕ)) (stored : List Stored) (more : List ℕ) → IsListing old now unread left before after stored more → 2 ^ 64 - 1 ≤ length stored → StopsListing text takes refuses old now unread left before after file.Truncated
+    pub too_many : (old now : L) (unread left before after : Option (List ℕ)) (stored : List Stored) (more : List ℕ) → IsListing old now unread left before after stored more → 2 ^ 64 - 1 ≤ length stored → StopsBehind text takes refuses old now unread left before after file.Truncated
     too_many old now unread left before after stored more h full = record {
       stored = stored;
       begins = inr (left, h.given);
@@ -167,30 +184,46 @@ module _ {L : Type 0} (text : L → List ℕ) (takes : L → List OpenFrame → 
       whole_begun : (t : List ℕ) → Appends before after t → WritesBeginning before after t
       whole_begun t h = (t, [], sym (append-nil t), h)
 
+      -- the reader, the writer or memory failed, or the fault is behind the frames that were listed
+      pub told_behind : (h : StopsBehind text takes refuses old new unread left before after fault)
+          → (IsOutside fault × WritesBeginning before after (text old ++ h.more)) ⊎ (Appends before after (text old ++ h.more) × HasFaultBehind Refuses unread left h.stored h.listed.frames fault)
+      told_behind h = elim (h.outcome) [
+        | inl outside ↦ inl (outside.0, outside.1)
+        | inr (inl next) ↦ inr (next.0, inl (next.2, next.3, next.4))
+        | inr (inr added) ↦ elim (added.3) [
+          | inl memory ↦ inl (inr memory, whole_begun _ added.0)
+          | inr (inl packed) ↦ inr (added.0, inr (added.1, added.2, subst (λ (r : Result OpenFrame FileError). IsRefused Refuses h.listed.frames r fault) (sym packed.0) refl))
+          | inr (inr refused) ↦ inr (
+            added.0,
+            inr (
+              added.1,
+              added.2,
+              subst (λ (r : Result OpenFrame FileError). IsRefused Refuses h.listed.frames r fault) (sym refused.2)
+                  (refused.1, refused.3, is_refused h.listed.frames h.more h.state refused.0 refused.1 h.listed.taken refused.4),
+            ),
+          )
+        ]
+      ]
+
       pub stopped : StopsListing text takes refuses old new unread left before after fault → IsStopped IsText Refuses unread left before after fault
-      stopped h = record {
+      stopped (inl h) = record {
         stored = h.stored;
         begins = h.begins;
         frames = h.listed.frames;
         opens = h.listed.opens;
         text = text old ++ h.more;
         is = is_text h.listed.frames h.more h.state h.listed.taken;
-        outcome = elim (h.outcome) [
-          | inl outside ↦ inl (outside.0, outside.1)
-          | inr (inl next) ↦ inr (inl (next.0, inl (next.2, next.3, next.4)))
-          | inr (inr (inl added)) ↦ elim (added.3) [
-            | inl memory ↦ inl (inr memory, whole_begun _ added.0)
-            | inr (inl packed) ↦ inr (inl (added.0, inr (added.1, added.2, subst (λ (r : Result OpenFrame FileError). IsRefused Refuses h.listed.frames r fault) (sym packed.0) refl)))
-            | inr (inr refused) ↦ inr (inl (
-              added.0,
-              inr (
-                added.1,
-                added.2,
-                subst (λ (r : Result OpenFrame FileError). IsRefused Refuses h.listed.frames r fault) (sym refused.2)
-                    (refused.1, refused.3, is_refused h.listed.frames h.more h.state refused.0 refused.1 h.listed.taken refused.4),
-              ),
-            ))
-          ]
-          | inr (inr (inr letters)) ↦ inr (inr (letters.2, letters.0, letters.3))
+        outcome = elim (told_behind h) [
+          | inl outside ↦ inl outside
+          | inr behind ↦ inr (inl behind)
         ];
+      }
+      stopped (inr h) = record {
+        stored = [];
+        begins = inl refl;
+        frames = [];
+        opens = tt;
+        text = text old ++ [];
+        is = is_text [] [] old h.none;
+        outcome = inr (inr (h.fails, refl, h.written));
       }

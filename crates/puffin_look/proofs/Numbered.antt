@@ -19,10 +19,8 @@ known_thread v key tid is =
       sym (ap (number_or numbers) is),
       record {
         text = sym (append-nil v.events.text.items) ∙ sym (ap (λ (o : Option ℕ). v.events.text.items ++ naming_or numbers key o) is);
-        known = refl;
-        start = refl;
+        overview = refl;
         numbers = sym (ap (numbered_or numbers key) is);
-        origin = refl;
       },
     )
 
@@ -34,10 +32,8 @@ new_thread v u key (Ok tid) none h =
       h.0 ∙ sym (ap (number_or numbers) none),
       record {
         text = n.text ∙ ap (λ (k : ℕ). v.events.text.items ++ Rattle.puffin_look.specs.Trace.thread_event k key) h.0 ∙ sym (ap (λ (o : Option ℕ). v.events.text.items ++ naming_or numbers key o) none);
-        known = n.known;
-        start = n.start;
+        overview = n.overview;
         numbers = n.numbers ∙ ap (tree.insert numbers key) h.0 ∙ sym (ap (numbered_or numbers key) none);
-        origin = n.origin;
       },
     )
 new_thread v u key (Err e) none h = tt

@@ -8,6 +8,7 @@ use Rattle.std.proofs.lemmas.List.Sums.{fold-append, sum_by_push}
 use Rattle.std.proofs.lemmas.List.Elements.{filter-append}
 use Rattle.std.proofs.lemmas.List.Folds.{list_any-append}
 use Rattle.std.proofs.lemmas.Slice.Eq.{bytes_eq-Decides}
+use denote.Ref.{Bor}
 use Rattle.puffin_data.specs.Forest.{Span}
 use Rattle.puffin_threads.specs.Details.Collection.{Collection}
 use Rattle.puffin_view.specs.View.Stats.{cut}
@@ -20,7 +21,7 @@ use Rattle.puffin_look.proofs.StackRows.{itself, turned, left_false, right_false
 
 -- ---- a scope
 
-stands_path : (v : Stacks) (w : Option ℕ) (around : List Span) → StandsFor v w around → path_at (rows_of v) w ≡ path_of v.known around
+stands_path : (v : Stacks) (w : Option ℕ) (around : List Span) → StandsFor v w around → path_at (rows_of v) w ≡ path_of v.known.now around
 stands_path v None around s = sym s
 stands_path v (Some i) around s = s.2 ∙ sym s.1
 
@@ -28,15 +29,15 @@ pub stands_within : (v : Stacks) (w : Option ℕ) (around : List Span) → Stand
 stands_within v None around s = tt
 stands_within v (Some i) around s = (s.0, s.2)
 
-pub entered : (v u : Stacks) (w : Option ℕ) (place : ℕ) (around : List Span) (s : Span) (time : ℕ) → time ≡ time_of s → HasMoreParts v u (parts_at (path_at (rows_of v) w) (label v.known s.id) time)
-    → slice_get (keys_of (rows_of u)) place ≡ Some (below (path_at (rows_of v) w) (label v.known s.id)) → StandsFor v w around → TakesScopes v (record { around = around; span = s } ∷ []) u × StandsFor u (Some place) (around ++ s ∷ [])
+pub entered : (v u : Stacks) (w : Option ℕ) (place : ℕ) (around : List Span) (s : Span) (time : ℕ) → time ≡ time_of s → HasMoreParts v u (parts_at (path_at (rows_of v) w) (label v.known.now s.id) time)
+    → slice_get (keys_of (rows_of u)) place ≡ Some (below (path_at (rows_of v) w) (label v.known.now s.id)) → StandsFor v w around → TakesScopes v (record { around = around; span = s } ∷ []) u × StandsFor u (Some place) (around ++ s ∷ [])
 entered v u w place around s time same more at stands =
     let p = stands_path v w around stands in
-    let name = label v.known s.id in (
-      subst (HasMoreParts v u) ((λ i. parts_at (p i) name (same i)) ∙ sym (append-nil (scope_parts v.known (record { around = around; span = s })))) more,
+    let name = label v.known.now s.id in (
+      subst (HasMoreParts v u) ((λ i. parts_at (p i) name (same i)) ∙ sym (append-nil (scope_parts v.known.now (record { around = around; span = s })))) more,
       (
         below (path_at (rows_of v) w) name,
-        ap (λ (k : Collection). path_of k (around ++ s ∷ [])) more.known ∙ fold-append (path_with v.known) None around (s ∷ []) ∙ ap (λ (o : Option (List ℕ)). Some (below o name)) (sym p),
+        ap (λ (k : Bor Collection). path_of k.now (around ++ s ∷ [])) more.known ∙ fold-append (path_with v.known.now) None around (s ∷ []) ∙ ap (λ (o : Option (List ℕ)). Some (below o name)) (sym p),
         at,
       ),
     )

@@ -6,11 +6,13 @@ use Rattle.std.specs.Io.KnownBytes.{Appends}
 use Rattle.std.proofs.KnownBytes.{Appends-trans}
 use Rattle.std.proofs.lemmas.List.Elements.{filter-append}
 use Rattle.std.proofs.lemmas.List.Concat.{flat_map-append}
+use denote.Ref.{Bor}
 use Rattle.puffin_data.specs.declared.error.Error.{Error}
 use Rattle.puffin_data.specs.declared.file_error.FileError.{FileError}
 use Rattle.puffin_data.specs.Device.{IsOutside, WritesBeginning}
 use Rattle.puffin_data.specs.Walk.{IsFault}
-use Rattle.puffin_threads.specs.Details.Collection.{Collection, no_details, with_all_details}
+use Rattle.puffin_threads.specs.Details.Collection.{Collection}
+use Rattle.puffin_threads.specs.Thread.ThreadKey.{ThreadKey, key_of}
 use Rattle.puffin_look.specs.OpenFrame.{OpenFrame}
 use Rattle.puffin_look.specs.Printed.{IsPrinted, IsStopped, IsCutOff}
 use Rattle.puffin_look.specs.Trees.{Entry, Tree, TreeFrame, AreSpelled, AreUnread, RefusesUnread, all_streams}
@@ -32,7 +34,7 @@ wanted_in v entries = filter (λ e. is_wanted (wanted_of v) e.0) entries
 
 module _ (v : Folding) where
   abbrev tree_parts : Tree → List Part
-  tree_parts t = forest_parts v.stacks.known t.1
+  tree_parts t = forest_parts v.stacks.known.now t.1
 
   wanted_one : (e : Entry) (b : Bool) → is_wanted (wanted_of v) e.0 ≡ b → wanted_in v (e ∷ []) ≡ (if b then e ∷ [] else [])
   wanted_one e b is = ap (λ (x : Bool). if x then e ∷ [] else []) is
@@ -65,7 +67,7 @@ module _ (v : Folding) where
   all_more entries earlier left rest e next all = all ∙ ap (λ (es : List Entry). earlier ++ es) next ∙ sym (append_assoc earlier (e ∷ []) rest)
 
   same_wanted : (now : Folding) → now.thread ≡ v.thread → wanted_of now ≡ wanted_of v
-  same_wanted now same = ap (λ t. option_map (λ x. x.now) t) same
+  same_wanted now same = ap (λ t. option_map (λ x. key_of x.now) t) same
 
   wanted_more : (earlier : List Entry) (e : Entry) (b : Bool) → is_wanted (wanted_of v) e.0 ≡ b → wanted_in v (earlier ++ e ∷ []) ≡ wanted_in v earlier ++ (if b then e ∷ [] else [])
   wanted_more earlier e b is = filter-append (λ d. is_wanted (wanted_of v) d.0) earlier (e ∷ []) ∙ ap (λ (es : List Entry). wanted_in v earlier ++ es) (wanted_one e b is)
@@ -79,7 +81,7 @@ module _ (v : Folding) where
       let a = step.1 in
       let t : Tree = (e.0, a.forest) in
       let wanted : is_wanted (wanted_of v) e.0 ≡ true = ap (λ w. is_wanted w e.0) (sym (same_wanted now h.thread)) ∙ step.0 in
-      let more : HasMoreParts now.stacks new.stacks (tree_parts t) = subst (λ (k : Collection). HasMoreParts now.stacks new.stacks (forest_parts k a.forest)) h.parts.known a.parts in
+      let more : HasMoreParts now.stacks new.stacks (tree_parts t) = subst (λ (k : Bor Collection). HasMoreParts now.stacks new.stacks (forest_parts k.now a.forest)) h.parts.known a.parts in
       record {
         earlier = h.earlier ++ e ∷ [];
         all = all_more entries h.earlier left rest e next h.all;
@@ -118,30 +120,27 @@ module _ (v : Folding) where
         faulty = faulty;
       }
 
-module _ (old : Folding) (frame : OpenFrame) (k : Collection) (is : k ≡ with_all_details old.stacks.known frame.details) where
-  abbrev pub told : Folding
-  told = record old { stacks = record old.stacks { known = k } }
-
+module _ (old : Folding) (frame : OpenFrame) where
   -- all streams of a frame were added
-  pub frame_folded : (new : Folding) (all left : List Entry) → left ≡ [] → IsFolding told new all left → all_streams frame ≡ all → (more : List ℕ) × ([] ≡ [] ++ more) × TakesStacks old (frame ∷ []) more new
+  pub frame_folded : (new : Folding) (all left : List Entry) → left ≡ [] → IsFolding old new all left → all_streams frame ≡ all → (more : List ℕ) × ([] ≡ [] ++ more) × TakesStacks old (frame ∷ []) more new
   frame_folded new all left none h same =
       let whole : h.earlier ≡ all_streams frame = sym (same ∙ h.all ∙ ap (λ (es : List Entry). h.earlier ++ es) none ∙ append-nil h.earlier) in
-      let f : TreeFrame = record { meta = frame.meta; details = frame.details; trees = h.trees } in
-      let some : List Part = flat_map (λ (t : Tree). forest_parts (with_all_details old.stacks.known frame.details) t.1) h.trees in (
+      let f : TreeFrame = record { meta = frame.meta; trees = h.trees } in
+      let some : List Part = flat_map (λ (t : Tree). forest_parts old.stacks.known.now t.1) h.trees in (
         [],
         refl,
         record {
           none = refl;
           trees = f ∷ [];
-          read = (record { meta = refl; details = refl; trees = subst (λ (es : List Entry). AreSpelled (wanted_in old es) h.trees) whole h.spelled }, tt);
-          rows = h.parts.rows ∙ (λ i. fold with_part (rows_of old.stacks) (flat_map (λ (t : Tree). forest_parts (is i) t.1) h.trees)) ∙ ap (fold with_part (rows_of old.stacks)) (sym (append-nil some));
-          known = h.parts.known ∙ is;
+          read = (record { meta = refl; trees = subst (λ (es : List Entry). AreSpelled (wanted_in old es) h.trees) whole h.spelled }, tt);
+          rows = h.parts.rows ∙ ap (fold with_part (rows_of old.stacks)) (sym (append-nil some));
+          known = h.parts.known;
           found = h.found;
           thread = h.thread;
         },
       )
 
-  pub frame_unread : (entries : List Entry) (fault : Error) → all_streams frame ≡ entries → AreUnread (wanted_in told entries) fault → AreUnread (wanted_streams (wanted_of old) frame) fault
+  pub frame_unread : (entries : List Entry) (fault : Error) → all_streams frame ≡ entries → AreUnread (wanted_in old entries) fault → AreUnread (wanted_streams (wanted_of old) frame) fault
   frame_unread entries fault same u = subst (λ (es : List Entry). AreUnread (wanted_in old es) fault) (sym same) u
 
 -- ---- a file
@@ -150,7 +149,7 @@ abbrev pub none : Folding → List ℕ
 none v = []
 
 module _ (old new : Folding) (unread left before mid : Option (List ℕ)) where
-  abbrev wanted : Option (List ℕ)
+  abbrev wanted : Option ThreadKey
   wanted = wanted_of old
 
   abbrev pub Refused : FileError → Type 0
@@ -158,7 +157,7 @@ module _ (old new : Folding) (unread left before mid : Option (List ℕ)) where
 
   pub folding_stopped : (e : FileError) → StopsListing none TakesStacks RefusesFrame old new unread left before mid e → Refused e
   folding_stopped e h = stopped none TakesStacks RefusesFrame IsNoText (RefusesUnread (wanted_streams wanted)) old new unread left before mid e (λ frames more v taken. taken.none)
-      (λ frames more v frame cause taken refused. subst (λ (w : Option (List ℕ)). AreUnread (wanted_streams w frame) cause) (ap (λ t. option_map (λ x. x.now) t) taken.thread) refused) h
+      (λ frames more v frame cause taken refused. subst (λ (w : Option ThreadKey). AreUnread (wanted_streams w frame) cause) (ap (λ t. option_map (λ x. key_of x.now) t) taken.thread) refused) h
 
   module _ (h : ListsAll none TakesStacks old new unread left before mid) where
     quiet : Appends before mid []
@@ -176,17 +175,17 @@ module _ (old new : Folding) (unread left before mid : Option (List ℕ)) where
       outcome = inl (outside, ([], [], refl, quiet));
     }
 
-    module _ (empty : rows_of old.stacks ≡ []) (unknown : old.stacks.known ≡ no_details) (unfound : old.is_found ≡ false) (lines : List ℕ) (is : lines ≡ flat_map row_text (rows_of new.stacks)) (after : Option (List ℕ)) where
-      are_lines : IsFolded wanted new.is_found h.listed.frames lines
+    module _ (empty : rows_of old.stacks ≡ []) (k : Collection) (same : old.stacks.known.now ≡ k) (unfound : old.is_found ≡ false) (lines : List ℕ) (is : lines ≡ flat_map row_text (rows_of new.stacks)) (after : Option (List ℕ)) where
+      are_lines : IsFolded k wanted new.is_found h.listed.frames lines
       are_lines =
           let t = h.listed.taken in (
             t.trees,
             t.read,
-            is ∙ ap (flat_map row_text) (t.rows ∙ (λ i. fold with_part (empty i) (parts (unknown i) t.trees))) ∙ folded_text (parts no_details t.trees),
+            is ∙ ap (flat_map row_text) (t.rows ∙ (λ i. fold with_part (empty i) (parts (same i) t.trees))) ∙ folded_text (parts k t.trees),
             t.found ∙ ap (λ (b : Bool). found_in b t.trees) unfound,
           )
 
-      pub folding_printed : Appends mid after lines → IsPrinted (IsFolded wanted new.is_found) unread left before after
+      pub folding_printed : Appends mid after lines → IsPrinted (IsFolded k wanted new.is_found) unread left before after
       folding_printed app = record {
         stored = h.stored;
         took = h.took;
@@ -197,7 +196,7 @@ module _ (old new : Folding) (unread left before mid : Option (List ℕ)) where
         written = Appends-trans before mid after [] lines quiet app;
       }
 
-      pub folding_cut : WritesBeginning mid after lines → IsCutOff (IsAnyFolded wanted) unread left before after
+      pub folding_cut : WritesBeginning mid after lines → IsCutOff (IsAnyFolded k wanted) unread left before after
       folding_cut part = record {
         stored = h.stored;
         took = h.took;

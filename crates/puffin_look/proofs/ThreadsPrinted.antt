@@ -17,7 +17,7 @@ use Rattle.puffin_look.specs.OpenFrame.{OpenFrame, AreOpened}
 use Rattle.puffin_look.specs.Printed.{Begins, HasFaultBehind, IsRefused, IsPrinted, IsStopped, RefusesNone}
 use Rattle.puffin_look.specs.ThreadLines.{Totals, totals_of, thread_line, thread_lines, AreThreadLines}
 use Rattle.puffin_look.specs.inner.Taken.{TakesTotals, fails_outside}
-use Rattle.puffin_look.specs.inner.Listings.{ListsAll, StopsListing}
+use Rattle.puffin_look.specs.inner.Listings.{ListsAll, StopsBehind, StopsListing}
 use Rattle.puffin_look.specs.declared.threads.Threads.{Threads}
 
 abbrev pub none : Threads → List ℕ
@@ -64,7 +64,7 @@ module _ (old new : Threads) (unread left before mid : Option (List ℕ)) where
     moved : (state : Threads) (frames : List OpenFrame) (more : List ℕ) → state ≡ new → TakesTotals old frames more state → TakesTotals old frames more new
     moved state frames more same t = subst (TakesTotals old frames more) same t
 
-    module _ (e : FileError) (h : StopsListing none TakesTotals refused old new unread left before mid e) where
+    module _ (e : FileError) (h : StopsBehind none TakesTotals refused old new unread left before mid e) where
       quiet : h.more ≡ []
       quiet = h.listed.taken.none
 
@@ -81,28 +81,45 @@ module _ (old new : Threads) (unread left before mid : Option (List ℕ)) where
         written = written;
       }
 
-      pub some_read : (e ≡ file.Memory → ⊥) → (r : AreRead) × Finished (Err e) r.stored r.frames
-      some_read not_memory = elim (h.outcome) [
+      some_behind : (e ≡ file.Memory → ⊥) → (r : AreRead) × Finished (Err e) r.stored r.frames
+      some_behind not_memory = elim (h.outcome) [
         | inl out ↦ elim (out.2) [
           | inl memory ↦ absurd (not_memory memory)
           | inr same ↦ (read_of same (unwritten out.1), inl out.0)
         ]
         | inr (inl next) ↦ (read_of next.1 (subst (Appends before mid) quiet next.0), inr (inl (inl (next.2, next.3, next.4))))
-        | inr (inr (inl added)) ↦ elim (added.3) [
+        | inr (inr added) ↦ elim (added.3) [
           | inl memory ↦ absurd (not_memory memory)
           | inr (inl packed) ↦ (read_of (sym packed.1) (subst (Appends before mid) quiet added.0), inr (inl (inr (added.1, added.2, subst (λ (r : Result OpenFrame FileError). IsRefused RefusesNone h.listed.frames r e) (sym packed.0) refl))))
           | inr (inr bad) ↦ absurd bad.4
         ]
-        | inr (inr (inr letters)) ↦ (read_of letters.1 letters.3, inr (inr (letters.2, letters.0)))
       ]
 
-      pub none_written : Appends before mid []
-      none_written = elim (h.outcome) [
+      none_behind : Appends before mid []
+      none_behind = elim (h.outcome) [
         | inl out ↦ unwritten out.1
         | inr (inl next) ↦ subst (Appends before mid) quiet next.0
-        | inr (inr (inl added)) ↦ subst (Appends before mid) quiet added.0
-        | inr (inr (inr letters)) ↦ letters.3
+        | inr (inr added) ↦ subst (Appends before mid) quiet added.0
       ]
+
+    module _ (e : FileError) where
+      pub some_read : StopsListing none TakesTotals refused old new unread left before mid e → (e ≡ file.Memory → ⊥) → (r : AreRead) × Finished (Err e) r.stored r.frames
+      some_read (inl h) not_memory = some_behind e h not_memory
+      some_read (inr h) not_memory = (
+        record {
+          stored = [];
+          begins = inl refl;
+          frames = [];
+          opens = tt;
+          totals = ap (λ (v : Threads). by_key v.totals.entries) h.same ∙ empty;
+          written = h.written;
+        },
+        inr (inr (h.fails, refl)),
+      )
+
+      pub none_written : StopsListing none TakesTotals refused old new unread left before mid e → Appends before mid []
+      none_written (inl h) = none_behind e h
+      none_written (inr h) = h.written
 
   no_frames : (frames : List OpenFrame) → AreOpened [] frames → frames ≡ []
   no_frames [] h = refl
@@ -169,7 +186,7 @@ module _ (old new : Threads) (unread left before mid : Option (List ℕ)) where
     outcome = inl (outside, ([], thread_lines [], refl, unchanged));
   }
 
-outside_of : (e : FileError) → fails_outside {X = Unit {0}} (Err e) ≡ true → IsOutside e
+pub outside_of : (e : FileError) → fails_outside {X = Unit {0}} (Err e) ≡ true → IsOutside e
 outside_of file.Io h = inl refl
 outside_of file.Memory h = inr refl
 outside_of e h = absurd (cc)
@@ -179,6 +196,10 @@ not_memory e h is = true≢false (sym (ap (λ (x : FileError). fails_outside {X 
 
 pub not_io : (r : Result (Unit {0}) FileError) → fails_outside r ≡ false → r ≡ Err file.Io → ⊥
 not_io r h is = true≢false (sym (ap fails_outside is) ∙ h)
+
+pub not_outside : (e : FileError) → fails_outside {X = Unit {0}} (Err e) ≡ false → IsOutside e → ⊥
+not_outside e h (inl io) = not_io (Err e) h (ap Err io)
+not_outside e h (inr memory) = not_memory e h memory
 
 module _ (old new : Threads) (unread left before mid : Option (List ℕ)) (empty : by_key old.totals.entries ≡ tree.empty) where
   -- what a listing of threads ends with
@@ -203,6 +224,20 @@ module _ (old new : Threads) (unread left before mid : Option (List ℕ)) (empty
   unfolding Ends
   read_anyway (Ok x) h s = (all_read old new unread left before mid empty s.0).0
   read_anyway (Err e) h s = (some_read old new unread left before mid empty e s.1 (not_memory e h)).0
+
+  -- the frames are those before the end or the first fault
+  pub read_to_end : (r : Result (Unit {0}) FileError) → fails_outside r ≡ false → Ends r
+      → (q : AreRead old new unread left before mid) × (TookFrames file_at unread left q.stored ⊎ ((e : FileError) × (HasFaultBehind RefusesNone unread left q.stored q.frames e ⊎ (FailsToRead file_at unread left e × (q.stored ≡ [])))))
+  unfolding Ends
+  read_to_end (Ok x) h s = let q = all_read old new unread left before mid empty s.0 in (q.0, inl q.1)
+  read_to_end (Err e) h s =
+      let q = some_read old new unread left before mid empty e s.1 (not_memory e h) in (
+        q.0,
+        elim (q.1) [
+          | inl outside ↦ absurd (not_outside e h outside)
+          | inr fault ↦ inr (e, fault)
+        ],
+      )
 
   module _ (after : Option (List ℕ)) (lines : List ℕ) (is : lines ≡ flat_map thread_line (tree.entries (by_key new.totals.entries))) where
     pub all_printed : (r : Result (Unit {0}) FileError) → Ends r → Appends mid after lines → OnOk r (IsPrinted AreThreadLines unread left before after)

@@ -8,12 +8,11 @@ use Rattle.std.proofs.lemmas.List.Concat.{flat_map-append}
 use Rattle.puffin_data.specs.declared.error.Error.{Error}
 use Rattle.puffin_data.specs.Forest.{Forest, Span}
 use Rattle.puffin_data.specs.Walk.{IsFault}
-use Rattle.puffin_threads.specs.Thread.ThreadKey.{ThreadKey}
-use Rattle.puffin_threads.specs.Details.Collection.{Collection, with_all_details}
+use Rattle.puffin_threads.specs.Thread.ThreadKey.{ThreadKey, key_of}
 use Rattle.puffin_look.specs.OpenFrame.{OpenFrame}
-use Rattle.puffin_look.specs.Trees.{Entry, Tree, TreeFrame, AreSpelled, AreUnread, all_streams, outputs}
+use Rattle.puffin_look.specs.Trees.{Entry, Tree, TreeFrame, AreSpelled, AreUnread, all_streams}
 use Rattle.puffin_look.specs.ThreadLines.{thread_text}
-use Rattle.puffin_look.specs.FrameTree.{is_wanted, streams_at, outer_time, time_of, forest_lines, tree_text, head_text, frame_text, trees_text, known_with, has_trees}
+use Rattle.puffin_look.specs.FrameTree.{is_wanted, streams_at, outer_time, time_of, forest_lines, tree_text, head_text, frame_text, trees_text, has_trees}
 use Rattle.puffin_look.specs.inner.TreeLines.{HasMoreLines}
 use Rattle.puffin_look.specs.inner.FrameTrees.{wanted_of, wanted_in, StepsTree, AddsTrees, TakesTrees}
 use Rattle.puffin_look.specs.declared.tree.Lines.{Lines}
@@ -28,10 +27,10 @@ outer_time_within whole (o ∷ around) s = outer_time_within (time_of o) around 
 
 -- ---- a thread
 
-pub tree_added : (v m u : Lines) (key : ThreadKey) (f : Forest) → HasMoreLines v m (codes "thread " ++ (thread_text key ++ codes "\n")) → HasMoreLines m u (forest_lines m.known m.range_ns f) → HasMoreLines v u (tree_text v.known v.range_ns (key, f))
+pub tree_added : (v m u : Lines) (key : ThreadKey) (f : Forest) → HasMoreLines v m (codes "thread " ++ (thread_text key ++ codes "\n")) → HasMoreLines m u (forest_lines m.known.now m.range_ns f) → HasMoreLines v u (tree_text v.known.now v.range_ns (key, f))
 tree_added v m u key f h t = record {
-  text = t.text ∙ (λ i. h.text i ++ forest_lines (h.known i) (h.range i) f)
-      ∙ append_assoc v.text.items (codes "thread " ++ (thread_text key ++ codes "\n")) (forest_lines v.known v.range_ns f);
+  text = t.text ∙ (λ i. h.text i ++ forest_lines (h.known i).now (h.range i) f)
+      ∙ append_assoc v.text.items (codes "thread " ++ (thread_text key ++ codes "\n")) (forest_lines v.known.now v.range_ns f);
   known = t.known ∙ h.known;
   range = t.range ∙ h.range;
 }
@@ -52,7 +51,7 @@ module _ (v : Trees) where
     pub all : entries ≡ earlier ++ left
     pub trees : List Tree
     pub spelled : AreSpelled (wanted_in v earlier) trees
-    pub lines : HasMoreLines v.lines now.lines (flat_map (tree_text v.lines.known v.lines.range_ns) trees)
+    pub lines : HasMoreLines v.lines now.lines (flat_map (tree_text v.lines.known.now v.lines.range_ns) trees)
     pub found : now.is_found ≡ has_trees v.is_found trees
     pub index : now.index ≡ v.index
     pub thread : now.thread ≡ v.thread
@@ -76,14 +75,14 @@ module _ (v : Trees) where
   all_more entries earlier left rest e next all = all ∙ ap (λ (es : List Entry). earlier ++ es) next ∙ sym (append_assoc earlier (e ∷ []) rest)
 
   same_wanted : (now : Trees) → now.thread ≡ v.thread → wanted_of now ≡ wanted_of v
-  same_wanted now same = ap (λ t. Rattle.std.specs.Prelude.option_map (λ x. x.now) t) same
+  same_wanted now same = ap (λ t. Rattle.std.specs.Prelude.option_map (λ x. key_of x.now) t) same
 
   pub showing_more : (now new : Trees) (entries left rest : List Entry) (e : Entry) → left ≡ e ∷ rest → IsShowing now entries left → StepsTree now new e.0 e.1 → IsShowing new entries rest
   showing_more now new entries left rest e next h (inl step) =
       let a = step.1 in
       let t : Tree = (e.0, a.forest) in
       let wanted : is_wanted (wanted_of v) e.0 ≡ true = ap (λ w. is_wanted w e.0) (sym (same_wanted now h.thread)) ∙ step.0 in
-      let one = tree_text v.lines.known v.lines.range_ns in
+      let one = tree_text v.lines.known.now v.lines.range_ns in
       record {
         earlier = h.earlier ++ e ∷ [];
         all = all_more entries h.earlier left rest e next h.all;
@@ -92,7 +91,7 @@ module _ (v : Trees) where
             (sym (filter-append (λ d. is_wanted (wanted_of v) d.0) h.earlier (e ∷ []) ∙ ap (λ (es : List Entry). wanted_in v h.earlier ++ es) (wanted_one e true wanted)))
             (spelled_more (wanted_in v h.earlier) h.trees e t h.spelled ((refl, a.spells), tt));
         lines = record {
-          text = a.lines.text ∙ (λ i. h.lines.text i ++ tree_text (h.lines.known i) (h.lines.range i) t)
+          text = a.lines.text ∙ (λ i. h.lines.text i ++ tree_text (h.lines.known i).now (h.lines.range i) t)
               ∙ append_assoc v.lines.text.items (flat_map one h.trees) (one t)
               ∙ ap (λ (x : List ℕ). v.lines.text.items ++ x) (ap (λ (x : List ℕ). flat_map one h.trees ++ x) (sym (append-nil (one t))) ∙ sym (flat_map-append one h.trees (t ∷ [])));
           known = a.lines.known ∙ h.lines.known;
@@ -137,20 +136,20 @@ module _ (v : Trees) where
 pub trees_shown : (old v new : Trees) (frame : OpenFrame) (entries all left : List Entry) → v.lines.text.items ≡ old.lines.text.items ++ head_text frame.meta → v.lines.known ≡ old.lines.known → v.lines.range_ns ≡ frame.meta.range_ns → v.is_found ≡ old.is_found
     → v.index ≡ old.index → v.thread ≡ old.thread → left ≡ [] → IsShowing v new all left → entries ≡ all → AddsTrees old new frame.meta entries
 trees_shown old v new frame entries all left text known range found index thread none h same =
-    let wanted : wanted_of v ≡ wanted_of old = ap (λ t. Rattle.std.specs.Prelude.option_map (λ x. x.now) t) thread in
+    let wanted : wanted_of v ≡ wanted_of old = ap (λ t. Rattle.std.specs.Prelude.option_map (λ x. key_of x.now) t) thread in
     let whole : h.earlier ≡ entries = sym (same ∙ h.all ∙ ap (λ (es : List Entry). h.earlier ++ es) none ∙ append-nil h.earlier) in
     record {
       trees = h.trees;
       spelled = subst (λ (es : List Entry). AreSpelled es h.trees) (λ i. filter (λ d. is_wanted (wanted i) d.0) (whole i)) h.spelled;
-      text = h.lines.text ∙ (λ i. text i ++ flat_map (tree_text (known i) (range i)) h.trees)
-          ∙ append_assoc old.lines.text.items (head_text frame.meta) (flat_map (tree_text old.lines.known frame.meta.range_ns) h.trees);
+      text = h.lines.text ∙ (λ i. text i ++ flat_map (tree_text (known i).now (range i)) h.trees)
+          ∙ append_assoc old.lines.text.items (head_text frame.meta) (flat_map (tree_text old.lines.known.now frame.meta.range_ns) h.trees);
       known = h.lines.known ∙ known;
       found = h.found ∙ ap (λ (b : Bool). has_trees b h.trees) found;
       index = h.index ∙ index;
       thread = h.thread ∙ thread;
     }
 
--- ---- with the details of a frame
+-- ---- a frame in a file
 
 pub same_index : (m n : ℕ) → m ≡ n → (m == n) ≡ true
 same_index m n h = grind (arith, nat_tests)
@@ -158,34 +157,29 @@ same_index m n h = grind (arith, nat_tests)
 pub other_index : (m n : ℕ) → (m ≡ n → ⊥) → (m == n) ≡ false
 other_index m n h = grind (arith, nat_tests)
 
-module _ (old : Trees) (frame : OpenFrame) (k : Collection) (is : k ≡ with_all_details old.lines.known frame.details) where
-  abbrev pub told : Trees
-  told = record old { lines = record old.lines { known = k } }
-
+module _ (old : Trees) (frame : OpenFrame) where
   abbrev read_of : List Tree → TreeFrame
-  read_of trees = record { meta = frame.meta; details = frame.details; trees = trees }
+  read_of trees = record { meta = frame.meta; trees = trees }
 
   -- the frame has the index
-  pub frame_shown : (new : Trees) (entries : List Entry) → (frame.meta.frame_index == old.index) ≡ true → all_streams frame ≡ entries → AddsTrees told new frame.meta entries
+  pub frame_shown : (new : Trees) (entries : List Entry) → (frame.meta.frame_index == old.index) ≡ true → all_streams frame ≡ entries → AddsTrees old new frame.meta entries
       → (more : List ℕ) × (new.lines.text.items ≡ old.lines.text.items ++ more) × TakesTrees old (frame ∷ []) more new
   frame_shown new entries there same a =
       let f = read_of a.trees in
-      let shown = trees_text (with_all_details old.lines.known frame.details) f in (
-        outputs (frame_text old.index) known_with old.lines.known (f ∷ []),
-        a.text ∙ (λ i. old.lines.text.items ++ (head_text frame.meta ++ flat_map (tree_text (is i) frame.meta.range_ns) a.trees))
-            ∙ ap (λ (x : List ℕ). old.lines.text.items ++ x) (sym (append-nil shown) ∙ sym (ap (λ (b : Bool). (if b then shown else []) ++ []) there)),
+      let shown = trees_text old.lines.known.now f in (
+        flat_map (frame_text old.lines.known.now old.index) (f ∷ []),
+        a.text ∙ ap (λ (x : List ℕ). old.lines.text.items ++ x) (sym (append-nil shown) ∙ sym (ap (λ (b : Bool). (if b then shown else []) ++ []) there)),
         record {
           trees = f ∷ [];
           read = (
             record {
               meta = refl;
-              details = refl;
               trees = subst (λ (es : List Entry). AreSpelled es a.trees) (ap (wanted_in old) (sym same) ∙ sym (ap (λ (b : Bool). if b then wanted_in old (all_streams frame) else []) there)) a.spelled;
             },
             tt,
           );
           is = refl;
-          known = a.known ∙ is;
+          known = a.known;
           found = a.found;
           index = a.index;
           thread = a.thread;
@@ -193,10 +187,10 @@ module _ (old : Trees) (frame : OpenFrame) (k : Collection) (is : k ≡ with_all
       )
 
   -- the frame has another index
-  pub frame_left_out : (frame.meta.frame_index == old.index) ≡ false → (more : List ℕ) × (told.lines.text.items ≡ old.lines.text.items ++ more) × TakesTrees old (frame ∷ []) more told
+  pub frame_left_out : (frame.meta.frame_index == old.index) ≡ false → (more : List ℕ) × (old.lines.text.items ≡ old.lines.text.items ++ more) × TakesTrees old (frame ∷ []) more old
   frame_left_out other =
       let f = read_of [] in
-      let shown = trees_text (with_all_details old.lines.known frame.details) f in (
+      let shown = trees_text old.lines.known.now f in (
         [],
         sym (append-nil old.lines.text.items),
         record {
@@ -204,13 +198,12 @@ module _ (old : Trees) (frame : OpenFrame) (k : Collection) (is : k ≡ with_all
           read = (
             record {
               meta = refl;
-              details = refl;
               trees = subst (λ (es : List Entry). AreSpelled es []) (sym (ap (λ (b : Bool). if b then wanted_in old (all_streams frame) else []) other)) tt;
             },
             tt,
           );
           is = sym (ap (λ (b : Bool). (if b then shown else []) ++ []) other);
-          known = is;
+          known = refl;
           found = refl;
           index = refl;
           thread = refl;
@@ -218,6 +211,6 @@ module _ (old : Trees) (frame : OpenFrame) (k : Collection) (is : k ≡ with_all
       )
 
   -- a frame with the index that can't be shown
-  pub frame_unread : (entries : List Entry) (fault : Error) → (frame.meta.frame_index == old.index) ≡ true → all_streams frame ≡ entries → AreUnread (wanted_in told entries) fault → AreUnread (streams_at old.index (wanted_of old) frame) fault
+  pub frame_unread : (entries : List Entry) (fault : Error) → (frame.meta.frame_index == old.index) ≡ true → all_streams frame ≡ entries → AreUnread (wanted_in old entries) fault → AreUnread (streams_at old.index (wanted_of old) frame) fault
   frame_unread entries fault there same u =
       subst (λ (es : List Entry). AreUnread es fault) (ap (wanted_in old) (sym same) ∙ sym (ap (λ (b : Bool). if b then wanted_in old (all_streams frame) else []) there)) u

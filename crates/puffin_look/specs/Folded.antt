@@ -6,18 +6,19 @@ use Rattle.std.specs.List.{flat_map, list_any}
 use Rattle.std.specs.Str.{bytes_eq}
 use Rattle.puffin_data.specs.Forest.{Span, Forest}
 use Rattle.puffin_data.specs.Walk.PlacedScopes.{ScopeInContext, nested_in}
-use Rattle.puffin_threads.specs.Details.Collection.{Collection, no_details}
+use Rattle.puffin_threads.specs.Details.Collection.{Collection}
+use Rattle.puffin_threads.specs.Thread.ThreadKey.{ThreadKey}
 use Rattle.puffin_view.specs.View.Stats.{cut}
 use Rattle.puffin_look.specs.OpenFrame.{OpenFrame}
-use Rattle.puffin_look.specs.Trees.{TreeFrame, AreRead, outputs}
+use Rattle.puffin_look.specs.Trees.{TreeFrame, AreRead}
 use Rattle.puffin_look.specs.Names.{name_or_id}
-use Rattle.puffin_look.specs.FrameTree.{wanted_streams, time_of, known_with, found_in}
+use Rattle.puffin_look.specs.FrameTree.{wanted_streams, time_of, found_in}
 
 -- ---- a path
 
--- control characters, and the `;` between the names of a path
+-- control characters, the blank before a number, and the `;` between the names of a path
 abbrev pub is_reserved : ℕ → Bool
-is_reserved byte = nat_lt byte 32 || (byte == 59 || byte == 127)
+is_reserved byte = nat_lt byte 33 || (byte == 59 || byte == 127)
 
 abbrev pub shown_byte : ℕ → ℕ
 shown_byte byte = if is_reserved byte then 95 else byte
@@ -65,12 +66,12 @@ scope_parts known s =
 abbrev pub forest_parts : Collection → Forest → List Part
 forest_parts known f = flat_map (scope_parts known) (nested_in [] f)
 
--- the scopes of a frame, with the details that are listed up to it
+-- the scopes of a frame
 abbrev pub frame_parts : Collection → TreeFrame → List Part
-frame_parts known f = flat_map (λ t. forest_parts (known_with known f) t.1) f.trees
+frame_parts known f = flat_map (λ t. forest_parts known t.1) f.trees
 
 abbrev pub parts : Collection → List TreeFrame → List Part
-parts known frames = outputs frame_parts known_with known frames
+parts known frames = flat_map (frame_parts known) frames
 
 abbrev pub parts_of : List ℕ → List Part → List Part
 parts_of path all = filter (λ s. bytes_eq s.path path) all
@@ -98,13 +99,13 @@ abbrev pub folded_lines : List Part → List ℕ
 folded_lines all = flat_map (λ path. path_line path (own_time all path)) (paths_in all)
 
 -- The paths of the scopes of the wanted threads, in all frames; `found` is whether there is a stream of such a thread.
-abbrev pub IsFolded : Option (List ℕ) → Bool → List OpenFrame → List ℕ → Type 0
-IsFolded thread found frames text =
+abbrev pub IsFolded : Collection → Option ThreadKey → Bool → List OpenFrame → List ℕ → Type 0
+IsFolded known thread found frames text =
     (trees : List TreeFrame)
     × AreRead (wanted_streams thread) frames trees
-    × (text ≡ folded_lines (parts no_details trees))
+    × (text ≡ folded_lines (parts known trees))
     × (found ≡ found_in false trees)
 
 -- the folded stacks of some frames, whether there is a stream or not
-abbrev pub IsAnyFolded : Option (List ℕ) → List OpenFrame → List ℕ → Type 0
-IsAnyFolded thread frames text = (found : Bool) × IsFolded thread found frames text
+abbrev pub IsAnyFolded : Collection → Option ThreadKey → List OpenFrame → List ℕ → Type 0
+IsAnyFolded known thread frames text = (found : Bool) × IsFolded known thread found frames text

@@ -3,15 +3,15 @@ use Rattle.std.specs.Prelude.{◌≡◌, ℕ, zero, suc, ◌*◌, ◌/◌, ℤ, 
 use Rattle.std.specs.Fmt.{decimal, signed_decimal}
 use Rattle.std.specs.FinMap as map
 use Rattle.std.specs.List.{flat_map}
-use Rattle.std.specs.Str.{bytes_eq}
 use Rattle.puffin_data.specs.Forest.{Span, Forest}
 use Rattle.puffin_data.specs.Text.{text_in}
 use Rattle.puffin_data.specs.Walk.PlacedScopes.{ScopeInContext, nested_in}
-use Rattle.puffin_threads.specs.Details.Collection.{Collection, no_details, with_all_details}
-use Rattle.puffin_threads.specs.Thread.ThreadKey.{ThreadKey}
+use Rattle.puffin_threads.specs.Details.Collection.{Collection}
+use Rattle.puffin_threads.specs.Thread.ThreadKey.{ThreadKey, has_same_key}
 use Rattle.puffin_frames.specs.declared.frame_data.meta.FrameMeta.{FrameMeta}
 use Rattle.puffin_look.specs.OpenFrame.{OpenFrame}
-use Rattle.puffin_look.specs.Trees.{Tree, TreeFrame, Pick, all_streams, AreRead, outputs}
+use Rattle.puffin_look.specs.Trees.{Tree, TreeFrame, Pick, all_streams, AreRead}
+use Rattle.puffin_look.specs.Escapes.{escaped}
 use Rattle.puffin_look.specs.Names.{name_or_id}
 use Rattle.puffin_look.specs.ThreadLines.{thread_text}
 use Rattle.puffin_look.specs.FrameLines.{range_text, duration_text}
@@ -19,17 +19,17 @@ use Rattle.puffin_look.specs.Trace.{digit}
 
 -- ---- which streams
 
--- all threads, or the one that has this text
-abbrev pub is_wanted : Option (List ℕ) → ThreadKey → Bool
+-- all threads, or this one
+abbrev pub is_wanted : Option ThreadKey → ThreadKey → Bool
 is_wanted None key = true
-is_wanted (Some text) key = bytes_eq (thread_text key) text
+is_wanted (Some wanted) key = has_same_key wanted key
 
 -- the streams of the wanted threads
-abbrev pub wanted_streams : Option (List ℕ) → Pick
+abbrev pub wanted_streams : Option ThreadKey → Pick
 wanted_streams thread frame = filter (λ e. is_wanted thread e.0) (all_streams frame)
 
 -- the same in the frames with this index, and none in others
-abbrev pub streams_at : ℕ → Option (List ℕ) → Pick
+abbrev pub streams_at : ℕ → Option ThreadKey → Pick
 streams_at index thread frame =
     if frame.meta.frame_index == index then wanted_streams thread frame else []
 
@@ -42,7 +42,7 @@ indent (suc level) = codes "  " ++ indent level
 -- a text in parentheses, unless it is empty
 abbrev pub text_part : List ℕ → List ℕ
 text_part [] = []
-text_part (byte ∷ bytes) = codes " (" ++ ((byte ∷ bytes) ++ codes ")")
+text_part (byte ∷ bytes) = codes " (" ++ (escaped (byte ∷ bytes) ++ codes ")")
 
 -- in percent, with a digit behind the point, rounded down; of nothing there is no share
 abbrev pub share_text : ℕ → ℕ → List ℕ
@@ -70,7 +70,7 @@ numbers_text start time whole =
 abbrev pub nested_line : Collection → ℤ → ℕ → ℕ → Span → List ℕ
 nested_line known begin level outer s =
     indent level
-    ++ (name_or_id s.id (map.get known.by_id s.id)
+    ++ (escaped (name_or_id s.id (map.get known.by_id s.id))
     ++ (text_part (text_in s.text) ++ numbers_text (s.start -ℤ begin) (time_of s) outer))
 
 abbrev pub length_of : ℤ × ℤ → ℕ
@@ -96,17 +96,12 @@ head_text meta =
     (codes "frame " ++ decimal meta.frame_index)
     ++ (range_text meta.range_ns ++ duration_text (meta.range_ns.1 -ℤ meta.range_ns.0))
 
--- the details that are listed up to a frame
-abbrev pub known_with : Collection → TreeFrame → Collection
-known_with known f = with_all_details known f.details
-
 abbrev pub trees_text : Collection → TreeFrame → List ℕ
 trees_text known f = head_text f.meta ++ flat_map (tree_text known f.meta.range_ns) f.trees
 
 -- a frame with this index, or nothing
-abbrev pub frame_text : ℕ → Collection → TreeFrame → List ℕ
-frame_text index known f =
-    if f.meta.frame_index == index then trees_text (known_with known f) f else []
+abbrev pub frame_text : Collection → ℕ → TreeFrame → List ℕ
+frame_text known index f = if f.meta.frame_index == index then trees_text known f else []
 
 abbrev pub has_trees : Bool → List Tree → Bool
 has_trees before [] = before
@@ -117,9 +112,9 @@ abbrev pub found_in : Bool → List TreeFrame → Bool
 found_in before frames = fold (λ found f. has_trees found f.trees) before frames
 
 -- The frames with this index, each with the wanted threads; `found` is whether there is one.
-abbrev pub IsFrameText : ℕ → Option (List ℕ) → Bool → List OpenFrame → List ℕ → Type 0
-IsFrameText index thread found frames text =
+abbrev pub IsFrameText : Collection → ℕ → Option ThreadKey → Bool → List OpenFrame → List ℕ → Type 0
+IsFrameText known index thread found frames text =
     (trees : List TreeFrame)
     × AreRead (streams_at index thread) frames trees
-    × (text ≡ outputs (frame_text index) known_with no_details trees)
+    × (text ≡ flat_map (frame_text known index) trees)
     × (found ≡ found_in false trees)

@@ -1,6 +1,9 @@
 pub mod OpenFrame
 pub mod Printed
+pub mod FirstReading
+pub mod Escapes
 pub mod ThreadLines
+pub mod ThreadNames
 pub mod FrameLines
 pub mod Trees
 pub mod Names

@@ -1,7 +1,6 @@
 -- A frame of a file with its streams unpacked.
 use Rattle.std.specs.Prelude.{◌≡◌, List, [], ◌∷◌, Result, Ok, Err}
 use Rattle.puffin_data.specs.declared.file_error.FileError.{FileError}
-use Rattle.puffin_threads.specs.Details.{Details}
 use Rattle.puffin_frames.specs.declared.frame_data.meta.FrameMeta.{FrameMeta}
 use Rattle.puffin_frames.specs.declared.frame_data.unpacked.UnpackedFrameData.{UnpackedFrameData}
 use Rattle.puffin_frames.specs.Frame.Streams.{Streams}
@@ -11,20 +10,17 @@ use Rattle.puffin_view.specs.View.ViewedFrames.{fields_of}
 use Rattle.puffin_view.specs.View.File.{frame_stored}
 use Rattle.puffin_frames.specs.Frame.Holding.{unpacking}
 
--- a frame's totals, the details that it lists, and its streams by thread
+-- a frame's totals, and its streams by thread
 pub record OpenFrame : Type 0 where
   pub meta : FrameMeta
-  pub details : List Details
   pub streams : Streams
 
--- a frame of the code with these details
-abbrev pub open_of : UnpackedFrameData → List Details → OpenFrame
-open_of frame details =
-    record { meta = frame.meta; details = details; streams = streams_held frame }
+abbrev pub open_of : UnpackedFrameData → OpenFrame
+open_of frame = record { meta = frame.meta; streams = streams_held frame }
 
 abbrev pub opened_with : PacketFields → Result Streams FileError → Result OpenFrame FileError
 opened_with c (Ok streams) =
-    Ok (record { meta = c.meta; details = c.details; streams = streams })
+    Ok (record { meta = c.meta; streams = streams })
 opened_with c (Err fault) = Err fault
 
 -- a frame with these fields, or why its streams can't be unpacked

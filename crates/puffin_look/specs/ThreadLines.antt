@@ -8,6 +8,7 @@ use Rattle.puffin_data.specs.Honesty.{StreamFacts}
 use Rattle.puffin_threads.specs.Thread.ThreadKey.{ThreadKey, key_cmp}
 use Rattle.puffin_view.specs.View.Stats.{cut}
 use Rattle.puffin_look.specs.OpenFrame.{OpenFrame}
+use Rattle.puffin_look.specs.Escapes.{escaped}
 use Rattle.puffin_look.specs.FrameLines.{range_text}
 use Rattle.puffin_look.specs.declared.threads.ThreadTotals.{ThreadTotals}
 
@@ -43,13 +44,13 @@ with_frame totals frame = fold with_stream totals (map.entries frame.streams)
 abbrev pub totals_of : List OpenFrame → Totals
 totals_of frames = fold with_frame map.empty frames
 
--- a thread as `report` takes it: its start, or `-` if it is unknown, and its name
+-- a thread as `report` takes it: its start, or `-` if it is unknown, and its name, whose control characters are escaped
 abbrev pub start_text : Option ℤ → List ℕ
 start_text None = codes "-"
 start_text (Some start) = signed_decimal start
 
 abbrev pub thread_text : ThreadKey → List ℕ
-thread_text key = start_text key.start ++ (codes ":" ++ key.name)
+thread_text key = start_text key.start ++ (codes ":" ++ escaped key.name)
 
 abbrev pub totals_text : ThreadTotals → List ℕ
 totals_text t =

@@ -1,5 +1,5 @@
 -- The trace of a file: its frames, threads and scopes as events in JSON.
-use Rattle.std.specs.Prelude.{◌≡◌, ℕ, suc, ◌+◌, ◌/◌, ◌%◌, ℤ, pos, negsuc, ◌-ℤ◌, List, [], ◌∷◌, ◌++◌, codes, fold, Option, Some, None, unwrap_or}
+use Rattle.std.specs.Prelude.{◌≡◌, ℕ, ◌+◌, ◌/◌, ◌%◌, ℤ, pos, negsuc, ◌-ℤ◌, unsigned_abs, List, [], ◌∷◌, ◌++◌, codes, fold, Option, Some, None}
 use Rattle.std.specs.Fmt.{decimal, signed_decimal}
 use Rattle.std.specs.FinMap as map
 use Rattle.std.specs.List.{flat_map}
@@ -8,11 +8,11 @@ use Rattle.puffin_data.specs.Forest.{Span, Forest}
 use Rattle.puffin_data.specs.Text.{text_in}
 use Rattle.puffin_data.specs.Walk.PlacedScopes.{nested_in}
 use Rattle.puffin_threads.specs.Details.{Details}
-use Rattle.puffin_threads.specs.Details.Collection.{Collection, no_details, with_all_details}
 use Rattle.puffin_threads.specs.Thread.ThreadKey.{ThreadKey, key_cmp}
 use Rattle.puffin_frames.specs.declared.frame_data.meta.FrameMeta.{FrameMeta}
 use Rattle.puffin_look.specs.OpenFrame.{OpenFrame}
 use Rattle.puffin_look.specs.Trees.{Tree, TreeFrame, AreRead, all_streams, outputs}
+use Rattle.puffin_look.specs.declared.overview.Overview.{Overview}
 use Rattle.puffin_look.specs.Names.{name_or_id}
 use Rattle.puffin_look.specs.ThreadLines.{start_text}
 
@@ -24,16 +24,21 @@ digit n = 48 + n % 10
 abbrev pub thousandths : ℕ → List ℕ
 thousandths n = decimal (n / 1000) ++ (46 ∷ digit (n / 100) ∷ digit (n / 10) ∷ digit n ∷ [])
 
-abbrev pub micros : ℤ → List ℕ
-micros (pos n) = thousandths n
-micros (negsuc n) = 45 ∷ thousandths (suc n)
+-- how long after the origin; what is before it is at it
+abbrev pub at_least_zero : ℤ → ℕ
+at_least_zero (pos n) = n
+at_least_zero (negsuc n) = 0
+
+abbrev pub since : ℤ → ℤ → ℕ
+since origin time = at_least_zero (time -ℤ origin)
 
 -- ---- a scope
 
--- when it began, after the file's first frame did, and how long it took
+-- when it began, after the file's least start, and how long it took
 abbrev pub times_text : ℤ → ℤ → ℤ → List ℕ
 times_text origin start stop =
-    (codes ",\"ts\":" ++ micros (start -ℤ origin)) ++ (codes ",\"dur\":" ++ micros (stop -ℤ start))
+    (codes ",\"ts\":" ++ thousandths (since origin start))
+    ++ (codes ",\"dur\":" ++ thousandths (unsigned_abs (stop -ℤ start)))
 
 -- its file and line, if it has details, and the end of the event
 abbrev pub place_text : Option Details → List ℕ
@@ -47,14 +52,15 @@ labels_text d id text =
     (codes ",\"name\":" ++ quoted (name_or_id id d))
     ++ ((codes ",\"args\":{\"text\":" ++ quoted (text_in text)) ++ place_text d)
 
-abbrev pub scope_event : Collection → ℤ → ℕ → Span → List ℕ
-scope_event known origin tid s =
+abbrev pub scope_event : Overview → ℕ → Span → List ℕ
+scope_event o tid s =
     (codes ",\n{\"ph\":\"X\",\"pid\":1,\"tid\":" ++ decimal tid)
-    ++ (times_text origin s.start s.stop ++ labels_text (map.get known.by_id s.id) s.id s.text)
+    ++ (times_text o.start s.start s.stop
+    ++ labels_text (map.get o.details.by_id s.id) s.id s.text)
 
 -- each scope of a forest, before its children
-abbrev pub forest_events : Collection → ℤ → ℕ → Forest → List ℕ
-forest_events known origin tid f = flat_map (λ s. scope_event known origin tid s.span) (nested_in [] f)
+abbrev pub forest_events : Overview → ℕ → Forest → List ℕ
+forest_events o tid f = flat_map (λ s. scope_event o tid s.span) (nested_in [] f)
 
 -- ---- threads
 
@@ -92,9 +98,8 @@ abbrev pub naming : Numbers → ThreadKey → List ℕ
 naming numbers key = naming_or numbers key (map.get numbers key)
 
 -- the scopes of a thread
-abbrev pub tree_events : Collection → ℤ → Numbers → Tree → List ℕ
-tree_events known origin numbers t =
-    naming numbers t.0 ++ forest_events known origin (number_of numbers t.0) t.1
+abbrev pub tree_events : Overview → Numbers → Tree → List ℕ
+tree_events o numbers t = naming numbers t.0 ++ forest_events o (number_of numbers t.0) t.1
 
 abbrev pub numbered_with : Numbers → Tree → Numbers
 numbered_with numbers t = numbered numbers t.0
@@ -104,58 +109,35 @@ numbered_with numbers t = numbered numbers t.0
 -- a frame as an instant, with its range in nanoseconds
 abbrev pub frame_event : ℤ → FrameMeta → List ℕ
 frame_event origin meta =
-    (codes ",\n{\"ph\":\"i\",\"s\":\"p\",\"pid\":1,\"tid\":0,\"ts\":" ++ micros (meta.range_ns.0 -ℤ origin))
+    (codes ",\n{\"ph\":\"i\",\"s\":\"p\",\"pid\":1,\"tid\":0,\"ts\":"
+    ++ thousandths (since origin meta.range_ns.0))
     ++ ((codes ",\"name\":\"frame " ++ decimal meta.frame_index)
-    ++ ((codes "\",\"args\":{\"start\":" ++ signed_decimal meta.range_ns.0)
-    ++ ((codes ",\"stop\":" ++ signed_decimal meta.range_ns.1) ++ codes "}}")))
+    ++ ((codes "\",\"args\":{\"start\":\"" ++ signed_decimal meta.range_ns.0)
+    ++ ((codes "\",\"stop\":\"" ++ signed_decimal meta.range_ns.1) ++ codes "\"}}")))
 
--- what the frames so far leave: the details that they list, the threads, and when the first frame began
-pub record Tracing : Type 0 where
-  pub known : Collection
-  pub numbers : Numbers
-  pub origin : Option ℤ
+abbrev pub frame_events : Overview → Numbers → TreeFrame → List ℕ
+frame_events o numbers f =
+    frame_event o.start f.meta ++ outputs (tree_events o) numbered_with numbers f.trees
 
-abbrev pub untraced : Tracing
-untraced = record { known = no_details; numbers = map.empty; origin = None }
+abbrev pub numbered_by : Numbers → TreeFrame → Numbers
+numbered_by numbers f = fold numbered_with numbers f.trees
 
-abbrev pub origin_at : Tracing → TreeFrame → ℤ
-origin_at s f = unwrap_or s.origin f.meta.range_ns.0
-
-abbrev pub known_at : Tracing → TreeFrame → Collection
-known_at s f = with_all_details s.known f.details
-
-abbrev pub traced : Tracing → TreeFrame → Tracing
-traced s f = record {
-  known = known_at s f;
-  numbers = fold numbered_with s.numbers f.trees;
-  origin = Some (origin_at s f);
-}
-
-abbrev pub frame_events : Tracing → TreeFrame → List ℕ
-frame_events s f =
-    frame_event (origin_at s f) f.meta
-    ++ outputs (tree_events (known_at s f) (origin_at s f)) numbered_with s.numbers f.trees
-
-abbrev pub events : Tracing → List TreeFrame → List ℕ
-events s fs = outputs frame_events traced s fs
+abbrev pub events : Overview → Numbers → List TreeFrame → List ℕ
+events o numbers fs = outputs (frame_events o) numbered_by numbers fs
 
 -- ---- a file
 
 abbrev pub trace_head : List ℕ
-trace_head = codes "[{\"ph\":\"M\",\"pid\":1,\"name\":\"process_name\",\"args\":{\"name\":\"puffin\"}}"
+trace_head =
+    codes "{\"displayTimeUnit\":\"ns\",\"traceEvents\":[\n"
+    ++ codes "{\"ph\":\"M\",\"pid\":1,\"name\":\"process_name\",\"args\":{\"name\":\"puffin\"}}"
 
 abbrev pub trace_end : List ℕ
-trace_end = codes "\n]\n"
+trace_end = codes "\n]}\n"
 
--- the trace of these frames, without its end
-abbrev pub IsOpenTrace : List OpenFrame → List ℕ → Type 0
-IsOpenTrace frames text =
+-- the trace of these frames
+abbrev pub IsTrace : Overview → List OpenFrame → List ℕ → Type 0
+IsTrace o frames text =
     (trees : List TreeFrame)
     × AreRead all_streams frames trees
-    × (text ≡ trace_head ++ events untraced trees)
-
-abbrev pub IsTrace : List OpenFrame → List ℕ → Type 0
-IsTrace frames text =
-    (trees : List TreeFrame)
-    × AreRead all_streams frames trees
-    × (text ≡ trace_head ++ (events untraced trees ++ trace_end))
+    × (text ≡ trace_head ++ (events o map.empty trees ++ trace_end))

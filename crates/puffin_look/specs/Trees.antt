@@ -6,7 +6,6 @@ use Rattle.puffin_data.specs.Forest.{Forest}
 use Rattle.puffin_data.specs.Forest.Spelling.{Spells}
 use Rattle.puffin_data.specs.Honesty.{StreamFacts}
 use Rattle.puffin_data.specs.Walk.{IsFault}
-use Rattle.puffin_threads.specs.Details.{Details}
 use Rattle.puffin_threads.specs.Thread.ThreadKey.{ThreadKey}
 use Rattle.puffin_frames.specs.declared.frame_data.meta.FrameMeta.{FrameMeta}
 use Rattle.puffin_look.specs.OpenFrame.{OpenFrame}
@@ -26,10 +25,9 @@ AreSpelled (e ∷ es) [] = ⊥
 AreSpelled (e ∷ es) (t ∷ ts) =
     ((t.0 ≡ e.0) × Spells e.1.form e.1.bytes t.1) × AreSpelled es ts
 
--- a frame's totals, the details that it lists, and its scopes by thread
+-- a frame's totals, and its scopes by thread
 pub record TreeFrame : Type 0 where
   pub meta : FrameMeta
-  pub details : List Details
   pub trees : List Tree
 
 -- the streams of a frame that are read
@@ -41,7 +39,6 @@ all_streams frame = map.entries frame.streams
 
 pub record IsRead (pick : Pick) (frame : OpenFrame) (tree : TreeFrame) : Type 0 where
   pub meta : tree.meta ≡ frame.meta
-  pub details : tree.details ≡ frame.details
   pub trees : AreSpelled (pick frame) tree.trees
 
 -- frames, each with its scopes

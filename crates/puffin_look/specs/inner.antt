@@ -1,5 +1,6 @@
 -- How a file is listed, frame after frame: steps of the proof.
 pub mod Listings
+pub mod FirstReadings
 pub mod Taken
 pub mod Reads
 pub mod Events

@@ -4,6 +4,7 @@ ghost use Rattle.std.specs.Prelude.{◌≡◌, ◌++◌, ◌<◌, ◌^◌, ◌-�
 ghost use Rattle.std.specs.Fmt.{signed_decimal};
 ghost use Rattle.puffin_look.specs.FrameTree.{indent, text_part, share_text, times_text, numbers_text};
 
+use crate::escapes::push_escaped;
 use crate::text::{push_count, push_number};
 use itoa::Buffer;
 use puffin_data::NanoSecond;
@@ -21,7 +22,7 @@ pub(crate) fn push_indent(text: &mut Vec<u8>, level: usize) -> Result<(), AllocE
     Ok(())
 }
 
-/// Appends a text in parentheses, unless it is empty.
+/// Appends a text in parentheses, with escapes for control characters, unless it is empty.
 pub(crate) fn push_text(text: &mut Vec<u8>, part: &str) -> Result<(), AllocError>
     ensures { OnOk result (text.new.items ≡ text.old.items ++ text_part part.now) }
 {
@@ -29,7 +30,7 @@ pub(crate) fn push_text(text: &mut Vec<u8>, part: &str) -> Result<(), AllocError
         return Ok(());
     }
     text.extend_from_slice(b" (")?;
-    text.extend_from_slice(part.as_bytes())?;
+    push_escaped(text, part.as_bytes())?;
     text.extend_from_slice(b")")
 }
 

@@ -13,15 +13,16 @@ ghost use Rattle.puffin_look.specs.Trace.{times_text, place_text, labels_text, s
 ghost use Rattle.puffin_look.specs.inner.Events.{details_in, IsWithText};
 
 use crate::names::{details_under, number_name};
-use crate::quoting::{push_member, push_micros, push_quoted};
+use crate::overview::Overview;
+use crate::quoting::{push_member, push_micros, push_quoted, since};
 use crate::text::push_count;
 use puffin_data::data::{RawScope, StreamInfo, Visitor, text_of, walk_with};
 use puffin_data::{NanoSecond, Result as Answer};
-use puffin_threads::scope_details::{ScopeCollection, ScopeDetails};
+use puffin_threads::scope_details::ScopeDetails;
 use std::alloc::AllocError;
 use std::sync::Arc;
 
-/// Appends when a scope began, after `origin`, and how long it took.
+/// Appends when a scope began, counted from `origin`, and how long it took.
 fn push_times(
     text: &mut Vec<u8>,
     origin: NanoSecond,
@@ -30,8 +31,8 @@ fn push_times(
 ) -> Result<(), AllocError>
     ensures { OnOk result (text.new.items ≡ text.old.items ++ times_text origin start stop) }
 {
-    push_micros(text, b",\"ts\":", origin, start)?;
-    push_micros(text, b",\"dur\":", start, stop)
+    push_micros(text, b",\"ts\":", since(origin, start))?;
+    push_micros(text, b",\"dur\":", stop.abs_diff(start))
 }
 
 /// Appends the name in these details, or without details a `#` and the id, in quotes.
@@ -95,32 +96,30 @@ fn push_labels(
 /// Appends a scope's event.
 fn push_scope(
     text: &mut Vec<u8>,
-    known: &ScopeCollection,
-    origin: NanoSecond,
+    overview: &Overview,
     tid: u64,
     scope: &RawScope,
 ) -> Result<(), AllocError>
     requires { 0 < scope.now.id }
     ensures { OnOk result (text.new.items
-        ≡ text.old.items ++ scope_event known.now origin tid (found_of scope.now).span) }
+        ≡ text.old.items ++ scope_event overview.now tid (found_of scope.now).span) }
 {
     push_count(text, b",\n{\"ph\":\"X\",\"pid\":1,\"tid\":", tid)?;
-    push_times(text, origin, scope.start, scope.stop)?;
-    push_labels(text, details_under(known, scope.id), scope.id, scope.text)
+    push_times(text, overview.start, scope.start, scope.stop)?;
+    let details = details_under(&overview.details, scope.id);
+    push_labels(text, details, scope.id, scope.text)
 }
 
 /// The events that are still to be written, and what the next ones depend on.
 #[derive(Drop)]
-pub(crate) struct Events {
+pub(crate) struct Events<'o> {
     pub text: Vec<u8>,
-    pub known: ScopeCollection,
+    pub overview: &'o Overview,
     /// The number of the thread whose scopes are met.
     pub tid: u64,
-    /// When the first frame began.
-    pub origin: NanoSecond,
 }
 
-impl<'s> Visitor<'s> for Events {
+impl<'s, 'o> Visitor<'s> for Events<'o> {
     ghost use Rattle.std.specs.Prelude.{⊤};
     ghost use Rattle.puffin_look.specs.inner.Events.{TakesScopes, scopes_none, scopes_more};
 
@@ -139,18 +138,18 @@ impl<'s> Visitor<'s> for Events {
     ghost still_stands = { λ _ _ _ _ _ _ _. tt };
 
     fn enter(&mut self, _within: (), scope: &RawScope<'s>) -> Answer<()> {
-        push_scope(&mut self.text, &self.known, self.origin, self.tid, scope)?;
+        push_scope(&mut self.text, self.overview, self.tid, scope)?;
         Ok(())
     }
 }
 
-impl Events {
+impl<'o> Events<'o> {
     /// Appends the events of a stream's scopes. Fails with the first fault of the stream, or with `Memory`.
     pub(crate) fn add_stream(&mut self, info: &StreamInfo) -> Answer<()>
         ensures ok { OnOk result ((f : Forest)
             × Spells (facts_of info.now).form (facts_of info.now).bytes f
             × IsWithText self.old self.new
-            (forest_events self.old.known self.old.origin self.old.tid f)) }
+            (forest_events self.old.overview.now self.old.tid f)) }
         ensures err { IfErr result (λ e.
             (e ≡ Error.Memory) ⊎ IsFault (facts_of info.now).form (facts_of info.now).bytes e) }
     {

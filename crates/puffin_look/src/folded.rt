@@ -16,22 +16,21 @@ ghost use Rattle.puffin_look.specs.inner.Foldings.{StepsStack, IsStackFault};
 
 use crate::frame_tree::is_wanted;
 use crate::listing::{Listing, list_frames};
+use crate::overview::Overview;
 use crate::stacks::{Stacks, Times};
 use crate::text::push_count;
 use puffin_data::data::{Drain, Source, StreamInfo, write_all};
 use puffin_data::{FileError, Result as Answer};
 use puffin_frames::frame_data::UnpackedFrameData;
-use puffin_threads::scope_details::ScopeDetails;
 use puffin_threads::thread_profiler::ThreadInfo;
 use std::alloc::{AllocError, Global};
-use std::sync::Arc;
 
 /// The stacks of the wanted threads.
 #[derive(Drop)]
 struct Folding<'t> {
-    stacks: Stacks,
-    /// The text of the thread that is wanted, or `None` if all are.
-    thread: Option<&'t str>,
+    stacks: Stacks<'t>,
+    /// The thread that is wanted, or `None` if all are.
+    thread: Option<&'t ThreadInfo>,
     is_found: bool,
 }
 
@@ -43,7 +42,7 @@ impl<'t> Folding<'t> {
         ensures err { IfErr result (λ e.
             (e ≡ Error.Memory) ⊎ IsStackFault self.old (key_of thread.now) (facts_of info.now) e) }
     {
-        if is_wanted(*self.stacks.path.allocator(), self.thread, thread)? {
+        if is_wanted(self.thread, thread) {
             self.stacks.add_stream(info)?;
             self.is_found = true;
         }
@@ -65,8 +64,7 @@ impl<'t> Listing for Folding<'t> {
 
     ghost takes_more = { stacks_more };
 
-    fn add(&mut self, frame: &UnpackedFrameData, details: &[Arc<ScopeDetails>]) -> Answer<()> {
-        self.stacks.known.insert_all(details)?;
+    fn add(&mut self, frame: &UnpackedFrameData) -> Answer<()> {
         'streams: for (thread, info) in frame.thread_streams.iter() {
             self.add_stream(thread, info)?;
         }
@@ -104,33 +102,35 @@ fn lines_of(alloc: Global, stacks: &Stacks) -> Result<Vec<u8>, AllocError>
 /// Prints the folded stacks of a file, which tools that draw flame graphs read: a line for each path of scopes, from the top level
 /// down, with its own time in nanoseconds in all frames together. That is the durations of the scopes with the path, less the
 /// durations of the scopes directly within them; a sum that doesn't fit `u64` is `u64::MAX`, and a difference that is negative is
-/// 0. The names of a path are separated by `;`, and a blank separates the path and the number. A name is that by the details that
-/// the file lists up to the scope's frame, or `#` and the id, with a `_` in place of each `;` and each control character. The paths
+/// 0. The names of a path are separated by `;`, and a blank separates the path and the number. A name is that by the details
+/// of the [overview](crate::read_overview), or `#` and the id, with a `_` in place of each `;`, each blank and each control character. The paths
 /// are in the order in which they are first met.
 ///
-/// All threads count, or if `thread` is given, only the one that [`print_threads`](crate::print_threads) lists by this text.
-/// Returns whether there is one.
+/// All threads count, or if `thread` is given, only that one. Returns whether there is one.
 ///
 /// Fails as [`print_trace`](crate::print_trace) does; only the streams that count have to consist of scopes. A line needs all
 /// frames, so nothing is printed then, except that a prefix of the lines is written if a write fails.
 pub fn print_folded<S: Source, D: Drain>(
     alloc: Global,
+    overview: &Overview,
     source: &mut S,
     drain: &mut D,
-    thread: Option<&str>,
+    thread: Option<&ThreadInfo>,
 ) -> Result<bool, FileError>
     requires source { CanFail S.failures source.old }
     requires drain { CanFail D.failures drain.old }
     ensures ok { IfOk result (λ found.
-        IsPrinted (IsFolded (option_map (λ t. t.now) thread.entry) found)
-        (S.remaining source.old) (S.remaining source.new) (D.contents drain.old)
+        IsPrinted (IsFolded overview.now.details (option_map (λ t. key_of t.now) thread.entry)
+        found) (S.remaining source.old) (S.remaining source.new) (D.contents drain.old)
         (D.contents drain.new)) }
     ensures err { IfErr result (λ e.
-        IsStopped IsNoText (RefusesUnread (wanted_streams (option_map (λ t. t.now) thread.entry)))
+        IsStopped IsNoText
+        (RefusesUnread (wanted_streams (option_map (λ t. key_of t.now) thread.entry)))
         (S.remaining source.old) (S.remaining source.new) (D.contents drain.old)
         (D.contents drain.new) e
         ⊎ ((e ≡ FileError.Io)
-        × IsCutOff (IsAnyFolded (option_map (λ t. t.now) thread.entry)) (S.remaining source.old)
+        × IsCutOff (IsAnyFolded overview.now.details
+        (option_map (λ t. key_of t.now) thread.entry)) (S.remaining source.old)
         (S.remaining source.new) (D.contents drain.old) (D.contents drain.new))) }
     // `Io` means that the reader or the writer failed in this call, or that the writer took no bytes.
     ensures io { (result ≡ Err FileError.Io) → (S.failures source.new ≡ S.failures source.old + 1)
@@ -140,7 +140,7 @@ pub fn print_folded<S: Source, D: Drain>(
         × (D.failures drain.new ≡ D.failures drain.old)) }
 {
     let mut folding = Folding {
-        stacks: Stacks::new(alloc),
+        stacks: Stacks::new(alloc, &overview.details),
         thread,
         is_found: false,
     };

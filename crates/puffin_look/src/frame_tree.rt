@@ -2,12 +2,10 @@
 
 ghost use Rattle.std.specs.Prelude.{◌≡◌, false, option_map, ◌++◌, ◌+◌, ◌⊎◌, ◌-ℤ◌, FitsSigned, IsOkUnless, OnOk, IfOk, IfErr};
 ghost use Rattle.std.specs.Int.{w64};
-ghost use Rattle.std.specs.List.{list_any};
 ghost use Rattle.std.specs.FinMap as map;
 ghost use Rattle.puffin_data.specs.declared.error.Error.{Error};
 ghost use Rattle.puffin_data.specs.Device.{CanFail, TookNothing};
 ghost use Rattle.puffin_data.specs.Honesty.{facts_of};
-ghost use Rattle.puffin_threads.specs.Details.{lacks_id, shared_details};
 ghost use Rattle.puffin_threads.specs.Thread.ThreadKey.{key_of};
 ghost use Rattle.puffin_frames.specs.Frame.Contents.{streams_held};
 ghost use Rattle.puffin_look.specs.Printed.{IsPrinted, IsStopped};
@@ -17,32 +15,23 @@ ghost use Rattle.puffin_look.specs.inner.FrameTrees.{wanted_of, wanted_in, Steps
 
 use crate::frames::{push_duration, push_range};
 use crate::listing::{Listing, list_frames};
+use crate::overview::Overview;
 use crate::text::push_count;
-use crate::threads::push_thread;
 use crate::tree::Lines;
 use puffin_data::data::{Drain, Source, StreamInfo};
 use puffin_data::{FileError, FrameIndex, Result as Answer};
 use puffin_frames::frame_data::UnpackedFrameData;
-use puffin_threads::scope_details::{ScopeCollection, ScopeDetails};
 use puffin_threads::thread_profiler::ThreadInfo;
 use std::alloc::{AllocError, Global};
-use std::sync::Arc;
 
-/// Returns whether a thread is printed: any thread if none is named, and else the one with this text.
-pub(crate) fn is_wanted(
-    alloc: Global,
-    wanted: Option<&str>,
-    thread: &ThreadInfo,
-) -> Result<bool, AllocError>
-    ensures { IfOk result (λ is.
-        is ≡ is_wanted (option_map (λ t. t.now) wanted.entry) (key_of thread.now)) }
+/// Returns whether a thread is printed: any thread if none is asked for, and else that one.
+pub(crate) fn is_wanted(wanted: Option<&ThreadInfo>, thread: &ThreadInfo) -> bool
+    ensures { result ≡ is_wanted (option_map (λ t. key_of t.now) wanted.entry) (key_of thread.now) }
 {
-    let Some(wanted) = wanted else {
-        return Ok(true);
-    };
-    let mut text = Vec::new(alloc);
-    push_thread(&mut text, thread)?;
-    Ok(text.as_slice() == wanted.as_bytes())
+    match wanted {
+        None => true,
+        Some(wanted) => wanted == thread,
+    }
 }
 
 /// Appends a frame's index, range and duration.
@@ -57,10 +46,10 @@ fn push_head(text: &mut Vec<u8>, frame: &UnpackedFrameData) -> Result<(), AllocE
 /// The frames with an index, as far as they are still to be written.
 #[derive(Drop)]
 struct Trees<'t> {
-    lines: Lines,
+    lines: Lines<'t>,
     index: FrameIndex,
-    /// The text of the thread that is wanted, or `None` if all are.
-    thread: Option<&'t str>,
+    /// The thread that is wanted, or `None` if all are.
+    thread: Option<&'t ThreadInfo>,
     is_found: bool,
 }
 
@@ -72,7 +61,7 @@ impl<'t> Trees<'t> {
         ensures err { IfErr result (λ e.
             (e ≡ Error.Memory) ⊎ IsTreeFault self.old (key_of thread.now) (facts_of info.now) e) }
     {
-        if is_wanted(*self.lines.text.allocator(), self.thread, thread)? {
+        if is_wanted(self.thread, thread) {
             self.lines.add_stream(thread, info)?;
             self.is_found = true;
         }
@@ -109,8 +98,7 @@ impl<'t> Listing for Trees<'t> {
 
     ghost takes_more = { trees_more };
 
-    fn add(&mut self, frame: &UnpackedFrameData, details: &[Arc<ScopeDetails>]) -> Answer<()> {
-        self.lines.known.insert_all(details)?;
+    fn add(&mut self, frame: &UnpackedFrameData) -> Answer<()> {
         if frame.meta.frame_index == self.index {
             self.add_trees(frame)?;
         }
@@ -128,28 +116,31 @@ impl<'t> Listing for Trees<'t> {
 
 /// Prints the frames of a file that have this index: for each a line with its range and duration, for each of its threads a line,
 /// and for each scope of the thread a line, indented by two blanks for each scope that it is nested in: its name by the details
-/// that the file lists up to this frame, or `#` and the id; its text in parentheses, unless it is empty; its start in the frame,
-/// its duration, and its share of what it is nested in. Times are in nanoseconds. If `thread` is given, only the thread is
-/// printed that [`print_threads`](crate::print_threads) lists by this text.
+/// of the [overview](crate::read_overview), or `#` and the id; its text in parentheses, unless it is empty; its start in the frame,
+/// its duration, and its share of what it is nested in. Times are in nanoseconds. If `thread` is given, only that thread
+/// is printed; [`threads_named`](crate::threads_named) finds it by its name.
 ///
 /// Returns whether a thread was printed. Fails as [`print_trace`](crate::print_trace) does; only the streams that are printed have
 /// to consist of scopes.
 pub fn print_frame<S: Source, D: Drain>(
     alloc: Global,
+    overview: &Overview,
     source: &mut S,
     drain: &mut D,
     index: FrameIndex,
-    thread: Option<&str>,
+    thread: Option<&ThreadInfo>,
 ) -> Result<bool, FileError>
     requires source { CanFail S.failures source.old }
     requires drain { CanFail D.failures drain.old }
     ensures ok { IfOk result (λ found.
-        IsPrinted (IsFrameText index (option_map (λ t. t.now) thread.entry) found)
+        IsPrinted (IsFrameText overview.now.details index
+        (option_map (λ t. key_of t.now) thread.entry) found)
         (S.remaining source.old) (S.remaining source.new) (D.contents drain.old)
         (D.contents drain.new)) }
     ensures err { IfErr result (λ e.
-        IsStopped (IsAnyFrameText index (option_map (λ t. t.now) thread.entry))
-        (RefusesUnread (streams_at index (option_map (λ t. t.now) thread.entry)))
+        IsStopped (IsAnyFrameText overview.now.details index
+        (option_map (λ t. key_of t.now) thread.entry))
+        (RefusesUnread (streams_at index (option_map (λ t. key_of t.now) thread.entry)))
         (S.remaining source.old) (S.remaining source.new) (D.contents drain.old)
         (D.contents drain.new) e) }
     // `Io` means that the reader or the writer failed in this call, or that the writer took no bytes.
@@ -162,7 +153,7 @@ pub fn print_frame<S: Source, D: Drain>(
     let mut trees = Trees {
         lines: Lines {
             text: Vec::new(alloc),
-            known: ScopeCollection::new(alloc),
+            known: &overview.details,
             range_ns: (0, 0),
         },
         index,

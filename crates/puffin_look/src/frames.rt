@@ -12,9 +12,7 @@ use crate::text::{push_count, push_moment};
 use puffin_data::data::{Drain, Source};
 use puffin_data::{FileError, FrameIndex, NanoSecond, Result as Answer};
 use puffin_frames::frame_data::UnpackedFrameData;
-use puffin_threads::scope_details::ScopeDetails;
 use std::alloc::{AllocError, Global};
-use std::sync::Arc;
 
 /// Appends a frame's number, its threads and its scopes.
 pub(crate) fn push_counts(
@@ -88,7 +86,7 @@ impl Listing for FrameLines {
 
     ghost takes_more = { lines_more };
 
-    fn add(&mut self, frame: &UnpackedFrameData, _details: &[Arc<ScopeDetails>]) -> Answer<()> {
+    fn add(&mut self, frame: &UnpackedFrameData) -> Answer<()> {
         push_frame(&mut self.text, frame)?;
         Ok(())
     }

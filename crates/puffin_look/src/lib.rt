@@ -1,8 +1,10 @@
 //! Shows what is in a file of frames: its threads and its frames. Reads one frame at a time.
 //!
+//! A tree, a trace and folded stacks have names from all frames of the file: [`read_overview`] reads them first.
+//!
 //! | to | call |
 //! |---|---|
-//! | list the threads of a file | [`print_threads`] |
+//! | list the threads of a file, or find one by its name | [`print_threads`], [`threads_named`] |
 //! | list its frames, or the slowest of them | [`print_frames`], [`print_slowest`] |
 //! | print a frame as a tree | [`print_frame`] |
 //! | write a trace for other tools | [`print_trace`] |
@@ -10,17 +12,20 @@
 #![tactic(auto)]
 
 mod columns;
+mod escapes;
 mod events;
 mod folded;
 mod frame_tree;
 mod frames;
 mod listing;
 mod names;
+mod overview;
 mod quoting;
 mod slowest;
 mod stacks;
 mod task;
 mod text;
+mod thread_names;
 mod threads;
 mod trace;
 mod tree;
@@ -28,7 +33,9 @@ mod tree;
 pub use folded::print_folded;
 pub use frame_tree::print_frame;
 pub use frames::print_frames;
+pub use overview::{Overview, read_overview};
 pub use slowest::print_slowest;
 pub use task::{View, read_words};
+pub use thread_names::threads_named;
 pub use threads::print_threads;
 pub use trace::print_trace;

@@ -1,20 +1,17 @@
 //! Reads a file one frame at a time, and prints each frame.
 
-ghost use Rattle.std.specs.Prelude.{◌≡◌, ◌⊎◌, ◌+◌, ◌++◌, ◌∷◌, [], List, ℕ, false, ◌≢◌, Ok, Err, IfOk, IfErr, OnOk};
-ghost use Rattle.std.specs.List.{list_any};
+ghost use Rattle.std.specs.Prelude.{◌≡◌, ◌⊎◌, ◌+◌, ◌++◌, ◌∷◌, [], List, ℕ, Option, ◌≢◌, Ok, Err, IfOk, IfErr, OnOk};
 ghost use Rattle.std.specs.Arc.{arc_value};
 ghost use Rattle.puffin_data.specs.declared.error.Error.{Error};
 ghost use Rattle.puffin_data.specs.Device.{CanFail, TookNothing};
-ghost use Rattle.puffin_threads.specs.Details.{lacks_id, shared_details};
-ghost use Rattle.puffin_view.specs.View.Known.{lacks_ids};
-ghost use Rattle.puffin_frames.specs.Frame.Contents.{packet_fields, frame_details};
+ghost use Rattle.puffin_view.specs.View.FrameFile.{HasGiven};
+ghost use Rattle.puffin_frames.specs.Frame.Contents.{packet_fields};
 ghost use Rattle.puffin_look.specs.OpenFrame.{OpenFrame, open_of, opened_fields};
-ghost use Rattle.puffin_look.specs.inner.Listings.{AddsFrame, FailsToAdd, ListsAll, StopsListing};
+ghost use Rattle.puffin_look.specs.inner.Listings.{AddsFrame, FailsToAdd, ListsAll, StopsBehind, StopsListing};
 
 use puffin_data::data::{Drain, Source, write_all};
 use puffin_data::{Error, FileError, Result as Answer};
 use puffin_frames::frame_data::{FrameData, UnpackedFrameData};
-use puffin_threads::scope_details::ScopeDetails;
 use puffin_view::profile_view::{next_frame, read_magic};
 use std::alloc::Global;
 use std::sync::Arc;
@@ -32,17 +29,14 @@ pub(crate) trait Listing {
     /// Whether this frame is refused with this error in this state.
     ghost refuses: { Self → OpenFrame → Error → Type 0 };
 
-    /// Appends the text of the next frame, which lists these details.
-    fn add(&mut self, frame: &UnpackedFrameData, details: &[Arc<ScopeDetails>]) -> Answer<()>
-        requires ids { list_any lacks_id (shared_details details.now) ≡ false }
+    /// Appends the text of the next frame.
+    fn add(&mut self, frame: &UnpackedFrameData) -> Answer<()>
         ensures ok { OnOk result (
             (more : List ℕ)
             × (text self.new ≡ text self.old ++ more)
-            × takes self.old (open_of frame.now (shared_details details.now) ∷ []) more
-            self.new) }
+            × takes self.old (open_of frame.now ∷ []) more self.new) }
         ensures err { IfErr result (λ e.
-            (e ≡ Error.Memory)
-            ⊎ refuses self.old (open_of frame.now (shared_details details.now)) e) };
+            (e ≡ Error.Memory) ⊎ refuses self.old (open_of frame.now) e) };
 
     /// Returns the text that is still to be written.
     fn pending(&self) -> &[u8]
@@ -65,10 +59,9 @@ pub(crate) trait Listing {
 #[tactic(auto, using(puffin_frames::proofs::lemmas::FramesAgain::frame_again))]
 fn unpacked(frame: &mut FrameData) -> Result<Arc<UnpackedFrameData>, FileError>
     ensures ok { IfOk result (λ unpacked. opened_fields (packet_fields frame.old)
-        ≡ Ok (open_of (arc_value unpacked) (frame_details frame.old))) }
+        ≡ Ok (open_of (arc_value unpacked))) }
     ensures err { IfErr result (λ e.
         (e ≡ FileError.Memory) ⊎ (opened_fields (packet_fields frame.old) ≡ Err e)) }
-    ensures details { frame_details frame.new ≡ frame_details frame.old }
 {
     frame.unpacked()
 }
@@ -77,7 +70,6 @@ fn unpacked(frame: &mut FrameData) -> Result<Arc<UnpackedFrameData>, FileError>
 ///
 /// Fails with `Compressed` or `BadStreams` if it can't be unpacked, with `Refused` if the listing refuses it, and with `Memory`.
 fn add_frame<L: Listing>(listing: &mut L, frame: FrameData) -> Result<(), FileError>
-    requires ids { lacks_ids (packet_fields frame) ≡ false }
     ensures ok { OnOk result (
         AddsFrame L.text L.takes listing.old listing.new (opened_fields (packet_fields frame))) }
     ensures err { IfErr result (λ e.
@@ -86,11 +78,50 @@ fn add_frame<L: Listing>(listing: &mut L, frame: FrameData) -> Result<(), FileEr
 {
     let mut frame = frame;
     let unpacked = unpacked(&mut frame)?;
-    Ok(listing.add(&unpacked, &frame.scope_delta)?)
+    Ok(listing.add(&unpacked)?)
 }
 
-/// Prints all frames of a file, each as soon as it was read. What is pending at the beginning is written in front of them, once
-/// the file's letters were read.
+/// Prints the frames of a file whose letters were read, each as soon as it was read. What is pending at the beginning is written in
+/// front of them.
+pub(crate) fn list_behind<S: Source, D: Drain, L: Listing>(
+    alloc: Global,
+    source: &mut S,
+    drain: &mut D,
+    listing: &mut L,
+) -> Result<(), FileError>
+    requires source { CanFail S.failures source.old }
+    requires drain { CanFail D.failures drain.old }
+    ensures ok { OnOk result ((unread : Option (List ℕ)) →
+        HasGiven unread (S.remaining source.old) [] →
+        ListsAll L.text L.takes listing.old listing.new unread (S.remaining source.new)
+        (D.contents drain.old) (D.contents drain.new)) }
+    ensures err { IfErr result (λ e. (unread : Option (List ℕ)) →
+        HasGiven unread (S.remaining source.old) [] →
+        StopsBehind L.text L.takes L.refuses listing.old listing.new unread
+        (S.remaining source.new) (D.contents drain.old) (D.contents drain.new) e) }
+    // `Io` means that the reader or the writer failed in this call, or that the writer took no bytes.
+    ensures io { (result ≡ Err FileError.Io) → (S.failures source.new ≡ S.failures source.old + 1)
+        ⊎ ((D.failures drain.new ≡ D.failures drain.old + 1) ⊎ TookNothing D.takes drain.new) }
+    ensures failures { OnOk result (
+        (S.failures source.new ≡ S.failures source.old)
+        × (D.failures drain.new ≡ D.failures drain.old)) }
+    ensures drained { result ≢ Err FileError.Io → D.failures drain.new ≡ D.failures drain.old }
+{
+    write_all(drain, listing.pending())?;
+    listing.clear();
+    'frames: for _ in 0..u64::MAX {
+        let Some(frame) = next_frame(alloc, source)? else {
+            return Ok(());
+        };
+        add_frame(listing, frame)?;
+        write_all(drain, listing.pending())?;
+        listing.clear();
+    }
+    // The loop has returned, unless the file has more frames than any that is accepted.
+    Err(FileError::Truncated)
+}
+
+/// Prints all frames of a file, as [`list_behind`] does, once the file's letters were read.
 pub(crate) fn list_frames<S: Source, D: Drain, L: Listing>(
     alloc: Global,
     source: &mut S,
@@ -105,7 +136,6 @@ pub(crate) fn list_frames<S: Source, D: Drain, L: Listing>(
     ensures err { IfErr result (λ e.
         StopsListing L.text L.takes L.refuses listing.old listing.new (S.remaining source.old)
         (S.remaining source.new) (D.contents drain.old) (D.contents drain.new) e) }
-    // `Io` means that the reader or the writer failed in this call, or that the writer took no bytes.
     ensures io { (result ≡ Err FileError.Io) → (S.failures source.new ≡ S.failures source.old + 1)
         ⊎ ((D.failures drain.new ≡ D.failures drain.old + 1) ⊎ TookNothing D.takes drain.new) }
     ensures failures { OnOk result (
@@ -114,16 +144,5 @@ pub(crate) fn list_frames<S: Source, D: Drain, L: Listing>(
     ensures drained { result ≢ Err FileError.Io → D.failures drain.new ≡ D.failures drain.old }
 {
     read_magic(source)?;
-    write_all(drain, listing.pending())?;
-    listing.clear();
-    'frames: for _ in 0..u64::MAX {
-        let Some(frame) = next_frame(alloc, source)? else {
-            return Ok(());
-        };
-        add_frame(listing, frame)?;
-        write_all(drain, listing.pending())?;
-        listing.clear();
-    }
-    // The loop has returned, unless the file has more frames than any that is accepted.
-    Err(FileError::Truncated)
+    list_behind(alloc, source, drain, listing)
 }

@@ -1,10 +1,10 @@
 //! Appends JSON to a text: strings, and times in microseconds.
 
-ghost use Rattle.std.specs.Prelude.{◌≡◌, ◌++◌, ◌-ℤ◌, codes, OnOk};
+ghost use Rattle.std.specs.Prelude.{◌≡◌, ◌++◌, codes, OnOk};
 ghost use Rattle.std.specs.List.{list_all};
 ghost use Rattle.json.specs.Print.{quoted};
 ghost use Rattle.puffin_look.specs.inner.Events.{is_plain};
-ghost use Rattle.puffin_look.specs.Trace.{thousandths, micros};
+ghost use Rattle.puffin_look.specs.Trace.{thousandths, since};
 
 use crate::text::push_number;
 use json::Writer;
@@ -75,26 +75,21 @@ fn push_thousandths(text: &mut Vec<u8>, number: u64) -> Result<(), AllocError>
     text.extend_from_slice(&digits)
 }
 
-/// Appends the time between two moments, in microseconds.
-fn push_time_between(text: &mut Vec<u8>, from: NanoSecond, to: NanoSecond) -> Result<(), AllocError>
-    ensures { OnOk result (text.new.items ≡ text.old.items ++ micros (to -ℤ from)) }
+/// Returns how long a moment is after the origin, or 0 if it is before it.
+pub(crate) fn since(origin: NanoSecond, time: NanoSecond) -> u64
+    ensures { result ≡ since origin time }
 {
-    if to < from {
-        text.extend_from_slice(b"-")?;
+    if time < origin {
+        0
+    } else {
+        time.abs_diff(origin)
     }
-    push_thousandths(text, to.abs_diff(from))
 }
 
-/// Appends a label and then the time between two moments, in microseconds.
-pub(crate) fn push_micros(
-    text: &mut Vec<u8>,
-    label: &[u8],
-    from: NanoSecond,
-    to: NanoSecond,
-) -> Result<(), AllocError>
-    ensures { OnOk result (
-        text.new.items ≡ text.old.items ++ (label.now ++ micros (to -ℤ from))) }
+/// Appends a label and then a time in nanoseconds, as microseconds.
+pub(crate) fn push_micros(text: &mut Vec<u8>, label: &[u8], time: u64) -> Result<(), AllocError>
+    ensures { OnOk result (text.new.items ≡ text.old.items ++ (label.now ++ thousandths time)) }
 {
     text.extend_from_slice(label)?;
-    push_time_between(text, from, to)
+    push_thousandths(text, time)
 }

@@ -1,6 +1,6 @@
 //! Lists the slowest frames of a file.
 
-ghost use Rattle.std.specs.Prelude.{◌≡◌, ◌++◌, ◌+◌, ◌<◌, ◌⊎◌, ◌≤◌, length, insert, take, position, [], OnOk, IfOk, IfErr};
+ghost use Rattle.std.specs.Prelude.{◌≡◌, ◌++◌, ◌+◌, ◌<◌, ◌⊎◌, ◌≤◌, length, insert, take, position, OnOk, IfOk, IfErr};
 ghost use Rattle.std.specs.List.{flat_map};
 ghost use Rattle.puffin_data.specs.Device.{CanFail, TookNothing};
 ghost use Rattle.puffin_look.specs.OpenFrame.{open_of};
@@ -12,9 +12,7 @@ use crate::listing::{Listing, list_frames};
 use puffin_data::data::{Drain, Source, write_all};
 use puffin_data::{FileError, FrameIndex, NanoSecond, Result as Answer};
 use puffin_frames::frame_data::UnpackedFrameData;
-use puffin_threads::scope_details::ScopeDetails;
 use std::alloc::{AllocError, Global};
-use std::sync::Arc;
 
 /// What the line of a frame has of it.
 #[derive(Clone, Copy, Debug)]
@@ -29,7 +27,7 @@ pub(crate) struct Row {
 impl Row {
     /// Returns the row of a frame.
     fn new(frame: &UnpackedFrameData) -> Row
-        ensures { result ≡ row_of (open_of frame.now []) }
+        ensures { result ≡ row_of (open_of frame.now) }
     {
         Row {
             index: frame.meta.frame_index,
@@ -101,7 +99,7 @@ impl Listing for Slowest {
 
     ghost takes_more = { rows_more };
 
-    fn add(&mut self, frame: &UnpackedFrameData, _details: &[Arc<ScopeDetails>]) -> Answer<()> {
+    fn add(&mut self, frame: &UnpackedFrameData) -> Answer<()> {
         self.add_row(Row::new(frame))?;
         Ok(())
     }

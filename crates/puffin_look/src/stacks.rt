@@ -7,7 +7,6 @@ ghost use Rattle.puffin_data.specs.Forest.{Forest};
 ghost use Rattle.puffin_data.specs.Forest.Spelling.{Spells};
 ghost use Rattle.puffin_data.specs.Honesty.{facts_of};
 ghost use Rattle.puffin_data.specs.Walk.{IsFault};
-ghost use Rattle.puffin_threads.specs.Details.Collection.{no_details};
 ghost use Rattle.puffin_look.specs.Folded.{shown_byte, label, front, below, parts_at, forest_parts};
 ghost use Rattle.puffin_look.specs.inner.Stacks.{no_times, times_with, with_part, rows_in, rows_of, path_at, HasMoreParts};
 
@@ -56,18 +55,18 @@ impl Times {
     }
 }
 
-/// Returns a byte, or `_` for a control character or a `;`.
+/// Returns a byte, or `_` for a control character, a blank or a `;`.
 fn shown(byte: u8) -> u8
     ensures { result ≡ shown_byte byte }
 {
-    if byte < 32 || byte == b';' || byte == 127 {
+    if byte < 33 || byte == b';' || byte == 127 {
         b'_'
     } else {
         byte
     }
 }
 
-/// Appends a name, with a `_` in place of each control character and each `;`.
+/// Appends a name, with a `_` in place of each control character, each blank and each `;`.
 fn push_shown(text: &mut Vec<u8>, name: &[u8]) -> Result<(), AllocError>
     ensures { OnOk result (text.new.items ≡ text.old.items ++ map shown_byte name.now) }
 {
@@ -150,22 +149,22 @@ fn add_time(
 
 /// The times of the paths so far, in the order in which they were met, and what the next ones depend on.
 #[derive(Drop)]
-pub(crate) struct Stacks {
+pub(crate) struct Stacks<'k> {
     pub rows: IndexMap<Vec<u8>, Times>,
-    pub known: ScopeCollection,
+    pub known: &'k ScopeCollection,
     /// The path of the scope that was met last.
     pub path: Vec<u8>,
 }
 
-impl Stacks {
-    /// Returns the stacks of no scopes.
-    pub(crate) fn new(alloc: Global) -> Stacks
+impl<'k> Stacks<'k> {
+    /// Returns the stacks of no scopes, whose names are by these details.
+    pub(crate) fn new(alloc: Global, known: &'k ScopeCollection) -> Stacks<'k>
         ensures rows { rows_of result ≡ [] }
-        ensures known { result.known ≡ no_details }
+        ensures known { result.known.now ≡ known.now }
     {
         Stacks {
             rows: IndexMap::new(alloc),
-            known: ScopeCollection::new(alloc),
+            known,
             path: Vec::new(alloc),
         }
     }
@@ -175,13 +174,13 @@ impl Stacks {
         requires { 0 < id }
         ensures path { OnOk result (
             self.new.path.items
-            ≡ below (path_at (rows_of self.old) outer) (label self.old.known id)) }
+            ≡ below (path_at (rows_of self.old) outer) (label self.old.known.now id)) }
         ensures rows { OnOk result (self.new.rows ≡ self.old.rows) }
         ensures known { OnOk result (self.new.known ≡ self.old.known) }
     {
         self.path.clear();
         push_outer(&mut self.path, &self.rows, outer)?;
-        push_label(&mut self.path, &self.known, id)
+        push_label(&mut self.path, self.known, id)
     }
 
     /// Adds the duration of a scope to its path, and to what is nested in the path at the place `outer`.
@@ -191,10 +190,10 @@ impl Stacks {
             (path : List ℕ) × (slice_get (keys_of (rows_of self.old)) i ≡ Some path)) }
         ensures added { OnOk result (
             HasMoreParts self.old self.new (
-            parts_at (path_at (rows_of self.old) outer) (label self.old.known id) time)) }
+            parts_at (path_at (rows_of self.old) outer) (label self.old.known.now id) time)) }
         ensures place { IfOk result (λ place.
             path_at (rows_of self.new) (Some place)
-            ≡ Some (below (path_at (rows_of self.old) outer) (label self.old.known id))) }
+            ≡ Some (below (path_at (rows_of self.old) outer) (label self.old.known.now id))) }
     {
         self.set_path(outer, id)?;
         let alloc = *self.path.allocator();
@@ -209,7 +208,7 @@ impl Stacks {
     pub(crate) fn add_stream(&mut self, info: &StreamInfo) -> Answer<()>
         ensures ok { OnOk result ((f : Forest)
             × Spells (facts_of info.now).form (facts_of info.now).bytes f
-            × HasMoreParts self.old self.new (forest_parts self.old.known f)) }
+            × HasMoreParts self.old self.new (forest_parts self.old.known.now f)) }
         ensures err { IfErr result (λ e.
             (e ≡ Error.Memory) ⊎ IsFault (facts_of info.now).form (facts_of info.now).bytes e) }
     {
@@ -220,7 +219,7 @@ impl Stacks {
     }
 }
 
-impl<'s> Visitor<'s> for Stacks {
+impl<'s, 'k> Visitor<'s> for Stacks<'k> {
     ghost use Rattle.puffin_look.specs.inner.Stacks.{TakesScopes, StandsFor, scopes_none, scopes_more, still_stands};
 
     /// The place of an open scope's path.

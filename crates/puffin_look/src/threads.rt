@@ -10,17 +10,16 @@ ghost use Rattle.puffin_look.specs.Printed.{IsPrinted, IsStopped, RefusesNone};
 ghost use Rattle.puffin_look.specs.inner.Taken.{fails_outside};
 ghost use Rattle.puffin_look.specs.ThreadLines.{no_totals, totals_with, with_stream, start_text, thread_text, totals_text, thread_line, AreThreadLines};
 
+use crate::escapes::push_escaped;
 use crate::frames::push_range;
 use crate::listing::{Listing, list_frames};
 use crate::text::{push_count, push_time};
 use puffin_data::data::{Drain, Source, StreamInfo, write_all};
 use puffin_data::{Error, FileError, NanoSecond, Result as Answer};
 use puffin_frames::frame_data::UnpackedFrameData;
-use puffin_threads::scope_details::ScopeDetails;
 use puffin_threads::thread_profiler::ThreadInfo;
 use std::alloc::{AllocError, Global};
 use std::collections::BTreeMap;
-use std::sync::Arc;
 
 /// What the frames of a file have of one thread. A sum that doesn't fit `u64` is `u64::MAX`.
 #[derive(Clone, Copy, Debug)]
@@ -64,8 +63,8 @@ impl ThreadTotals {
 
 /// The totals of all threads.
 #[derive(Drop)]
-struct Threads {
-    totals: BTreeMap<ThreadInfo, ThreadTotals>,
+pub(crate) struct Threads {
+    pub totals: BTreeMap<ThreadInfo, ThreadTotals>,
 }
 
 impl Threads {
@@ -107,7 +106,7 @@ impl Listing for Threads {
 
     ghost takes_more = { totals_more };
 
-    fn add(&mut self, frame: &UnpackedFrameData, _details: &[Arc<ScopeDetails>]) -> Answer<()> {
+    fn add(&mut self, frame: &UnpackedFrameData) -> Answer<()> {
         'streams: for (thread, info) in frame.thread_streams.iter() {
             self.add_stream(thread, info)?;
         }
@@ -132,14 +131,14 @@ pub(crate) fn push_start(text: &mut Vec<u8>, thread: &ThreadInfo) -> Result<(), 
     }
 }
 
-/// Appends a thread as `report` takes it.
+/// Appends a thread as `report` takes it, with escapes for control characters.
 pub(crate) fn push_thread(text: &mut Vec<u8>, thread: &ThreadInfo) -> Result<(), AllocError>
     ensures { OnOk result (
         text.new.items ≡ text.old.items ++ thread_text (key_of thread.now)) }
 {
     push_start(text, thread)?;
     text.extend_from_slice(b":")?;
-    text.extend_from_slice(thread.name.as_bytes())
+    push_escaped(text, thread.name.as_bytes())
 }
 
 /// Appends a thread's totals.
@@ -196,7 +195,7 @@ pub(crate) fn fails_outside(answer: &Result<(), FileError>) -> bool
 }
 
 /// Prints a line for each thread of a file, in the order of the threads: its frames, scopes, bytes, first start and last stop,
-/// and `START:NAME` as [`report`](puffin_report::print_report) takes it. Times are in nanoseconds.
+/// and `START:NAME` as [`report`](puffin_report::print_report) takes it, with escapes for control characters. Times are in nanoseconds.
 ///
 /// Fails with the first fault of the file, as [`FrameReader::next`](puffin_view::profile_view::FrameReader::next) does, or with
 /// `Compressed` or `BadStreams` for a frame that can't be unpacked. The lines of the threads in the frames before it are then

@@ -1,37 +1,38 @@
 //! Writes a file as a trace that other tools draw.
 
-ghost use Rattle.std.specs.Prelude.{◌≡◌, false, None, codes, IsOkUnless, ◌++◌, ◌+◌, ◌⊎◌, OnOk, IfOk, IfErr};
+ghost use Rattle.std.specs.Prelude.{◌≡◌, None, codes, IsOkUnless, ◌++◌, ◌+◌, ◌⊎◌, OnOk, IfOk, IfErr};
 ghost use Rattle.std.specs.FinMap as map;
 ghost use Rattle.puffin_data.specs.declared.error.Error.{Error};
-ghost use Rattle.std.specs.List.{list_any};
 ghost use Rattle.puffin_data.specs.Honesty.{facts_of};
 ghost use Rattle.puffin_data.specs.Walk.{IsFault};
 ghost use Rattle.puffin_data.specs.Device.{CanFail, TookNothing};
-ghost use Rattle.puffin_threads.specs.Details.{lacks_id, shared_details};
 ghost use Rattle.puffin_threads.specs.Thread.ThreadKey.{by_key, key_of};
-ghost use Rattle.puffin_look.specs.Printed.{IsPrinted, IsStopped, IsCutOff};
+ghost use Rattle.puffin_look.specs.Printed.{IsPrinted, IsStopped};
 ghost use Rattle.puffin_look.specs.Trees.{RefusesUnread, all_streams};
 ghost use Rattle.puffin_look.specs.ThreadLines.{start_text};
-ghost use Rattle.puffin_look.specs.Trace.{frame_event, thread_event, number_of, trace_head, untraced, IsOpenTrace, IsTrace};
-ghost use Rattle.puffin_look.specs.inner.Tracings.{tracing_of, NumbersThread, AddsThread, AddsStream, BeginsFrame};
+ghost use Rattle.puffin_look.specs.Trace.{frame_event, thread_event, number_of, trace_head, IsTrace};
+ghost use Rattle.puffin_look.specs.inner.Tracings.{numbers_of, NumbersThread, AddsThread, AddsStream};
 
 use crate::events::Events;
-use crate::listing::{Listing, list_frames};
-use crate::quoting::{push_member, push_micros};
+use crate::listing::{Listing, list_behind};
+use crate::overview::Overview;
+use crate::quoting::{push_member, push_micros, since};
 use crate::text::{push_count, push_moment};
-use crate::threads::push_start;
+use crate::threads::{fails_outside, push_start};
 use puffin_data::data::{Drain, Source, StreamInfo, write_all};
 use puffin_data::{FileError, NanoSecond, Result as Answer};
 use puffin_frames::frame_data::{FrameMeta, UnpackedFrameData};
-use puffin_threads::scope_details::{ScopeCollection, ScopeDetails};
 use puffin_threads::thread_profiler::ThreadInfo;
+use puffin_view::profile_view::read_magic;
 use std::alloc::{AllocError, Global};
 use std::collections::BTreeMap;
-use std::sync::Arc;
+
+/// What comes before the events.
+const TRACE_BEGIN: &[u8] = b"{\"displayTimeUnit\":\"ns\",\"traceEvents\":[\n";
 
 /// The first event, which names the process.
-const TRACE_HEAD: &[u8] =
-    b"[{\"ph\":\"M\",\"pid\":1,\"name\":\"process_name\",\"args\":{\"name\":\"puffin\"}}";
+const PROCESS_EVENT: &[u8] =
+    b"{\"ph\":\"M\",\"pid\":1,\"name\":\"process_name\",\"args\":{\"name\":\"puffin\"}}";
 
 /// Appends a frame's event.
 fn push_frame(text: &mut Vec<u8>, origin: NanoSecond, meta: &FrameMeta) -> Result<(), AllocError>
@@ -42,13 +43,12 @@ fn push_frame(text: &mut Vec<u8>, origin: NanoSecond, meta: &FrameMeta) -> Resul
     push_micros(
         text,
         b",\n{\"ph\":\"i\",\"s\":\"p\",\"pid\":1,\"tid\":0,\"ts\":",
-        origin,
-        start,
+        since(origin, start),
     )?;
     push_count(text, b",\"name\":\"frame ", meta.frame_index)?;
-    push_moment(text, b"\",\"args\":{\"start\":", start)?;
-    push_moment(text, b",\"stop\":", stop)?;
-    text.extend_from_slice(b"}}")
+    push_moment(text, b"\",\"args\":{\"start\":\"", start)?;
+    push_moment(text, b"\",\"stop\":\"", stop)?;
+    text.extend_from_slice(b"\"}}")
 }
 
 /// Appends a thread's start behind its label.
@@ -77,15 +77,13 @@ fn push_thread_event(text: &mut Vec<u8>, tid: u64, thread: &ThreadInfo) -> Resul
 
 /// The trace so far.
 #[derive(Drop)]
-struct Trace {
-    events: Events,
+struct Trace<'o> {
+    events: Events<'o>,
     /// The numbers of the threads that were met.
     numbers: BTreeMap<ThreadInfo, u64>,
-    /// When the first frame began.
-    origin: Option<NanoSecond>,
 }
 
-impl Trace {
+impl<'o> Trace<'o> {
     /// Returns the number of a thread, if it was met.
     fn number_under(&self, thread: &ThreadInfo) -> Option<u64>
         ensures { result ≡ map.get (by_key self.now.numbers.entries) (key_of thread.now) }
@@ -130,24 +128,9 @@ impl Trace {
         self.events.tid = self.number(thread)?;
         self.events.add_stream(info)
     }
-
-    /// Appends the event of a frame, whose details are then known.
-    fn begin_frame(&mut self, meta: &FrameMeta, details: &[Arc<ScopeDetails>]) -> Answer<()>
-        requires ids { list_any lacks_id (shared_details details.now) ≡ false }
-        ensures ok { OnOk result (
-            BeginsFrame self.old self.new meta.now (shared_details details.now)) }
-        ensures memory { IsOkUnless result Error.Memory }
-    {
-        let origin = self.origin.unwrap_or(meta.range_ns.0);
-        self.origin = Some(origin);
-        self.events.origin = origin;
-        self.events.known.insert_all(details)?;
-        push_frame(&mut self.events.text, origin, meta)?;
-        Ok(())
-    }
 }
 
-impl Listing for Trace {
+impl<'o> Listing for Trace<'o> {
     ghost use Rattle.puffin_look.specs.inner.Tracings.{TakesTrace, RefusesFrame, trace_none, trace_more};
 
     ghost text = { λ v. v.events.text.items };
@@ -160,8 +143,9 @@ impl Listing for Trace {
 
     ghost takes_more = { trace_more };
 
-    fn add(&mut self, frame: &UnpackedFrameData, details: &[Arc<ScopeDetails>]) -> Answer<()> {
-        self.begin_frame(&frame.meta, details)?;
+    fn add(&mut self, frame: &UnpackedFrameData) -> Answer<()> {
+        let origin = self.events.overview.start;
+        push_frame(&mut self.events.text, origin, &frame.meta)?;
         'streams: for (thread, info) in frame.thread_streams.iter() {
             self.add_stream(thread, info)?;
         }
@@ -178,47 +162,46 @@ impl Listing for Trace {
 }
 
 /// Returns the trace of no frames.
-fn no_trace(alloc: Global) -> Result<Trace, AllocError>
+fn no_trace(alloc: Global, overview: &Overview) -> Result<Trace<'_>, AllocError>
     ensures text { IfOk result (λ trace. trace.events.text.items ≡ trace_head) }
-    ensures none { IfOk result (λ trace. tracing_of trace ≡ untraced) }
+    ensures none { IfOk result (λ trace. numbers_of trace ≡ map.empty) }
+    ensures overview { IfOk result (λ trace. trace.events.overview.now ≡ overview.now) }
 {
     let mut text = Vec::new(alloc);
-    text.extend_from_slice(TRACE_HEAD)?;
+    text.extend_from_slice(TRACE_BEGIN)?;
+    text.extend_from_slice(PROCESS_EVENT)?;
     Ok(Trace {
         events: Events {
             text,
-            known: ScopeCollection::new(alloc),
+            overview,
             tid: 0,
-            origin: 0,
         },
         numbers: BTreeMap::new(alloc),
-        origin: None,
     })
 }
 
-/// Writes the scopes of a file as a trace in the Trace Event Format, which viewers of traces open: a JSON array of events, one a
-/// line, as `docs/FORMAT.md` lists them. Each frame is written as soon as it was read.
+/// Writes the scopes of a file as a trace in the Trace Event Format, which viewers of traces open: a JSON object with an array of
+/// events, one a line, as `docs/FORMAT.md` lists them. Each frame is written as soon as it was read. Names are by the details of the
+/// [overview](crate::read_overview), and times count from its start; what is before that is at 0.
 ///
 /// Fails with the first fault of the file, as [`FrameReader::next`](puffin_view::profile_view::FrameReader::next) does, with
 /// `Compressed` or `BadStreams` for a frame that can't be unpacked, or with `Refused` for one with a stream whose bytes aren't
-/// scopes. The events of the frames before it are then printed, and the array isn't closed. Fails with `Memory`, or with `Io` if a
-/// read or a write fails, and then a prefix of the events of some first frames is written.
+/// scopes. The trace of the frames before it is then written, or nothing if the file has no letters. Fails with `Memory`, or with
+/// `Io` if a read or a write fails, and then a prefix of the trace of some first frames is written.
 pub fn print_trace<S: Source, D: Drain>(
     alloc: Global,
+    overview: &Overview,
     source: &mut S,
     drain: &mut D,
 ) -> Result<(), FileError>
     requires source { CanFail S.failures source.old }
     requires drain { CanFail D.failures drain.old }
     ensures ok { OnOk result (
-        IsPrinted IsTrace (S.remaining source.old) (S.remaining source.new)
+        IsPrinted (IsTrace overview.now) (S.remaining source.old) (S.remaining source.new)
         (D.contents drain.old) (D.contents drain.new)) }
     ensures err { IfErr result (λ e.
-        IsStopped IsOpenTrace (RefusesUnread all_streams) (S.remaining source.old)
-        (S.remaining source.new) (D.contents drain.old) (D.contents drain.new) e
-        ⊎ ((e ≡ FileError.Io)
-        × IsCutOff IsTrace (S.remaining source.old) (S.remaining source.new)
-        (D.contents drain.old) (D.contents drain.new))) }
+        IsStopped (IsTrace overview.now) (RefusesUnread all_streams) (S.remaining source.old)
+        (S.remaining source.new) (D.contents drain.old) (D.contents drain.new) e) }
     // `Io` means that the reader or the writer failed in this call, or that the writer took no bytes.
     ensures io { (result ≡ Err FileError.Io) → (S.failures source.new ≡ S.failures source.old + 1)
         ⊎ ((D.failures drain.new ≡ D.failures drain.old + 1) ⊎ TookNothing D.takes drain.new) }
@@ -226,7 +209,12 @@ pub fn print_trace<S: Source, D: Drain>(
         (S.failures source.new ≡ S.failures source.old)
         × (D.failures drain.new ≡ D.failures drain.old)) }
 {
-    let mut trace = no_trace(alloc)?;
-    list_frames(alloc, source, drain, &mut trace)?;
-    write_all(drain, b"\n]\n")
+    let mut trace = no_trace(alloc, overview)?;
+    read_magic(source)?;
+    let answer = list_behind(alloc, source, drain, &mut trace);
+    if fails_outside(&answer) {
+        return answer;
+    }
+    write_all(drain, b"\n]}\n")?;
+    answer
 }

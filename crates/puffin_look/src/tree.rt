@@ -9,12 +9,14 @@ ghost use Rattle.puffin_data.specs.Honesty.{facts_of};
 ghost use Rattle.puffin_data.specs.Walk.{IsFault};
 ghost use Rattle.puffin_data.specs.Walk.FoundScopes.{found_of};
 ghost use Rattle.puffin_threads.specs.Thread.ThreadKey.{key_of};
+ghost use Rattle.puffin_look.specs.Escapes.{escaped};
 ghost use Rattle.puffin_look.specs.Names.{name_or_id};
 ghost use Rattle.puffin_look.specs.ThreadLines.{thread_text};
 ghost use Rattle.puffin_look.specs.FrameTree.{nested_line, length_of, forest_lines, tree_text};
 ghost use Rattle.puffin_look.specs.inner.TreeLines.{HasMoreLines};
 
 use crate::columns::{push_indent, push_numbers, push_text};
+use crate::escapes::push_escaped;
 use crate::names::{details_under, number_name};
 use crate::threads::push_thread;
 use puffin_data::data::{RawScope, StreamInfo, Visitor, text_of, walk_with};
@@ -27,13 +29,13 @@ use std::alloc::AllocError;
 fn push_name(text: &mut Vec<u8>, known: &ScopeCollection, id: u32) -> Result<(), AllocError>
     requires { 0 < id }
     ensures { OnOk result (text.new.items
-        ≡ text.old.items ++ name_or_id id (map.get known.now.by_id id)) }
+        ≡ text.old.items ++ escaped (name_or_id id (map.get known.now.by_id id))) }
 {
     match details_under(known, id) {
-        Some(details) => text.extend_from_slice(details.name().as_str().as_bytes()),
+        Some(details) => push_escaped(text, details.name().as_str().as_bytes()),
         None => {
             let name = number_name(*text.allocator(), id)?;
-            text.extend_from_slice(name.as_str().as_bytes())
+            push_escaped(text, name.as_str().as_bytes())
         }
     }
 }
@@ -67,14 +69,14 @@ fn push_scope(
 
 /// The lines that are still to be written, and what the next ones depend on.
 #[derive(Drop)]
-pub(crate) struct Lines {
+pub(crate) struct Lines<'k> {
     pub text: Vec<u8>,
-    pub known: ScopeCollection,
+    pub known: &'k ScopeCollection,
     /// The range of the frame whose scopes are met.
     pub range_ns: (NanoSecond, NanoSecond),
 }
 
-impl<'s> Visitor<'s> for Lines {
+impl<'s, 'k> Visitor<'s> for Lines<'k> {
     ghost use Rattle.puffin_look.specs.inner.TreeLines.{TakesScopes, StandsFor, scopes_none, scopes_more, still_stands};
 
     type Within = Outer;
@@ -92,7 +94,7 @@ impl<'s> Visitor<'s> for Lines {
     ghost still_stands = { still_stands };
 
     fn enter(&mut self, within: Outer, scope: &RawScope<'s>) -> Answer<Outer> {
-        push_scope(&mut self.text, &self.known, self.range_ns.0, within, scope)?;
+        push_scope(&mut self.text, self.known, self.range_ns.0, within, scope)?;
         Ok(Outer {
             level: within.level + 1,
             time: scope.stop.abs_diff(scope.start),
@@ -100,7 +102,7 @@ impl<'s> Visitor<'s> for Lines {
     }
 }
 
-impl Lines {
+impl<'k> Lines<'k> {
     /// Appends a thread's line.
     fn push_head(&mut self, thread: &ThreadInfo) -> Result<(), AllocError>
         ensures { OnOk result (HasMoreLines self.old self.new
@@ -127,7 +129,7 @@ impl Lines {
         ensures ok { OnOk result ((f : Forest)
             × Spells (facts_of info.now).form (facts_of info.now).bytes f
             × HasMoreLines self.old self.new
-            (tree_text self.old.known self.old.range_ns (key_of thread.now, f))) }
+            (tree_text self.old.known.now self.old.range_ns (key_of thread.now, f))) }
         ensures err { IfErr result (λ e.
             (e ≡ Error.Memory) ⊎ IsFault (facts_of info.now).form (facts_of info.now).bytes e) }
     {
@@ -140,7 +142,7 @@ impl Lines {
         ensures ok { OnOk result ((f : Forest)
             × Spells (facts_of info.now).form (facts_of info.now).bytes f
             × HasMoreLines self.old self.new
-            (forest_lines self.old.known self.old.range_ns f)) }
+            (forest_lines self.old.known.now self.old.range_ns f)) }
         ensures err { IfErr result (λ e.
             (e ≡ Error.Memory) ⊎ IsFault (facts_of info.now).form (facts_of info.now).bytes e) }
     {

@@ -2,28 +2,83 @@
 //! folded stacks.
 #![tactic(auto)]
 
-use puffin_data::FileError;
+ghost use Rattle.std.specs.Prelude.{◌<◌, ◌^◌, ◌-◌, IfOk};
+ghost use Rattle.puffin_data.specs.Device.Counting.{failed_reads};
+
+mod skimmed;
+
+use crate::skimmed::Skimmed;
 use puffin_data::data::{Buffered, Counted};
+use puffin_data::{FileError, FrameIndex};
 use puffin_look::{
-    View, print_folded, print_frame, print_frames, print_slowest, print_threads, print_trace,
-    read_words,
+    Overview, View, print_folded, print_frame, print_frames, print_slowest, print_threads,
+    print_trace, read_overview, read_words, threads_named,
 };
+use puffin_threads::thread_profiler::ThreadInfo;
 use std::fs::File;
-use std::io::BufReader;
+use std::io::{BufReader, Seek, SeekFrom};
 use std::process::ExitCode;
 use std::{env, io};
 
 /// How many bytes of a file are read ahead.
 const READ_AHEAD: usize = 65_536;
 
-/// Why the program failed.
-enum LookFault {
-    /// The arguments aren't a request.
-    Words,
+/// What `--help` prints.
+const HELP: &str = "puffin-look shows what is in a file of frames.
+
+  puffin-look threads FILE               its threads, with their scopes, bytes and times
+  puffin-look frames FILE                its frames, with their threads, scopes and times
+  puffin-look frames FILE N              the N slowest frames, the slowest first
+  puffin-look frame FILE INDEX [THREAD]  a frame as a tree of scopes
+  puffin-look trace FILE                 a trace, for ui.perfetto.dev, chrome://tracing and speedscope.app
+  puffin-look folded FILE [THREAD]       folded stacks, for flamegraph.pl
+  puffin-look --help, --version          this text; the version
+
+THREAD is START:NAME as `threads` lists it, or a name that only one thread has.";
+
+/// What `--version` prints.
+const VERSION: &str = "puffin-look 0.20.0";
+
+/// What is told of words that are no request.
+const USAGE: &str =
+    "usage: puffin-look threads FILE | frames FILE [N] | frame FILE INDEX [THREAD] | trace FILE | folded FILE [THREAD]";
+
+/// The status of a tool that writes to a pipe that nobody reads any more, as a shell tells it.
+const UNREAD: u8 = 141;
+
+/// The name of standard output in faults.
+const OUTPUT: &str = "standard output";
+
+/// What is wrong with a file, or with standard output.
+#[derive(Clone, Copy)]
+enum Cause<'w> {
+    /// The system failed.
+    System(io::Error),
     /// Reading or writing failed with this error.
     File(FileError),
-    /// The file has no such frame or thread.
-    NotFound,
+    /// The file has no frame with this index.
+    NoFrame(FrameIndex),
+    /// The file has no thread that this word names.
+    NoThread(&'w str),
+    /// Several threads have this name.
+    ManyThreads(&'w str),
+    /// The frame with this index has no scopes of the thread that this word names.
+    NotInFrame(FrameIndex, &'w str),
+    /// The file can't be read a second time.
+    ReadOnce,
+}
+
+/// Why the program failed.
+#[derive(Clone, Copy)]
+enum LookFault<'w> {
+    /// The arguments aren't a request.
+    Words,
+    /// There is no memory for the arguments.
+    Memory,
+    /// Nobody reads standard output any more.
+    Unread,
+    /// This is wrong with what has this name.
+    At(&'w str, Cause<'w>),
 }
 
 /// Opens three files, which take the places of standard input, output and error if those are closed, so that no file opened
@@ -33,88 +88,255 @@ fn placeholders(rt: &HostRuntime) -> [io::Result<File>; 3] {
     [(); 3].map(|_| File::open(rt, "/dev/null"))
 }
 
-/// Returns the fault of a failed call.
-fn fault_of(error: &io::Error) -> LookFault {
-    match error.kind() {
-        io::ErrorKind::OutOfMemory => LookFault::File(FileError::Memory),
-        _ => LookFault::File(FileError::Io),
-    }
-}
-
 /// Returns the program's arguments. Fails if one isn't text, or with `Memory`.
-fn words(rt: &HostRuntime) -> Result<Vec<String>, LookFault> {
+fn words(rt: &HostRuntime) -> Result<Vec<String>, LookFault<'static>> {
     let mut words = Vec::new(rt.alloc());
     let args = match env::args(rt) {
         Ok(args) => args,
-        Err(error) if error.kind() == io::ErrorKind::OutOfMemory => return Err(fault_of(&error)),
+        Err(error) if error.kind() == io::ErrorKind::OutOfMemory => return Err(LookFault::Memory),
         Err(_) => return Err(LookFault::Words),
     };
     for word in args.skip(1) {
         if words.push(word).is_err() {
-            return Err(LookFault::File(FileError::Memory));
+            return Err(LookFault::Memory);
         }
     }
     Ok(words)
 }
 
-/// Opens a file that is read ahead, so that small packets take few system calls.
-fn read_ahead(rt: &HostRuntime, path: &str) -> io::Result<BufReader<File>> {
-    BufReader::with_capacity(rt.alloc(), READ_AHEAD, File::open(rt, path)?)
+/// A file that is read ahead, so that small packets take few system calls.
+type Reader<'f> = Buffered<BufReader<&'f File>>;
+
+/// Opens the file at a path.
+fn open<'w>(rt: &HostRuntime, path: &'w str) -> Result<File, LookFault<'w>> {
+    match File::open(rt, path) {
+        Ok(file) => Ok(file),
+        Err(error) => Err(LookFault::At(path, Cause::System(error))),
+    }
+}
+
+/// Reads a file from where it stands.
+fn reader<'f, 'w>(
+    rt: &HostRuntime,
+    path: &'w str,
+    file: &'f File,
+) -> Result<Reader<'f>, LookFault<'w>>
+    ensures { IfOk result (λ reader. failed_reads reader < 2 ^ 64 - 1) }
+{
+    match BufReader::with_capacity(rt.alloc(), READ_AHEAD, file) {
+        Ok(file) => Ok(Buffered::new(file)),
+        Err(error) => Err(LookFault::At(path, Cause::System(error))),
+    }
+}
+
+/// Goes back to a file's first byte.
+fn rewind<'w>(path: &'w str, file: &File) -> Result<(), LookFault<'w>> {
+    let mut file = file;
+    match file.seek(SeekFrom::Start(0)) {
+        Ok(_) => Ok(()),
+        Err(_) => Err(LookFault::At(path, Cause::ReadOnce)),
+    }
+}
+
+/// Returns the thread that a word names in a file, which is then read again.
+fn thread_in<'w>(
+    rt: &HostRuntime,
+    path: &'w str,
+    file: &File,
+    word: &'w str,
+) -> Result<ThreadInfo, LookFault<'w>> {
+    rewind(path, file)?;
+    let mut source = reader(rt, path, file)?;
+    let mut found = match threads_named(rt.alloc(), &mut source, word) {
+        Ok(found) => found,
+        Err(error) => return Err(fault_of(path, error, source.last_error(), None)),
+    };
+    rewind(path, file)?;
+    match (found.pop(), found.is_empty()) {
+        (Some(thread), true) => Ok(thread),
+        (Some(_), false) => Err(LookFault::At(path, Cause::ManyThreads(word))),
+        (None, _) => Err(LookFault::At(path, Cause::NoThread(word))),
+    }
+}
+
+/// Returns the fault of a call that read the file and wrote to standard output.
+fn fault_of<'w>(
+    path: &'w str,
+    error: FileError,
+    read: Option<io::Error>,
+    written: Option<io::Error>,
+) -> LookFault<'w> {
+    match (error, read, written) {
+        (FileError::Io, Some(error), _) => LookFault::At(path, Cause::System(error)),
+        (FileError::Io, None, Some(error)) if error.kind() == io::ErrorKind::BrokenPipe => {
+            LookFault::Unread
+        }
+        (FileError::Io, None, Some(error)) => LookFault::At(OUTPUT, Cause::System(error)),
+        (FileError::Io, None, None) => LookFault::At(OUTPUT, Cause::File(error)),
+        _ => LookFault::At(path, Cause::File(error)),
+    }
+}
+
+/// Reads what all frames of a file say together. The file is then read again.
+fn first_reading<'w>(
+    rt: &HostRuntime,
+    path: &'w str,
+    file: &File,
+) -> Result<Overview, LookFault<'w>> {
+    rewind(path, file)?;
+    let mut source = match Skimmed::new(rt.alloc(), file) {
+        Ok(source) => source,
+        Err(error) => return Err(LookFault::At(path, Cause::System(error))),
+    };
+    let overview = match read_overview(rt.alloc(), &mut source) {
+        Ok(overview) => overview,
+        Err(error) => return Err(fault_of(path, error, source.last_error(), None)),
+    };
+    rewind(path, file)?;
+    Ok(overview)
+}
+
+/// Prints a list, which is read once.
+fn list<'w>(
+    rt: &HostRuntime,
+    view: View<'w>,
+    path: &'w str,
+    file: &File,
+) -> Result<(), LookFault<'w>> {
+    let mut source = reader(rt, path, file)?;
+    let mut out = Counted::new(rt.stdout());
+    let printed = match view {
+        View::Threads => print_threads(rt.alloc(), &mut source, &mut out),
+        View::Slowest(limit) => print_slowest(rt.alloc(), &mut source, &mut out, limit),
+        _ => print_frames(rt.alloc(), &mut source, &mut out),
+    };
+    match printed {
+        Ok(()) => Ok(()),
+        Err(error) => Err(fault_of(path, error, source.last_error(), out.last_error())),
+    }
+}
+
+/// Fails if a frame wasn't found, or not with its thread.
+fn found<'w>(path: &'w str, view: View<'w>, is_found: bool) -> Result<(), LookFault<'w>> {
+    if is_found {
+        return Ok(());
+    }
+    match view {
+        View::Frame(index, None) => Err(LookFault::At(path, Cause::NoFrame(index))),
+        View::Frame(index, Some(word)) => Err(LookFault::At(path, Cause::NotInFrame(index, word))),
+        _ => Ok(()),
+    }
+}
+
+/// Prints what has names of scopes, which is read twice.
+fn draw<'w>(
+    rt: &HostRuntime,
+    view: View<'w>,
+    path: &'w str,
+    file: &File,
+) -> Result<(), LookFault<'w>> {
+    let overview = first_reading(rt, path, file)?;
+    let thread = match view {
+        View::Frame(_, Some(word)) | View::Folded(Some(word)) => {
+            Some(thread_in(rt, path, file, word)?)
+        }
+        _ => None,
+    };
+    let thread = thread.as_ref();
+    let mut source = reader(rt, path, file)?;
+    let mut out = Counted::new(rt.stdout());
+    let printed = match view {
+        View::Frame(index, _) => {
+            print_frame(rt.alloc(), &overview, &mut source, &mut out, index, thread)
+        }
+        View::Folded(_) => {
+            print_folded(rt.alloc(), &overview, &mut source, &mut out, thread).map(|_| true)
+        }
+        _ => print_trace(rt.alloc(), &overview, &mut source, &mut out).map(|()| true),
+    };
+    match printed {
+        Ok(is_found) => found(path, view, is_found),
+        Err(error) => Err(fault_of(path, error, source.last_error(), out.last_error())),
+    }
 }
 
 /// Prints what was asked for of the file at a path.
-fn show(rt: &HostRuntime, view: View<'_>, path: &str) -> Result<(), LookFault> {
-    let mut file = match read_ahead(rt, path) {
-        Ok(file) => Buffered::new(file),
-        Err(error) => return Err(fault_of(&error)),
-    };
-    let mut out = Counted::new(rt.stdout());
-    let printed = match view {
-        View::Threads => print_threads(rt.alloc(), &mut file, &mut out).map(|()| true),
-        View::Frames => print_frames(rt.alloc(), &mut file, &mut out).map(|()| true),
-        View::Slowest(limit) => {
-            print_slowest(rt.alloc(), &mut file, &mut out, limit).map(|()| true)
-        }
-        View::Frame(index, thread) => {
-            print_frame(rt.alloc(), &mut file, &mut out, index, thread)
-        }
-        View::Trace => print_trace(rt.alloc(), &mut file, &mut out).map(|()| true),
-        View::Folded(None) => print_folded(rt.alloc(), &mut file, &mut out, None).map(|_| true),
-        View::Folded(thread) => print_folded(rt.alloc(), &mut file, &mut out, thread),
-    };
-    match printed {
-        Ok(true) => Ok(()),
-        Ok(false) => Err(LookFault::NotFound),
-        Err(fault) => Err(LookFault::File(fault)),
+fn show<'w>(rt: &HostRuntime, view: View<'w>, path: &'w str) -> Result<(), LookFault<'w>> {
+    let file = open(rt, path)?;
+    match view {
+        View::Threads | View::Frames | View::Slowest(_) => list(rt, view, path, &file),
+        View::Frame(..) | View::Trace | View::Folded(_) => draw(rt, view, path, &file),
     }
 }
 
 /// Does what the arguments ask for.
-fn run(rt: &HostRuntime) -> Result<(), LookFault> {
-    let words = words(rt)?;
-    match read_words(words.as_slice()) {
-        Some((view, path)) => show(rt, view, path),
-        None => Err(LookFault::Words),
+fn run<'w>(rt: &HostRuntime, words: &'w [String]) -> Result<(), LookFault<'w>> {
+    match words {
+        [word] => match word.as_str() {
+            "--help" | "-h" => tell(rt, HELP),
+            "--version" => tell(rt, VERSION),
+            _ => Err(LookFault::Words),
+        },
+        _ => match read_words(words) {
+            Some((view, path)) => show(rt, view, path),
+            None => Err(LookFault::Words),
+        },
     }
+}
+
+/// Prints a text on standard output.
+fn tell(rt: &HostRuntime, text: &str) -> Result<(), LookFault<'static>> {
+    match println!(rt; "{text}") {
+        Ok(()) => Ok(()),
+        Err(error) if error.kind() == io::ErrorKind::BrokenPipe => Err(LookFault::Unread),
+        Err(error) => Err(LookFault::At(OUTPUT, Cause::System(error))),
+    }
+}
+
+/// Prints a fault on standard error.
+fn print_fault(rt: &HostRuntime, name: &str, cause: &Cause<'_>) -> io::Result<()> {
+    match cause {
+        Cause::System(error) => {
+            let message = format!(in rt.alloc(); "{error}")?;
+            let message = message.split(" (os error").next().unwrap_or("Io");
+            eprintln!(rt; "puffin-look: {name}: {message}")
+        }
+        Cause::File(error) => eprintln!(rt; "puffin-look: {name}: {error}"),
+        Cause::NoFrame(index) => eprintln!(rt; "puffin-look: {name}: no frame {index}"),
+        Cause::NoThread(word) => eprintln!(rt; "puffin-look: {name}: no thread {word}"),
+        Cause::ManyThreads(word) => {
+            eprintln!(rt;
+                "puffin-look: {name}: several threads are named {word}: name one as START:NAME"
+            )
+        }
+        Cause::NotInFrame(index, word) => {
+            eprintln!(rt; "puffin-look: {name}: no frame {index} with the thread {word}")
+        }
+        Cause::ReadOnce => {
+            eprintln!(rt; "puffin-look: {name}: can't be read twice; write it to a file first")
+        }
+    }
+}
+
+/// Tells of a fault, and returns the program's status.
+fn finish(rt: &HostRuntime, ended: &Result<(), LookFault<'_>>) -> u8 {
+    let (told, status) = match ended {
+        Ok(()) => (Ok(()), 0),
+        Err(LookFault::Words) => (eprintln!(rt; "{USAGE}"), 2),
+        Err(LookFault::Memory) => (eprintln!(rt; "puffin-look: Memory"), 1),
+        Err(LookFault::Unread) => (Ok(()), UNREAD),
+        Err(LookFault::At(name, cause)) => (print_fault(rt, name, cause), 1),
+    };
+    // (there is nobody to tell that standard error failed)
+    let _ = told;
+    status
 }
 
 fn main(rt: HostRuntime) -> ExitCode {
     let _placeholders = placeholders(&rt);
-    match run(&rt) {
-        Ok(()) => ExitCode::from(0),
-        Err(LookFault::Words) => {
-            let _ = eprintln!(rt;
-                "usage: puffin-look threads FILE | frames FILE [N] | frame FILE INDEX [START:NAME] | trace FILE | folded FILE [START:NAME]"
-            );
-            ExitCode::from(2)
-        }
-        Err(LookFault::NotFound) => {
-            let _ = eprintln!(rt; "puffin-look: NotFound");
-            ExitCode::from(1)
-        }
-        Err(LookFault::File(fault)) => {
-            let _ = eprintln!(rt; "puffin-look: {fault}");
-            ExitCode::from(1)
-        }
-    }
+    let status = match words(&rt) {
+        Ok(words) => finish(&rt, &run(&rt, words.as_slice())),
+        Err(fault) => finish(&rt, &Err(fault)),
+    };
+    ExitCode::from(status)
 }

@@ -2,9 +2,10 @@ use crate::equal::equal;
 use puffin_data::FileError;
 use puffin_data::data::Counted;
 use puffin_look::{
-    View, print_folded, print_frame, print_frames, print_slowest, print_threads, print_trace,
-    read_words,
+    Overview, View, print_folded, print_frame, print_frames, print_slowest, print_threads,
+    print_trace, read_overview, read_words, threads_named,
 };
+use puffin_threads::thread_profiler::ThreadInfo;
 use std::alloc::AllocGlobal;
 use std::process::Abort;
 use std::test::Fail;
@@ -28,17 +29,17 @@ const FRAMES: &[u8] = b"frame 0 threads 1 scopes 1 range 100 300 duration 200\n\
 frame 1 threads 1 scopes 1 range 400 401 duration 1\n";
 
 /// The trace of [`FILE`].
-const TRACE: &[u8] =
-    b"[{\"ph\":\"M\",\"pid\":1,\"name\":\"process_name\",\"args\":{\"name\":\"puffin\"}},\n\
-{\"ph\":\"i\",\"s\":\"p\",\"pid\":1,\"tid\":0,\"ts\":0.000,\"name\":\"frame 0\",\"args\":{\"start\":100,\"stop\":300}},\n\
+const TRACE: &[u8] = b"{\"displayTimeUnit\":\"ns\",\"traceEvents\":[\n\
+{\"ph\":\"M\",\"pid\":1,\"name\":\"process_name\",\"args\":{\"name\":\"puffin\"}},\n\
+{\"ph\":\"i\",\"s\":\"p\",\"pid\":1,\"tid\":0,\"ts\":0.000,\"name\":\"frame 0\",\"args\":{\"start\":\"100\",\"stop\":\"300\"}},\n\
 {\"ph\":\"M\",\"pid\":1,\"tid\":1,\"name\":\"thread_name\",\"args\":{\"name\":\"main\",\"start\":\"100\"}},\n\
 {\"ph\":\"X\",\"pid\":1,\"tid\":1,\"ts\":0.000,\"dur\":0.200,\"name\":\"#1\",\"args\":{\"text\":\"data\"}},\n\
-{\"ph\":\"i\",\"s\":\"p\",\"pid\":1,\"tid\":0,\"ts\":0.300,\"name\":\"frame 1\",\"args\":{\"start\":400,\"stop\":401}},\n\
+{\"ph\":\"i\",\"s\":\"p\",\"pid\":1,\"tid\":0,\"ts\":0.300,\"name\":\"frame 1\",\"args\":{\"start\":\"400\",\"stop\":\"401\"}},\n\
 {\"ph\":\"X\",\"pid\":1,\"tid\":1,\"ts\":0.300,\"dur\":0.001,\"name\":\"#1\",\"args\":{\"text\":\"a\"}}\n\
-]\n";
+]}\n";
 
 /// Where the events of the second frame begin.
-const SECOND_FRAME: usize = 334;
+const SECOND_FRAME: usize = 377;
 
 /// Where the line of the second frame begins.
 const SECOND_LINE: usize = 54;
@@ -57,11 +58,21 @@ fn frames_of(rt: &impl AllocGlobal, file: &[u8]) -> Printed {
     (answer, out.into_inner())
 }
 
+/// Returns what the frames of a file say together.
+fn overview_of<R: AllocGlobal + Abort>(rt: &R, file: &[u8]) -> Overview {
+    read_overview(rt.alloc(), &mut Counted::new(file)).expect(rt, "an overview")
+}
+
 /// Prints the frame of [`FILE`] with an index.
-fn frame_of(rt: &impl AllocGlobal, index: u64, thread: Option<&str>) -> (Found, Vec<u8>) {
+fn frame_of<R: AllocGlobal + Abort>(
+    rt: &R,
+    index: u64,
+    thread: Option<&ThreadInfo>,
+) -> (Found, Vec<u8>) {
     let mut out = Counted::new(Vec::new(rt.alloc()));
     let answer = print_frame(
         rt.alloc(),
+        &overview_of(rt, &FILE),
         &mut Counted::new(&FILE[..]),
         &mut out,
         index,
@@ -71,17 +82,53 @@ fn frame_of(rt: &impl AllocGlobal, index: u64, thread: Option<&str>) -> (Found, 
 }
 
 /// Writes a file as a trace.
-fn trace_of(rt: &impl AllocGlobal, file: &[u8]) -> Printed {
+fn trace_of<R: AllocGlobal + Abort>(rt: &R, file: &[u8]) -> Printed {
     let mut out = Counted::new(Vec::new(rt.alloc()));
-    let answer = print_trace(rt.alloc(), &mut Counted::new(file), &mut out);
+    let answer = print_trace(
+        rt.alloc(),
+        &overview_of(rt, file),
+        &mut Counted::new(file),
+        &mut out,
+    );
     (answer, out.into_inner())
 }
 
 /// Writes the folded stacks of a file.
-fn folded_of(rt: &impl AllocGlobal, file: &[u8], thread: Option<&str>) -> (Found, Vec<u8>) {
+fn folded_of<R: AllocGlobal + Abort>(
+    rt: &R,
+    file: &[u8],
+    thread: Option<&ThreadInfo>,
+) -> (Found, Vec<u8>) {
     let mut out = Counted::new(Vec::new(rt.alloc()));
-    let answer = print_folded(rt.alloc(), &mut Counted::new(file), &mut out, thread);
+    let answer = print_folded(
+        rt.alloc(),
+        &overview_of(rt, file),
+        &mut Counted::new(file),
+        &mut out,
+        thread,
+    );
     (answer, out.into_inner())
+}
+
+/// Returns the info of a thread named `main`.
+fn main_thread<R: AllocGlobal + Abort>(rt: &R, start: Option<i64>) -> ThreadInfo {
+    ThreadInfo {
+        start_time_ns: start,
+        name: String::from_str(rt.alloc(), "main").expect(rt, "a name"),
+    }
+}
+
+/// Returns the threads of [`FILE`] that a word names.
+fn named<R: AllocGlobal + Abort>(rt: &R, word: &str) -> Vec<ThreadInfo> {
+    threads_named(rt.alloc(), &mut Counted::new(&FILE[..]), word).expect(rt, "a file")
+}
+
+/// Returns these bytes, one behind the other.
+fn joined<R: AllocGlobal + Abort>(rt: &R, first: &[u8], last: &[u8]) -> Vec<u8> {
+    let mut bytes = Vec::new(rt.alloc());
+    bytes.extend_from_slice(first).expect(rt, "memory");
+    bytes.extend_from_slice(last).expect(rt, "memory");
+    bytes
 }
 
 /// Checks what was printed.
@@ -119,14 +166,24 @@ fn what_stands_before_a_fault_is_listed(rt: HostRuntime) {
 }
 
 #[test]
+fn a_name_that_the_last_frame_lists_is_known_in_all(rt: HostRuntime) {
+    let details = b"\x0c\0\0\0\x01\x01\x01\x01\x04late\0\0\0";
+    let file = joined(&rt, &FILE[..FILE.len() - 5], details);
+    let folded = folded_of(&rt, file.as_slice(), None);
+    equal(&rt, folded.1.as_slice(), b"late 201\n");
+}
+
+#[test]
 fn a_frame_is_a_tree(rt: HostRuntime) {
-    let printed = frame_of(&rt, 1, Some("100:main"));
+    let thread = main_thread(&rt, Some(100));
+    let printed = frame_of(&rt, 1, Some(&thread));
     equal(&rt, printed.0, Ok(true));
     let lines = b"frame 1 range 400 401 duration 1\nthread 100:main\n\
         #1 (a) start 0 duration 1 share 100.0%\n";
     equal(&rt, printed.1.as_slice(), lines);
     equal(&rt, frame_of(&rt, 2, None).0, Ok(false));
-    equal(&rt, frame_of(&rt, 1, Some("-:main")).0, Ok(false));
+    let other = main_thread(&rt, None);
+    equal(&rt, frame_of(&rt, 1, Some(&other)).0, Ok(false));
 }
 
 #[test]
@@ -134,18 +191,32 @@ fn a_trace_has_each_frame_thread_and_scope(rt: HostRuntime) {
     prints(&rt, &trace_of(&rt, &FILE), Ok(()), TRACE);
     let truncated = Err(FileError::Truncated);
     let cut = trace_of(&rt, &FILE[..ONE_FRAME + 20]);
-    prints(&rt, &cut, truncated, &TRACE[..SECOND_FRAME]);
+    let closed = joined(&rt, &TRACE[..SECOND_FRAME], b"\n]}\n");
+    prints(&rt, &cut, truncated, closed.as_slice());
 }
 
 #[test]
 fn a_path_has_its_own_time_in_all_frames(rt: HostRuntime) {
-    let printed = folded_of(&rt, &FILE, Some("100:main"));
+    let thread = main_thread(&rt, Some(100));
+    let printed = folded_of(&rt, &FILE, Some(&thread));
     equal(&rt, printed.0, Ok(true));
     equal(&rt, printed.1.as_slice(), b"#1 201\n");
-    equal(&rt, folded_of(&rt, &FILE, Some("-:main")).0, Ok(false));
+    let other = main_thread(&rt, None);
+    equal(&rt, folded_of(&rt, &FILE, Some(&other)).0, Ok(false));
     let cut = folded_of(&rt, &FILE[..ONE_FRAME + 20], None);
     equal(&rt, cut.0, Err(FileError::Truncated));
     equal(&rt, cut.1.len(), 0);
+}
+
+#[test]
+fn a_thread_is_found_by_its_text_or_its_name(rt: HostRuntime) {
+    let thread = main_thread(&rt, Some(100));
+    for word in &["100:main", "main"] {
+        let found = named(&rt, word);
+        equal(&rt, found.len(), 1);
+        equal(&rt, found.first(), Some(&thread));
+    }
+    equal(&rt, named(&rt, "-:main").len(), 0);
 }
 
 #[test]

@@ -57,7 +57,20 @@ fn has_thread(frame: &FrameData, name: &str) -> bool {
 
 /// In round `n`, counted from 0, the leader opens `n` scopes, and each thread one.
 impl Rounds for Places {
-    fn part<T: Records>(&self, _number: usize, thread: &mut T) -> io::Result<()> {
+    type State = ();
+
+    fn state<R: Wait>(&self, _rt: &R, _number: usize) -> io::Result<()> {
+        Ok(())
+    }
+
+    fn part<R: Wait, T: Records>(
+        &self,
+        _rt: &R,
+        _number: usize,
+        _round: usize,
+        _state: &mut (),
+        thread: &mut T,
+    ) -> io::Result<()> {
         profile!(_row, thread, self.row);
         Ok(())
     }
@@ -67,19 +80,19 @@ impl Rounds for Places {
             profile!(_steer, thread, self.steer);
         }
     }
-
-    fn settings(&self) -> Settings {
-        Settings {
-            leader: "helm",
-            ..Settings::default()
-        }
-    }
 }
 
 #[test]
 fn the_leader_s_part_of_a_round_is_in_its_frame(rt: HostRuntime) {
     let (scopes, places) = registered(rt.alloc()).expect(&rt, "the places");
-    let outcome = in_rounds(rt, &["a", "b"], &scopes, 4, &places).expect(&rt, "the rounds");
+    let settings = Settings {
+        leader: "helm",
+        ..Settings::default()
+    };
+    let outcome = in_rounds(rt, &["a", "b"], &scopes, &settings, 4, &places).expect(
+        &rt,
+        "the rounds",
+    );
     equal(&rt, outcome.leader, reported(6));
     equal(&rt, outcome.threads.len(), 2);
     let settled = Settled {
@@ -134,7 +147,10 @@ fn a_leader_s_scopes_are_counted_apart_from_the_threads(rt: HostRuntime) {
         places,
         done: Barrier::new(3),
     };
-    let outcome = profiled(rt, &["a", "b"], &scopes, &watch).expect(&rt, "the threads");
+    let outcome = profiled(rt, &["a", "b"], &scopes, &Settings::default(), &watch).expect(
+        &rt,
+        "the threads",
+    );
     let counts = ThreadCounts {
         reported: 2,
         unreported: 0,
@@ -162,7 +178,20 @@ struct Ending {
 }
 
 impl Rounds for Ending {
-    fn part<T: Records>(&self, _number: usize, thread: &mut T) -> io::Result<()> {
+    type State = ();
+
+    fn state<R: Wait>(&self, _rt: &R, _number: usize) -> io::Result<()> {
+        Ok(())
+    }
+
+    fn part<R: Wait, T: Records>(
+        &self,
+        _rt: &R,
+        _number: usize,
+        _round: usize,
+        _state: &mut (),
+        thread: &mut T,
+    ) -> io::Result<()> {
         profile!(_row, thread, self.places.row);
         Ok(())
     }
@@ -190,10 +219,15 @@ fn the_leader_decides_after_each_round_whether_there_is_another(rt: HostRuntime)
         places,
         shown: AtomicUsize::new(0),
     };
-    let outcome = in_rounds(rt, &["a", "b"], &scopes, usize::MAX, &ending).expect(
-        &rt,
-        "the rounds",
-    );
+    let outcome = in_rounds(
+        rt,
+        &["a", "b"],
+        &scopes,
+        &Settings::default(),
+        usize::MAX,
+        &ending,
+    )
+    .expect(&rt, "the rounds");
     equal(&rt, outcome.leader, reported(0));
     equal(&rt, (outcome.frames, outcome.missed), (3, 0));
     let settled = Settled {
@@ -212,7 +246,10 @@ fn a_program_ends_with_its_last_round(rt: HostRuntime) {
         places,
         shown: AtomicUsize::new(0),
     };
-    let outcome = in_rounds(rt, &["a", "b"], &scopes, 2, &ending).expect(&rt, "the rounds");
+    let outcome = in_rounds(rt, &["a", "b"], &scopes, &Settings::default(), 2, &ending).expect(
+        &rt,
+        "the rounds",
+    );
     equal(&rt, (outcome.frames, outcome.missed), (2, 0));
     equal(&rt, ending.shown.load(Ordering::SeqCst), 2);
 }

@@ -5,7 +5,7 @@ use puffin::data::Counted;
 use puffin::global_profiler::{GlobalProfiler, Settled};
 use puffin::light::{
     Frames, GuardState, Outcome, Place, Program, Records, Rounds, SaveCause, SaveError, Scopes,
-    StatefulRounds, Thread, in_rounds, profiled, save,
+    Settings, Thread, in_rounds, profiled, save,
 };
 use puffin::profile_view::FrameView;
 use puffin::thread_profiler::NsSource;
@@ -108,7 +108,10 @@ fn a_view_is_saved_and_replaced(rt: HostRuntime) {
     let name = "light.puffin";
     save(&rt, name, &FrameView::new(rt.alloc())).expect(&rt, "a saved view");
     let (scopes, places) = registered(rt.alloc()).expect(&rt, "the places");
-    let outcome = in_rounds(rt, &["a", "b"], &scopes, 1, &places).expect(&rt, "the rounds");
+    let outcome = in_rounds(rt, &["a", "b"], &scopes, &Settings::default(), 1, &places).expect(
+        &rt,
+        "the rounds",
+    );
     save(&rt, name, &outcome.view.lock(&rt)).expect(&rt, "a saved view");
     equal(&rt, frames_in(&rt, name), 1);
     equal(
@@ -130,7 +133,10 @@ fn refusal(saved: std::result::Result<(), SaveError<'_>>) -> Option<io::ErrorKin
 #[test]
 fn a_full_device_and_a_missing_folder_refuse_a_view(rt: HostRuntime) {
     let (scopes, places) = registered(rt.alloc()).expect(&rt, "the places");
-    let outcome = in_rounds(rt, &["a", "b"], &scopes, 1, &places).expect(&rt, "the rounds");
+    let outcome = in_rounds(rt, &["a", "b"], &scopes, &Settings::default(), 1, &places).expect(
+        &rt,
+        "the rounds",
+    );
     let view = outcome.view.lock(&rt);
     let full = save(&rt, "/dev/full", &view);
     equal(&rt, refusal(full), Some(io::ErrorKind::StorageFull));
@@ -139,8 +145,21 @@ fn a_full_device_and_a_missing_folder_refuse_a_view(rt: HostRuntime) {
 }
 
 impl Rounds for Places {
+    type State = ();
+
+    fn state<R: Wait>(&self, _rt: &R, _number: usize) -> io::Result<()> {
+        Ok(())
+    }
+
     /// The first thread begins no scope.
-    fn part<T: Records>(&self, number: usize, thread: &mut T) -> io::Result<()> {
+    fn part<R: Wait, T: Records>(
+        &self,
+        _rt: &R,
+        number: usize,
+        _round: usize,
+        _state: &mut (),
+        thread: &mut T,
+    ) -> io::Result<()> {
         if number > 0 {
             both(thread, self);
         }
@@ -173,20 +192,45 @@ fn has<R: Abort + Wait>(rt: &R, outcome: &Outcome, reported: &[u64], sum: u64, f
 #[test]
 fn a_frame_is_taken_after_each_round(rt: HostRuntime) {
     let (scopes, places) = registered(rt.alloc()).expect(&rt, "the places");
-    let outcome = in_rounds(rt, &["a", "b", "c"], &scopes, 5, &places).expect(&rt, "the rounds");
+    let outcome = in_rounds(
+        rt,
+        &["a", "b", "c"],
+        &scopes,
+        &Settings::default(),
+        5,
+        &places,
+    )
+    .expect(&rt, "the rounds");
     has(&rt, &outcome, &[0, 10, 10], 20, 5);
-    let outcome = in_rounds(rt, &["a", "b", "c"], &scopes, 0, &places).expect(&rt, "the rounds");
+    let outcome = in_rounds(
+        rt,
+        &["a", "b", "c"],
+        &scopes,
+        &Settings::default(),
+        0,
+        &places,
+    )
+    .expect(&rt, "the rounds");
     has(&rt, &outcome, &[0, 0, 0], 0, 0);
 }
 
 #[test]
 fn one_thread_two_and_64(rt: HostRuntime) {
     let (scopes, places) = registered(rt.alloc()).expect(&rt, "the places");
-    let outcome = in_rounds(rt, &["a"], &scopes, 2, &places).expect(&rt, "the rounds");
+    let outcome = in_rounds(rt, &["a"], &scopes, &Settings::default(), 2, &places).expect(
+        &rt,
+        "the rounds",
+    );
     has(&rt, &outcome, &[0], 0, 0);
-    let outcome = in_rounds(rt, &["a", "b"], &scopes, 2, &places).expect(&rt, "the rounds");
+    let outcome = in_rounds(rt, &["a", "b"], &scopes, &Settings::default(), 2, &places).expect(
+        &rt,
+        "the rounds",
+    );
     has(&rt, &outcome, &[0, 4], 4, 2);
-    let outcome = in_rounds(rt, &["a"; 64], &scopes, 2, &places).expect(&rt, "the rounds");
+    let outcome = in_rounds(rt, &["a"; 64], &scopes, &Settings::default(), 2, &places).expect(
+        &rt,
+        "the rounds",
+    );
     equal(&rt, outcome.threads.len(), 64);
     equal(&rt, outcome.settled.handed, 252);
     equal(&rt, outcome.frames, 2);
@@ -215,7 +259,10 @@ impl Program for Uneven {
 fn all_that_threads_report_is_handed_out_or_pending(rt: HostRuntime) {
     let (scopes, places) = registered(rt.alloc()).expect(&rt, "the places");
     let uneven = Uneven { places };
-    let outcome = profiled(rt, &["a", "b", "c"], &scopes, &uneven).expect(&rt, "the threads");
+    let outcome = profiled(rt, &["a", "b", "c"], &scopes, &Settings::default(), &uneven).expect(
+        &rt,
+        "the threads",
+    );
     equal(&rt, has_reported(&outcome, &[0, 2, 4]), true);
     let settled = outcome.settled;
     equal(&rt, settled.reported, 6);
@@ -229,14 +276,21 @@ struct Rising {
     places: Places,
 }
 
-impl StatefulRounds for Rising {
+impl Rounds for Rising {
     type State = usize;
 
-    fn state(&self, _number: usize) -> io::Result<usize> {
+    fn state<R: Wait>(&self, _rt: &R, _number: usize) -> io::Result<usize> {
         Ok(0)
     }
 
-    fn part<T: Records>(&self, number: usize, done: &mut usize, thread: &mut T) -> io::Result<()> {
+    fn part<R: Wait, T: Records>(
+        &self,
+        _rt: &R,
+        number: usize,
+        _round: usize,
+        done: &mut usize,
+        thread: &mut T,
+    ) -> io::Result<()> {
         if *done < number {
             *done = done.saturating_add(1);
             for _ in 0..*done {
@@ -251,9 +305,14 @@ impl StatefulRounds for Rising {
 fn a_thread_keeps_its_state_from_round_to_round(rt: HostRuntime) {
     let (scopes, places) = registered(rt.alloc()).expect(&rt, "the places");
     let rising = Rising { places };
-    let outcome = in_rounds(rt, &["a", "b", "c", "d"], &scopes, 5, &rising).expect(
-        &rt,
-        "the rounds",
-    );
+    let outcome = in_rounds(
+        rt,
+        &["a", "b", "c", "d"],
+        &scopes,
+        &Settings::default(),
+        5,
+        &rising,
+    )
+    .expect(&rt, "the rounds");
     has(&rt, &outcome, &[0, 2, 6, 12], 20, 3);
 }

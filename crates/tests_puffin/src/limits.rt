@@ -79,7 +79,6 @@ fn a_scope_above_a_thread_s_limit_is_counted(rt: HostRuntime) {
 #[derive(Drop)]
 struct Untaken {
     step: Place,
-    settings: Settings,
 }
 
 impl Program for Untaken {
@@ -91,24 +90,18 @@ impl Program for Untaken {
     }
 
     fn lead<R: Wait, T: Records, F: Frames>(&self, _rt: &R, _thread: &mut T, _frames: &mut F) {}
-
-    fn settings(&self) -> Settings {
-        self.settings
-    }
 }
 
 #[test]
 fn a_run_whose_frames_nobody_takes_stays_below_its_limits(rt: HostRuntime) {
     let (scopes, step) = registered(rt.alloc()).expect(&rt, "a place");
-    let untaken = Untaken {
-        step,
-        settings: Settings {
-            max_thread_bytes: 20 * 31,
-            max_pending_bytes: 100 * 31,
-            ..Settings::default()
-        },
+    let untaken = Untaken { step };
+    let settings = Settings {
+        max_thread_bytes: 20 * 31,
+        max_pending_bytes: 100 * 31,
+        ..Settings::default()
     };
-    let outcome = profiled(rt, &["a"], &scopes, &untaken).expect(&rt, "the program");
+    let outcome = profiled(rt, &["a"], &scopes, &settings, &untaken).expect(&rt, "the program");
     let Outcome { threads, .. } = &outcome;
     let counts = threads.first().copied();
     equal(

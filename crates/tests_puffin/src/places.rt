@@ -5,7 +5,9 @@ use crate::sinks::added;
 use puffin::data::StreamInfoRef;
 use puffin::frame_data::FrameIndex;
 use puffin::global_profiler::{GlobalProfiler, Sink};
-use puffin::light::{GuardState, Place, Records, Rounds, Scopes, Thread, ThreadCounts, in_rounds};
+use puffin::light::{
+    GuardState, Place, Records, Rounds, Scopes, Settings, Thread, ThreadCounts, in_rounds,
+};
 use puffin::profile_view::FrameView;
 use puffin::scope_details::ScopeDetails;
 use puffin::thread_profiler::{Reporter, ScriptClock, ThreadInfo, ThreadProfiler};
@@ -115,7 +117,20 @@ fn own_and_other(alloc: Global) -> puffin::Result<(Scopes, Foreign)> {
 }
 
 impl Rounds for Foreign {
-    fn part<T: Records>(&self, number: usize, thread: &mut T) -> io::Result<()> {
+    type State = ();
+
+    fn state<R: Wait>(&self, _rt: &R, _number: usize) -> io::Result<()> {
+        Ok(())
+    }
+
+    fn part<R: Wait, T: Records>(
+        &self,
+        _rt: &R,
+        number: usize,
+        _round: usize,
+        _state: &mut (),
+        thread: &mut T,
+    ) -> io::Result<()> {
         if number == 0 {
             profile!(_other, thread, self.other);
         } else {
@@ -128,7 +143,10 @@ impl Rounds for Foreign {
 #[test]
 fn a_program_counts_the_scopes_that_are_refused(rt: HostRuntime) {
     let (scopes, foreign) = own_and_other(rt.alloc()).expect(&rt, "the places");
-    let outcome = in_rounds(rt, &["a", "b"], &scopes, 3, &foreign).expect(&rt, "the rounds");
+    let outcome = in_rounds(rt, &["a", "b"], &scopes, &Settings::default(), 3, &foreign).expect(
+        &rt,
+        "the rounds",
+    );
     let refused = ThreadCounts {
         reported: 0,
         unreported: 0,

@@ -17,7 +17,6 @@ struct Jobs {
     alloc: Global,
     answer: Place,
     foreign: Place,
-    settings: Settings,
     all: usize,
     failing: Option<usize>,
     taken: AtomicUsize,
@@ -40,7 +39,6 @@ impl Jobs {
             alloc,
             answer: place!(scopes, "answer")?,
             foreign,
-            settings: Settings::default(),
             all,
             failing,
             taken: AtomicUsize::new(0),
@@ -83,10 +81,6 @@ impl Pool for Jobs {
         self.done.wait(rt);
         let _emitted = frames.new_frame();
     }
-
-    fn settings(&self) -> Settings {
-        self.settings
-    }
 }
 
 /// Returns how many scopes a frame's thread with this name has, or `None` if there is no such thread.
@@ -124,7 +118,7 @@ fn has_a_hundred<R: AllocGlobal + Wait + Abort>(rt: &R, view: &GlobalFrameView) 
 #[test]
 fn a_hundred_jobs_of_four_threads_have_their_own_names(rt: HostRuntime) {
     let (scopes, jobs) = Jobs::new(rt.alloc(), 100, 4, None).expect(&rt, "the jobs");
-    let outcome = pooled(rt, 4, &scopes, &jobs).expect(&rt, "the threads");
+    let outcome = pooled(rt, 4, &scopes, &Settings::default(), &jobs).expect(&rt, "the threads");
     equal(&rt, outcome.threads.len(), 4);
     equal(&rt, sum(&outcome.threads), (150, 0, 50));
     let settled = Settled {
@@ -140,7 +134,7 @@ fn a_hundred_jobs_of_four_threads_have_their_own_names(rt: HostRuntime) {
 #[test]
 fn a_job_that_fails_ends_its_thread(rt: HostRuntime) {
     let (scopes, jobs) = Jobs::new(rt.alloc(), 10, 2, Some(0)).expect(&rt, "the jobs");
-    let outcome = pooled(rt, 2, &scopes, &jobs).expect(&rt, "the threads");
+    let outcome = pooled(rt, 2, &scopes, &Settings::default(), &jobs).expect(&rt, "the threads");
     let failed = outcome.failed.expect(&rt, "a failure");
     equal(&rt, failed.error.kind(), io::ErrorKind::TimedOut);
     equal(&rt, sum(&outcome.threads), (15, 0, 5));
@@ -150,8 +144,10 @@ fn a_job_that_fails_ends_its_thread(rt: HostRuntime) {
 #[test]
 fn a_worker_without_room_begins_no_scope(rt: HostRuntime) {
     let (scopes, jobs) = Jobs::new(rt.alloc(), 10, 2, None).expect(&rt, "the jobs");
-    let mut jobs = jobs;
-    jobs.settings.max_thread_bytes = 0;
-    let outcome = pooled(rt, 2, &scopes, &jobs).expect(&rt, "the threads");
+    let settings = Settings {
+        max_thread_bytes: 0,
+        ..Settings::default()
+    };
+    let outcome = pooled(rt, 2, &scopes, &settings, &jobs).expect(&rt, "the threads");
     equal(&rt, sum(&outcome.threads), (0, 0, 20));
 }

@@ -3,8 +3,7 @@
 use crate::equal::equal;
 use puffin::global_profiler::{Emitted, GlobalFrameView, Settled};
 use puffin::light::{
-    Failed, Frames, Place, Program, Records, Rounds, Scopes, Settings, StatefulRounds, in_rounds,
-    profiled,
+    Failed, Frames, Place, Program, Records, Rounds, Scopes, Settings, in_rounds, profiled,
 };
 use puffin::profile_view::FrameView;
 use puffin::{Result, place, profile};
@@ -38,7 +37,20 @@ struct Failing {
 }
 
 impl Rounds for Failing {
-    fn part<T: Records>(&self, number: usize, thread: &mut T) -> io::Result<()> {
+    type State = ();
+
+    fn state<R: Wait>(&self, _rt: &R, _number: usize) -> io::Result<()> {
+        Ok(())
+    }
+
+    fn part<R: Wait, T: Records>(
+        &self,
+        _rt: &R,
+        number: usize,
+        _round: usize,
+        _state: &mut (),
+        thread: &mut T,
+    ) -> io::Result<()> {
         profile!(_step, thread, self.step);
         if number > 0 && self.round.load(Ordering::SeqCst) == 2 {
             return Err(io::Error::from(io::ErrorKind::TimedOut));
@@ -65,7 +77,15 @@ fn a_part_that_fails_ends_the_rounds(rt: HostRuntime) {
         step,
         round: AtomicUsize::new(0),
     };
-    let outcome = in_rounds(rt, &["a", "b", "c"], &scopes, 10, &failing).expect(&rt, "the rounds");
+    let outcome = in_rounds(
+        rt,
+        &["a", "b", "c"],
+        &scopes,
+        &Settings::default(),
+        10,
+        &failing,
+    )
+    .expect(&rt, "the rounds");
     equal(&rt, (outcome.frames, outcome.missed), (3, 0));
     equal(&rt, outcome.settled, all_handed(9));
     let Failed { number, error } = outcome.failed.expect(&rt, "a failure");
@@ -79,17 +99,24 @@ struct Stateless {
     step: Place,
 }
 
-impl StatefulRounds for Stateless {
+impl Rounds for Stateless {
     type State = ();
 
-    fn state(&self, number: usize) -> io::Result<()> {
+    fn state<R: Wait>(&self, _rt: &R, number: usize) -> io::Result<()> {
         if number == 1 {
             return Err(io::Error::from(io::ErrorKind::NotFound));
         }
         Ok(())
     }
 
-    fn part<T: Records>(&self, _number: usize, _state: &mut (), thread: &mut T) -> io::Result<()> {
+    fn part<R: Wait, T: Records>(
+        &self,
+        _rt: &R,
+        _number: usize,
+        _round: usize,
+        _state: &mut (),
+        thread: &mut T,
+    ) -> io::Result<()> {
         profile!(_step, thread, self.step);
         Ok(())
     }
@@ -99,7 +126,15 @@ impl StatefulRounds for Stateless {
 fn a_state_that_cannot_be_made_ends_the_rounds(rt: HostRuntime) {
     let (scopes, step) = registered(rt.alloc()).expect(&rt, "a place");
     let stateless = Stateless { step };
-    let outcome = in_rounds(rt, &["a", "b"], &scopes, 10, &stateless).expect(&rt, "the rounds");
+    let outcome = in_rounds(
+        rt,
+        &["a", "b"],
+        &scopes,
+        &Settings::default(),
+        10,
+        &stateless,
+    )
+    .expect(&rt, "the rounds");
     equal(&rt, (outcome.frames, outcome.missed), (1, 0));
     equal(&rt, outcome.settled, all_handed(1));
     let Failed { number, error } = outcome.failed.expect(&rt, "a failure");
@@ -115,7 +150,20 @@ struct Short {
 }
 
 impl Rounds for Short {
-    fn part<T: Records>(&self, _number: usize, thread: &mut T) -> io::Result<()> {
+    type State = ();
+
+    fn state<R: Wait>(&self, _rt: &R, _number: usize) -> io::Result<()> {
+        Ok(())
+    }
+
+    fn part<R: Wait, T: Records>(
+        &self,
+        _rt: &R,
+        _number: usize,
+        _round: usize,
+        _state: &mut (),
+        thread: &mut T,
+    ) -> io::Result<()> {
         profile!(_step, thread, self.step);
         Ok(())
     }
@@ -135,15 +183,6 @@ impl Rounds for Short {
         }
         frames.emit_scope_snapshot();
         true
-    }
-
-    fn settings(&self) -> Settings {
-        Settings {
-            max_recent: 2,
-            max_slow: 1,
-            pack_frames: false,
-            ..Settings::default()
-        }
     }
 }
 
@@ -169,7 +208,13 @@ fn a_view_keeps_as_many_frames_as_it_is_set_to(rt: HostRuntime) {
         step,
         listed: AtomicUsize::new(0),
     };
-    let outcome = in_rounds(rt, &["a"], &scopes, 5, &short).expect(&rt, "the rounds");
+    let settings = Settings {
+        max_recent: 2,
+        max_slow: 1,
+        pack_frames: false,
+        ..Settings::default()
+    };
+    let outcome = in_rounds(rt, &["a"], &scopes, &settings, 5, &short).expect(&rt, "the rounds");
     keeps_two(&rt, &outcome.view);
     equal(&rt, short.listed.load(Ordering::SeqCst), 5);
 }
@@ -204,7 +249,14 @@ impl Program for Refusing {
 fn the_first_thread_that_failed_is_told(rt: HostRuntime) {
     let scopes = Scopes::new(rt.alloc()).expect(&rt, "memory");
     let refusing = Refusing {};
-    let outcome = profiled(rt, &["a", "b", "c"], &scopes, &refusing).expect(&rt, "the threads");
+    let outcome = profiled(
+        rt,
+        &["a", "b", "c"],
+        &scopes,
+        &Settings::default(),
+        &refusing,
+    )
+    .expect(&rt, "the threads");
     equal(&rt, (outcome.frames, outcome.missed), (0, 0));
     let Failed { number, error } = outcome.failed.expect(&rt, "a failure");
     equal(&rt, number, 1);

@@ -2,7 +2,7 @@
 ghost use Rattle.std.specs.Prelude.{◌≡◌, ◌<◌, ◌^◌};
 
 use crate::global_profiler::{Share, SharedReporter};
-use crate::light::program::ThreadCounts;
+use crate::light::outcome::ThreadCounts;
 use crate::light::ready::Left;
 use crate::scope_details::ScopeDetails;
 use crate::thread_profiler::{Reporter, ThreadInfo};
@@ -17,7 +17,8 @@ use std::sync::ledger::Ledger;
 pub(crate) struct CountedShare<L: Ledger + History, M: Ledger> {
     pub(crate) share: Share<L, M>,
     pub(crate) counts: ThreadCounts,
-    ghost counted: { share.counts.reported < 2 ^ 64 → counts.reported ≡ share.counts.reported },
+    ghost counted: { share.counts.reported < 2 ^ 64
+        → counts.reported ≡ share.counts.reported },
     ghost none_handed: { share.counts.handed ≡ 0 },
 }
 
@@ -26,7 +27,8 @@ pub(crate) struct CountedShare<L: Ledger + History, M: Ledger> {
 pub(crate) struct Counting<L: Ledger + History, M: Ledger, R: Wait> {
     reporter: SharedReporter<L, M, R>,
     reported: u64,
-    ghost counted: { reporter.share.counts.reported < 2 ^ 64 → reported ≡ reporter.share.counts.reported },
+    ghost counted: { reporter.share.counts.reported < 2 ^ 64
+        → reported ≡ reporter.share.counts.reported },
     ghost none_handed: { reporter.share.counts.handed ≡ 0 },
 }
 

@@ -1,4 +1,5 @@
 //! Threads that begin together, or not at all.
+ghost use Rattle.std.specs.Prelude.{◌≡◌};
 
 use crate::light::guard::Records;
 use crate::light::pool::Pool;
@@ -26,7 +27,9 @@ pub(crate) struct Gate<'p, W> {
 
 impl<'p, W> Gate<'p, W> {
     /// Makes a closed gate for a program.
-    pub(crate) fn new(program: &'p W) -> Gate<'p, W> {
+    pub(crate) fn new(program: &'p W) -> Gate<'p, W>
+        ensures { result.program.now ≡ program.now }
+    {
         Gate {
             program,
             signal: Mutex::new(Signal::Wait),
@@ -76,6 +79,10 @@ impl<W: Program> Program for Gate<'_, W> {
     ghost states = { λ gate. W.states gate.program.now };
 
     ghost runs = { λ gate number code. W.runs gate.program.now number code };
+
+    ghost leads = { λ gate code. W.leads gate.program.now code };
+
+    ghost takes = { λ gate frames. W.takes gate.program.now frames };
 
     fn work<R: Wait, T: Records>(&self, rt: &R, number: usize, thread: &mut T) -> io::Result<()> {
         if !self.may_begin(rt) {

@@ -1,5 +1,7 @@
 //! A program's leader: it takes frames through one share, and reports its own scopes through another.
+ghost use Rattle.std.specs.Prelude.{[]};
 ghost use Rattle.puffin.specs.Members.{IsNewMember};
+ghost use Rattle.puffin.specs.Happenings.{frames_in};
 
 use crate::global_profiler::{Share, SharedProfiler, SharedReporter};
 use crate::light::counted::{CountedShare, Counting};
@@ -35,7 +37,11 @@ pub(crate) fn lead<L: Ledger + History, M: Ledger, R: Wait + Copy, D: AnyLeader<
     seat: Seat<L, M>,
     leader: D,
     program: &W,
-) -> Led<L, M> {
+) -> Led<L, M>
+    ensures tells { D.tells leader program.now result.counted.counts.unreported []
+        result.counted.share.own }
+    ensures takes { D.takes leader program.now (frames_in result.taken.share.own) }
+{
     let Seat {
         frames,
         taking,

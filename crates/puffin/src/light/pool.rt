@@ -5,7 +5,8 @@ ghost use Rattle.puffin.specs.Clocks.{AgreeWith};
 
 use crate::light::gate::Gate;
 use crate::light::guard::Records;
-use crate::light::program::{Frames, Outcome, ready};
+use crate::light::outcome::Outcome;
+use crate::light::program::{Frames, ready};
 use crate::light::ready::Crew;
 use crate::light::scopes::Scopes;
 use crate::light::settings::Settings;
@@ -67,11 +68,6 @@ pub trait Pool {
 
     /// Takes frames while the threads work, as [`Program::lead`](crate::light::Program::lead) does.
     fn lead<R: Wait, T: Records, F: Frames>(&self, rt: &R, thread: &mut T, frames: &mut F);
-
-    /// Returns what the run is set to before it begins, as [`Program::settings`](crate::light::Program::settings) does.
-    fn settings(&self) -> Settings {
-        Settings::default()
-    }
 }
 
 /// Prepares the thread of a leader, and this number of workers. All have the same clock, the system's.
@@ -111,24 +107,24 @@ fn all_ready<R: AllocGlobal + Clock + Copy>(
 /// Fails as [`profiled`](crate::light::profiled) does; no job was taken then.
 ///
 /// ```
-/// let outcome = pooled(rt, 4, &scopes, &server)?;
+/// let outcome = pooled(rt, 4, &scopes, &Settings::default(), &server)?;
 /// ```
 pub fn pooled<R: AllocGlobal + Threads + Wait + Clock + Copy + Send + Sync, W: Pool + Sync>(
     rt: R,
     workers: usize,
     scopes: &Scopes,
+    settings: &Settings,
     pool: &W,
 ) -> io::Result<Outcome>
     ensures threads { IfOk result (λ outcome. vec_len outcome.threads ≡ workers) }
 {
-    let settings = pool.settings();
-    let crew = all_ready(rt, &settings, workers, scopes)?;
+    let crew = all_ready(rt, settings, workers, scopes)?;
     let parts = crew.threads.len() + 2;
     let gate = Gate::new(pool);
     let outcome = run::<Brand, Brand, R, Head<R>, Worker<R>, Gate<W>>(
         rt,
         scopes,
-        &settings,
+        settings,
         crew,
         &gate,
         parts,

@@ -1,13 +1,16 @@
 //! Programs whose threads are profiled.
-ghost use Rattle.std.specs.Prelude.{◌≡◌, ◌+◌, ◌<◌, ◌≤◌, IfOk, IfErr, vec_len, length, sum_by};
+ghost use Rattle.std.specs.Prelude.{◌≡◌, ◌∷◌, IfOk, IfErr, vec_len, length, map, string_bytes};
+ghost use Rattle.puffin.specs.Places.{details_in, num_known};
+ghost use Rattle.puffin.specs.Shown.{AreNamed, Shows, leader_first};
 ghost use Rattle.puffin.specs.Shares.{SpellsItsScopes};
 ghost use Rattle.puffin.specs.SharedCauses.{IsFrameCause};
 ghost use Rattle.puffin.specs.Clocks.{StartsAt, AgreeWith};
 ghost use Rattle.puffin_threads.specs.Thread.Clock.{clock_start, clock_begun};
 
-use crate::global_profiler::{Emitted, GlobalFrameView, Settled};
+use crate::global_profiler::Emitted;
 use crate::light::gate::Gate;
 use crate::light::guard::Records;
+use crate::light::outcome::Outcome;
 use crate::light::ready::{Crew, Ready};
 use crate::light::scopes::Scopes;
 use crate::light::settings::Settings;
@@ -24,16 +27,27 @@ use std::thread::Threads;
 
 /// Takes frames of what all threads of a program report.
 pub trait Frames {
+    ghost use Rattle.std.specs.Prelude.{◌≡◌, List, IfOk, OnErr};
+    ghost use Rattle.puffin_frames.specs.Frame.Contents.{Streams};
+    ghost use Rattle.puffin.specs.Taking.{IsTaken};
+
+    /// The streams of each frame that was handed out, in order.
+    ghost taken: { Self → List Streams };
+
     /// Hands out everything that was reported since the last frame, if anything was, and adds the frame to the view.
     ///
     /// Fails with `IndexExhausted` or `Memory`; then what was reported waits for the next frame.
     fn new_frame(&mut self) -> Result<Emitted>
         ensures spells { IfOk result (λ emitted. SpellsItsScopes emitted.frame) }
-        ensures cause { IfErr result IsFrameCause };
+        ensures cause { IfErr result IsFrameCause }
+        ensures taken { IfOk result (λ emitted.
+            IsTaken (taken self.old) emitted.frame (taken self.new)) }
+        ensures unchanged { OnErr result (taken self.new ≡ taken self.old) };
 
     /// Makes the next frame list every known scope, and not only the new ones, so that a file which begins with that frame has
     /// all names. Allocates nothing.
-    fn emit_scope_snapshot(&mut self);
+    fn emit_scope_snapshot(&mut self)
+        ensures { taken self.new ≡ taken self.old };
 }
 
 /// A program whose threads are profiled. All threads share it by `&`; a thread's own state is kept in local variables of
@@ -69,15 +83,23 @@ pub trait Frames {
 /// Here `done` is a `Barrier` of all threads and the leader. What is reported after the last frame is in no frame;
 /// `Outcome::settled` counts it as pending.
 pub trait Program {
-    ghost use Rattle.std.specs.Prelude.{ℕ, Bool, false};
+    ghost use Rattle.std.specs.Prelude.{◌≡◌, ℕ, Bool, false, List, []};
+    ghost use Rattle.puffin_frames.specs.Frame.Contents.{Streams};
     ghost use Rattle.puffin.specs.Code.{Code};
-    ghost use Rattle.puffin.specs.Telling.{RunsAs};
+    ghost use Rattle.puffin.specs.Telling.{RunsAs, LeadsAs};
 
-    /// Whether the program states which code its threads run. It doesn't, unless you write this and [`Program::runs`].
+    /// Whether the program states which code its threads and its leader run. It doesn't, unless you write this, [`Program::runs`]
+    /// and [`Program::leads`].
     ghost states: { Self → Bool } = { λ program. false };
 
     /// Whether the thread with this number may run this code.
     ghost runs: { Self → ℕ → Code → Type 0 } = { λ program number code. Unit {0} };
+
+    /// Whether the leader may run this code.
+    ghost leads: { Self → Code → Type 0 } = { λ program code. Unit {0} };
+
+    /// What the leader states of the frames that it took.
+    ghost takes: { Self → List Streams → Type 0 } = { λ program frames. Unit {0} };
 
     /// Does the work of one thread. Threads are numbered from 0, in the order of the names passed to [`profiled`]. If it fails,
     /// the error is in [`Outcome::failed`], and the other threads go on.
@@ -88,58 +110,10 @@ pub trait Program {
     /// Takes frames while the threads work, and begins scopes of its own on `thread`. It runs on the thread that called
     /// [`profiled`]. As on any thread, its scopes are reported when the outermost of them ends, so a frame that is taken within
     /// a scope of the leader has none of its open scopes.
-    fn lead<R: Wait, T: Records, F: Frames>(&self, rt: &R, thread: &mut T, frames: &mut F);
-
-    /// Returns what the run is set to before it begins: [`Settings::default`], unless you write this method.
-    fn settings(&self) -> Settings {
-        Settings::default()
-    }
-}
-
-/// What became of the scopes of one thread. The scopes that closed are those that were reported and those that weren't.
-#[derive(Clone, Copy, Debug, PartialEq, Eq)]
-pub struct ThreadCounts {
-    /// The number of scopes that were reported. Each is in a frame, or pending.
-    pub reported: u64,
-    /// The number of scopes that closed and were never reported, because the thread's last reports were refused. They are in no
-    /// frame.
-    pub unreported: u64,
-    /// The number of scopes that were refused when they should have begun. They are in no frame.
-    pub refused: u64,
-}
-
-/// A thread that failed.
-#[derive(Clone, Copy, Debug)]
-pub struct Failed {
-    /// The thread's number.
-    pub number: usize,
-    /// What it returned.
-    pub error: io::Error,
-}
-
-/// The result of a program whose threads are profiled.
-#[derive(Drop)]
-pub struct Outcome {
-    /// The last and the slowest frames.
-    pub view: GlobalFrameView,
-    /// What became of each thread's scopes, in the order in which the threads' names were passed.
-    pub threads: Vec<ThreadCounts>,
-    /// What became of the leader's own scopes.
-    pub leader: ThreadCounts,
-    /// The thread with the lowest number of those that failed, or `None` if none did. Its scopes are counted like all others.
-    pub failed: Option<Failed>,
-    /// How many scopes the leader and all threads reported, how many of these were handed out in frames, and how many are
-    /// pending.
-    pub settled: Settled,
-    /// The number of frames that were handed out. Each of them has at least one scope.
-    pub frames: u64,
-    /// The number of these frames that the view didn't take, for example because memory ran out.
-    pub missed: u64,
-    ghost counted: { leader.reported + sum_by (λ t. t.reported) threads.items
-        ≡ settled.reported },
-    ghost some: { missed ≤ frames },
-    ghost some_each: { frames ≤ settled.handed },
-    ghost none_handed: { frames ≡ 0 → settled.handed ≡ 0 },
+    fn lead<R: Wait, T: Records, F: Frames>(&self, rt: &R, thread: &mut T, frames: &mut F)
+        ensures runs { LeadsAs (states self.now) (leads self.now) T.begins T.ends thread.old
+            thread.new }
+        ensures takes { F.taken frames.old ≡ [] → takes self.now (F.taken frames.new) };
 }
 
 /// Prepares a thread under this name and with these settings, with a clock that has the start of this one.
@@ -150,8 +124,11 @@ pub(crate) fn ready<R: AllocGlobal + Clock + Copy>(
     scopes: &Scopes,
     settings: &Settings,
 ) -> io::Result<Ready<SystemClock<R>>>
-    ensures { IfOk result (λ thread.
+    ensures clock { IfOk result (λ thread.
         StartsAt (clock_start clock.now) (clock_begun clock.now) thread.clock) }
+    ensures name { IfOk result (λ thread. string_bytes thread.name ≡ name.now) }
+    ensures scopes { IfOk result (λ thread.
+        num_known thread.scopes ≡ length (details_in scopes.now)) }
 {
     let name = String::from_str(rt.alloc(), name)?;
     let Ok(scopes) = scopes.for_thread() else {
@@ -171,6 +148,12 @@ fn all_ready<R: AllocGlobal + Clock + Copy>(
     ensures threads { IfOk result (λ crew. vec_len crew.threads ≡ length names.now) }
     ensures clocks { IfOk result (λ crew.
         AgreeWith (λ thread. thread.clock) crew.leader.clock crew.threads.items) }
+    ensures names { IfOk result (λ crew.
+        AreNamed (length (details_in scopes.now)) (map (λ name. name.now) names.now)
+        crew.threads.items) }
+    ensures leader { IfOk result (λ crew.
+        (string_bytes crew.leader.name ≡ settings.now.leader.now)
+        × (num_known crew.leader.scopes ≡ length (details_in scopes.now))) }
 {
     let clock = SystemClock::new(rt)?;
     let mut threads = Vec::new(rt.alloc());
@@ -184,28 +167,35 @@ fn all_ready<R: AllocGlobal + Clock + Copy>(
 /// Runs a program: starts a thread for each of these names, runs the program's leader on the calling thread, joins all threads
 /// and adds up what the leader and they reported. No thread begins its work before all of them have been started.
 ///
+/// If the program states its code, and no thread failed, then the frames that the leader took, and what is pending, show of each
+/// thread whose name no other has, the leader's among them, just the scopes of its code that began.
+///
 /// Fails if a clock can't be read, a thread can't be started, or memory runs out. Threads that were already started then end
 /// without having begun their work.
 ///
 /// ```
-/// let outcome = profiled(rt, &["loader", "painter"], &scopes, &program)?;
+/// let outcome = profiled(rt, &["loader", "painter"], &scopes, &Settings::default(), &program)?;
 /// ```
 pub fn profiled<R: AllocGlobal + Threads + Wait + Clock + Copy + Send + Sync, W: Program + Sync>(
     rt: R,
     names: &[&str],
     scopes: &Scopes,
+    settings: &Settings,
     program: &W,
 ) -> io::Result<Outcome>
     ensures threads { IfOk result (λ outcome. vec_len outcome.threads ≡ length names.now) }
+    ensures shows { IfOk result (λ outcome.
+        Shows (W.states program.now) (W.takes program.now) (length (details_in scopes.now))
+        (leader_first (W.leads program.now) (W.runs program.now))
+        (settings.now.leader.now ∷ map (λ name. name.now) names.now) outcome) }
 {
-    let settings = program.settings();
-    let crew = all_ready(rt, &settings, names, scopes)?;
+    let crew = all_ready(rt, settings, names, scopes)?;
     let parts = names.len() + 2;
     let gate = Gate::new(program);
     let outcome = run::<Brand, Brand, R, Ready<SystemClock<R>>, Ready<SystemClock<R>>, Gate<W>>(
         rt,
         scopes,
-        &settings,
+        settings,
         crew,
         &gate,
         parts,

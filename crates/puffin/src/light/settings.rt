@@ -35,10 +35,11 @@ pub struct Settings {
 }
 
 impl Default for Settings {
-    ghost use Rattle.std.specs.Prelude.{◌≡◌, ◌-◌, ◌^◌, true};
+    ghost use Rattle.std.specs.Prelude.{◌≡◌, ◌-◌, ◌^◌, codes, true};
 
     ghost is_default = { λ settings.
-        (settings.max_recent ≡ 1000)
+        (settings.leader.now ≡ codes "leader")
+        × (settings.max_recent ≡ 1000)
         × (settings.max_slow ≡ 256)
         × (settings.pack_frames ≡ true)
         × (settings.max_thread_bytes ≡ 2 ^ 64 - 1)

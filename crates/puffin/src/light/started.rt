@@ -1,30 +1,55 @@
 //! Threads of a program, from their start until all shares are back.
-ghost use Rattle.std.specs.Prelude.{◌≡◌, ◌+◌, ◌<◌, ◌≤◌, ◌^◌, [], Some, None, OnOk, IfOk, IfErr, vec_len, All, sum_by};
+ghost use Rattle.std.specs.Prelude.{◌≡◌, ◌+◌, ◌<◌, [], IfOk, vec_len, All};
 ghost use Rattle.puffin.specs.Shares.{IsBlankFor};
-ghost use Rattle.puffin.specs.Members.{IsNewMember, all_reported, all_handed};
+ghost use Rattle.std.specs.FinMap as map;
+ghost use Rattle.puffin_frames.specs.Frame.Contents.{Streams};
+ghost use Rattle.puffin_frames.specs.Frame.Sums.{total_scopes};
+ghost use Rattle.puffin.specs.Members.{IsNewMember, all_handed};
+ghost use Rattle.puffin.specs.Happenings.{History};
+ghost use Rattle.puffin.specs.Leaving.{accounts_of};
+ghost use Rattle.puffin.specs.Recounted.{Recounts};
+ghost use Rattle.puffin.specs.Joined.{AreStarted, AreTold, HasTold};
 
 use crate::global_profiler::{
     Event, GlobalFrameView, GlobalProfiler, Share, SharedProfiler, SharedReporter,
 };
 use crate::light::counted::{CountedShare, Counting};
 use crate::light::gate::Gated;
-use crate::light::leader::{Led, Seat, lead};
-use crate::light::program::{Failed, Outcome, ThreadCounts};
+use crate::light::joined::{Joined, Room, join_all};
+use crate::light::leader::{Seat, lead};
+use crate::light::outcome::Outcome;
 use crate::light::ready::{AnyLeader, AnyReady, Crew, Ended};
 use crate::light::scopes::Scopes;
 use crate::light::settings::Settings;
-use crate::light::taker::Taken;
 use history::{History, NewLog};
+use std::snapshot::Snapshot;
 use std::sync::Wait;
 use std::sync::ledger::{Blank, Ledger};
-use std::thread::{JoinHandle, Scope, Threads};
+use std::thread::{Promise, PromisedHandle, Scope, Threads};
 use std::{io, thread};
 
 /// What a thread returned: its share and what became of its scopes, and what its work returned.
 #[derive(Drop)]
-struct Worked<L: Ledger + History, M: Ledger> {
-    counted: CountedShare<L, M>,
-    ended: Ended,
+pub(crate) struct Worked<L: Ledger + History, M: Ledger> {
+    pub(crate) counted: CountedShare<L, M>,
+    pub(crate) ended: Ended,
+}
+
+/// What a thread that was started returns: what it tells is all that happened through its share.
+#[derive(Drop)]
+pub(crate) struct Works<T, W> {
+    thread: Snapshot<T>,
+    number: usize,
+    program: Snapshot<W>,
+}
+
+impl<L: Ledger + History, M: Ledger, T: AnyReady<W>, W> Promise<Worked<L, M>> for Works<T, W> {
+    ghost use Rattle.std.specs.Prelude.{◌≡◌, []};
+
+    ghost kept_by = { λ works worked.
+        T.tells works.thread.value works.program.value works.number worked.ended []
+        worked.counted.share.own
+        × (worked.counted.counts.unreported ≡ worked.ended.left.unreported) };
 }
 
 /// Does a thread's work, and returns its share.
@@ -66,12 +91,25 @@ fn start<
     share: Share<L, M>,
     thread: T,
     program: &'s W,
-) -> io::Result<JoinHandle<Worked<L, M>>>
+) -> io::Result<PromisedHandle<Worked<L, M>, Works<T, W>>>
     requires { IsNewMember share }
+    ensures thread { IfOk result (λ handle. handle.promise.thread.value ≡ thread) }
+    ensures number { IfOk result (λ handle. handle.promise.number ≡ number) }
+    ensures program { IfOk result (λ handle. handle.promise.program.value ≡ program.now) }
 {
-    Ok(scope.spawn(
+    let works = Works {
+        thread: Snapshot::of(&thread),
+        number,
+        program: Snapshot::of(program),
+    };
+    Ok(scope.spawn_with(
+        works,
         move || -> Worked<L, M>
             requires { IsNewMember share }
+            ensures tells { T.tells thread program.entry.now number result.ended []
+                result.counted.share.own }
+            ensures unreported { result.counted.counts.unreported
+                ≡ result.ended.left.unreported }
         { work(rt, number, profiler, share, thread, program) },
     )?)
 }
@@ -97,9 +135,11 @@ fn start_all<
     shares: Vec<Share<L, M>>,
     threads: Vec<T>,
     program: &'s W,
-) -> io::Result<Vec<JoinHandle<Worked<L, M>>>>
+) -> io::Result<Vec<PromisedHandle<Worked<L, M>, Works<T, W>>>>
     requires { All IsNewMember shares.items }
-    ensures { IfOk result (λ started. vec_len started ≡ vec_len threads) }
+    ensures started { IfOk result (λ started. vec_len started ≡ vec_len threads) }
+    ensures each { IfOk result (λ started.
+        AreStarted started.items threads.items program.now) }
 {
     let mut shares = shares;
     let mut started = Vec::new(rt.alloc());
@@ -114,98 +154,6 @@ fn start_all<
         started.push(start(rt, scope, number, profiler, share, thread, program)?)?;
     }
     Ok(started)
-}
-
-/// Vectors with room for what all threads return, so that nothing is allocated once the threads have begun.
-#[derive(Drop)]
-struct Room<L: Ledger + History, M: Ledger> {
-    shares: Vec<Share<L, M>>,
-    counts: Vec<ThreadCounts>,
-    ghost none: { (shares.items ≡ []) × (counts.items ≡ []) },
-}
-
-impl<L: Ledger + History, M: Ledger> Room<L, M> {
-    /// Allocates room for this number of threads and the leader, which has two shares.
-    fn new<R: AllocGlobal>(rt: &R, threads: usize) -> io::Result<Room<L, M>> {
-        Ok(Room {
-            shares: Vec::with_capacity(rt.alloc(), threads.saturating_add(2))?,
-            counts: Vec::with_capacity(rt.alloc(), threads)?,
-        })
-    }
-}
-
-/// What all threads returned: every share, what became of each thread's scopes, and what the leader counted.
-#[derive(Drop)]
-struct Joined<L: Ledger + History, M: Ledger> {
-    shares: Vec<Share<L, M>>,
-    counts: Vec<ThreadCounts>,
-    leader: ThreadCounts,
-    failed: Option<Failed>,
-    frames: u64,
-    missed: u64,
-    ghost all_back: { vec_len shares ≡ vec_len counts + 2 },
-    ghost none_handed: { frames ≡ 0 → all_handed shares.items ≡ 0 },
-    ghost some_each: { frames ≤ all_handed shares.items },
-    ghost some: { missed ≤ frames },
-    ghost counted: { all_reported shares.items < 2 ^ 64
-        → leader.reported + sum_by (λ t. t.reported) counts.items
-        ≡ all_reported shares.items },
-}
-
-/// Returns the failure of the thread with this number, if its work failed.
-fn failure(number: usize, ended: io::Result<()>) -> Option<Failed>
-    ensures ok { OnOk ended (result ≡ None) }
-    ensures err { IfErr ended (λ error.
-        result ≡ Some (record { number = number; error = error })) }
-{
-    let error = ended.err()?;
-    Some(Failed { number, error })
-}
-
-#[tactic(auto, using(crate::proofs::CountedShares::counted_more, crate::proofs::CountedShares::none_more, crate::proofs::CountedShares::some_more))]
-/// Joins all threads, and appends their shares to the leader's two.
-fn join_all<L: Ledger + History, M: Ledger, R: Threads>(
-    rt: &R,
-    started: Vec<JoinHandle<Worked<L, M>>>,
-    led: Led<L, M>,
-    room: Room<L, M>,
-) -> io::Result<Joined<L, M>>
-    ensures threads { IfOk result (λ joined. vec_len joined.counts ≡ vec_len started) }
-    ensures leader { IfOk result (λ joined. joined.leader ≡ led.counted.counts) }
-    ensures frames { IfOk result (λ joined.
-        (joined.frames ≡ led.taken.frames) × (joined.missed ≡ led.taken.missed)) }
-{
-    let Room {
-        mut shares,
-        mut counts,
-    } = room;
-    let Led { taken, counted } = led;
-    let Taken {
-        share,
-        frames,
-        missed,
-    } = taken;
-    let CountedShare {
-        share: own,
-        counts: leader,
-    } = counted;
-    let mut failed = None;
-    shares.push(share)?;
-    shares.push(own)?;
-    for thread in started {
-        let Worked { counted, ended } = thread.join(rt);
-        failed = failed.or(failure(counts.len(), ended.result));
-        shares.push(counted.share)?;
-        counts.push(counted.counts)?;
-    }
-    Ok(Joined {
-        shares,
-        counts,
-        leader,
-        failed,
-        frames,
-        missed,
-    })
 }
 
 /// Starts the program's threads, opens its gate, runs its leader, and returns all shares.
@@ -230,7 +178,10 @@ fn run_all<
     program: &'s W,
 ) -> io::Result<Joined<L, M>>
     requires { All IsNewMember shares.items }
-    ensures { IfOk result (λ joined. vec_len joined.counts ≡ vec_len crew.threads) }
+    ensures threads { IfOk result (λ joined. vec_len joined.counts ≡ vec_len crew.threads) }
+    ensures told { IfOk result (λ joined.
+        AreTold T.tells D.tells D.takes crew.threads.items crew.leader program.now joined.failed
+        joined.counts.items joined.leader joined.frames joined.shares.items) }
 {
     let Crew { leader, threads } = crew;
     let room = Room::new(&rt, threads.len())?;
@@ -258,14 +209,22 @@ fn scoped<
     program: &W,
 ) -> io::Result<Joined<L, M>>
     requires { All IsNewMember shares.items }
-    ensures { IfOk result (λ joined. vec_len joined.counts ≡ vec_len crew.threads) }
+    ensures threads { IfOk result (λ joined. vec_len joined.counts ≡ vec_len crew.threads) }
+    ensures told { IfOk result (λ joined.
+        AreTold T.tells D.tells D.takes crew.threads.items crew.leader program.now joined.failed
+        joined.counts.items joined.leader joined.frames joined.shares.items) }
 {
     thread::scope(
         thread::scope_env(),
         &rt,
         move |scope| -> io::Result<Joined<L, M>>
             requires { All IsNewMember shares.items }
-            ensures { IfOk result (λ joined. vec_len joined.counts ≡ vec_len crew.threads) }
+            ensures threads { IfOk result (λ joined.
+                vec_len joined.counts ≡ vec_len crew.threads) }
+            ensures told { IfOk result (λ joined.
+                AreTold T.tells D.tells D.takes crew.threads.items crew.leader
+                program.entry.now joined.failed joined.counts.items joined.leader
+                joined.frames joined.shares.items) }
         { run_all(rt, scope, profiler, seat, shares, crew, program) },
     )
 }
@@ -349,7 +308,12 @@ fn settled<L: Ledger + History, M: Ledger, R: Wait>(
     requires { vec_len joined.counts + 2 ≡ L.parts }
     ensures threads { result.threads ≡ joined.counts }
     ensures leader { result.leader ≡ joined.leader }
+    ensures failed { result.failed ≡ joined.failed }
     ensures frames { (result.frames ≡ joined.frames) × (result.missed ≡ joined.missed) }
+    ensures handed { result.settled.handed ≡ all_handed joined.shares.items }
+    ensures history { (log : History) × (streams : Streams)
+        × Recounts (vec_len joined.shares) (accounts_of joined.shares.items) log streams
+        × (result.settled.pending ≡ total_scopes (map.values streams)) }
 {
     let Joined {
         shares,
@@ -399,6 +363,8 @@ pub(crate) fn run<
     requires log { log.name ≡ L.history }
     ensures threads { IfOk result (λ outcome.
         vec_len outcome.threads ≡ vec_len crew.threads) }
+    ensures told { IfOk result (λ outcome.
+        HasTold T.tells D.tells D.takes crew.threads.items crew.leader program.now outcome) }
 {
     let opened = Opened::<L, M>::new(&rt, scopes, settings, parts, reported, handed, log)?;
     let Opened {

@@ -1,6 +1,6 @@
 //! The frames that a program's leader takes, through a share of its own.
 ghost use Rattle.std.specs.Prelude.{◌≡◌, ◌≤◌, ◌<◌, ◌^◌};
-ghost use Rattle.puffin.specs.Taking.{CountsTaken};
+ghost use Rattle.puffin.specs.Taking.{CountsTaken, TookAll};
 
 use crate::global_profiler::{Emitted, Share, SharedProfiler};
 use crate::light::program::Frames;
@@ -19,6 +19,7 @@ pub(crate) struct Taken<L: Ledger + History, M: Ledger> {
     ghost none_handed: { frames ≡ 0 → share.counts.handed ≡ 0 },
     ghost some_each: { frames ≤ share.counts.handed },
     ghost some: { missed ≤ frames },
+    ghost took: { TookAll share frames },
 }
 
 impl<L: Ledger + History, M: Ledger> Taken<L, M> {
@@ -27,6 +28,7 @@ impl<L: Ledger + History, M: Ledger> Taken<L, M> {
     /// Starts with no frames.
     pub(crate) fn new(share: Share<L, M>) -> Taken<L, M>
         requires { IsNewMember share }
+        ensures { result.share ≡ share }
     {
         Taken {
             share,
@@ -63,15 +65,21 @@ impl<L: Ledger + History, M: Ledger, R: Wait> Frames for Taker<L, M, R> {
     ghost use Rattle.puffin.specs.SharedCauses.{IsFrameCause};
     ghost use Rattle.puffin.specs.Shares.{SpellsItsScopes, CountsFrame};
     ghost use Rattle.puffin.specs.Members.{TakesFrame};
-    ghost use Rattle.puffin.specs.Taking.{CountsTaken};
+    ghost use Rattle.puffin.specs.Happenings.{frames_in};
+    ghost use Rattle.puffin.specs.Taking.{CountsTaken, IsTaken};
+
+    ghost taken = { λ taker. frames_in taker.taken.share.own };
 
     fn new_frame(&mut self) -> Result<Emitted>
         ensures spells { IfOk result (λ emitted. SpellsItsScopes emitted.frame) }
         ensures cause { IfErr result IsFrameCause }
         ensures share { IfOk result (λ emitted.
             CountsFrame self.old.taken.share.counts emitted.frame self.new.taken.share.counts) }
-        ensures taken { IfOk result (λ emitted.
+        ensures share_takes { IfOk result (λ emitted.
             TakesFrame self.old.taken.share emitted.frame self.new.taken.share) }
+        ensures taken { IfOk result (λ emitted.
+            IsTaken (frames_in self.old.taken.share.own) emitted.frame
+            (frames_in self.new.taken.share.own)) }
         ensures counts { IfOk result (λ emitted. CountsTaken emitted.frame emitted.refused
             (self.old.taken.frames, self.old.taken.missed)
             (self.new.taken.frames, self.new.taken.missed)) }
@@ -79,6 +87,8 @@ impl<L: Ledger + History, M: Ledger, R: Wait> Frames for Taker<L, M, R> {
             (self.new.taken.share ≡ self.old.taken.share)
             × (self.new.taken.frames ≡ self.old.taken.frames)
             × (self.new.taken.missed ≡ self.old.taken.missed)) }
+        ensures untaken { OnErr result (
+            frames_in self.new.taken.share.own ≡ frames_in self.old.taken.share.own) }
     {
         let taken = &mut self.taken;
         let emitted = self.profiler.new_frame(&self.rt, &mut taken.share)?;

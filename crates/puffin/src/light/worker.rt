@@ -76,6 +76,11 @@ impl<C: Clock + Copy + Drop, W: Pool> AnyReady<W> for Worker<C> {
 }
 
 impl<C: Clock + Drop, W: Pool> AnyLeader<W> for Head<C> {
+    /// Nothing is stated of the leader.
+    ghost tells = { λ head pool unreported before after. Unit {0} };
+
+    ghost takes = { λ head pool frames. Unit {0} };
+
     fn lead<R: Wait, P: Reporter, F: Frames>(
         self,
         rt: &R,

@@ -23,6 +23,7 @@ use Rattle.puffin.specs.Places.{num_known}
 use Rattle.puffin.specs.Guards.{BeginsAt, EndsIn}
 use Rattle.puffin_accounts.specs.Moments.{Moment, moment_by, Sees, AcceptsThere, RefusesThere}
 use Rattle.puffin_accounts.specs.Adding.{AddsScopes, MayBe, scope_if, span_at}
+use Rattle.puffin.proofs.lemmas.CodeRuns.{runs_both}
 use Rattle.puffin_accounts.specs.Running.{Code, nothing, scope, Runs, AreScopesOf, AreAllOf, AllBegan, followed_by, repeated, num_scopes_of}
 use Rattle.puffin_accounts.proofs.lemmas.Adding.{adds_nothing, adds_both}
 use Rattle.puffin_accounts.proofs.lemmas.Opened.{adds_scope}
@@ -56,12 +57,6 @@ pub all_began : AllBegan
 all_began known form code f is = (at_most known form code f is, all_of known form code f is)
 
 -- ---- code after code
-
--- one piece of code ran after another
-pub runs_both : {T : Type 0} (begins : T → Place → List ℕ → GuardState → T → Type 0) (ends : T → ℕ → T → Type 0) (code next : Code) (old mid new : T) → Runs begins ends code old mid → Runs begins ends next mid new → Runs begins ends (followed_by code next) old new
-runs_both begins ends nothing next old mid new first then_next = subst (λ t. Runs begins ends next t new) first then_next
-runs_both begins ends (scope place text within after) next old mid new (state, begun, left, ended, began, inner, leaves, rest) then_next =
-    (state, begun, left, ended, began, inner, leaves, runs_both begins ends after next ended mid new rest then_next)
 
 -- code ran once more
 pub runs_again : {T : Type 0} (begins : T → Place → List ℕ → GuardState → T → Type 0) (ends : T → ℕ → T → Type 0) (code : Code) (n : ℕ) (old mid new : T) → Runs begins ends (repeated n code) old mid → Runs begins ends code mid new → Runs begins ends (repeated (n + 1) code) old new

@@ -25,31 +25,29 @@ details_in o = option_map (λ d. details_of (arc_value d)) (option_copied o)
 -- this text was appended, and the rest stayed
 pub record IsWithText (v u : Events) (more : List ℕ) : Type 0 where
   pub text : u.text.items ≡ v.text.items ++ more
-  pub known : u.known ≡ v.known
+  pub overview : u.overview ≡ v.overview
   pub tid : u.tid ≡ v.tid
-  pub origin : u.origin ≡ v.origin
 
 abbrev pub scope_events : Events → List ScopeInContext → List ℕ
-scope_events v xs = flat_map (λ s. scope_event v.known v.origin v.tid s.span) xs
+scope_events v xs = flat_map (λ s. scope_event v.overview.now v.tid s.span) xs
 
 abbrev pub TakesScopes : Events → List ScopeInContext → Events → Type 0
 TakesScopes v xs u = IsWithText v u (scope_events v xs)
 
 pub scopes_none : (v : Events) → TakesScopes v [] v
 scopes_none v =
-    record { text = sym (append-nil v.text.items); known = refl; tid = refl; origin = refl }
+    record { text = sym (append-nil v.text.items); overview = refl; tid = refl }
 
 pub scopes_more : (u v w : Events) (xs ys : List ScopeInContext) → TakesScopes u xs v →
     TakesScopes v ys w → TakesScopes u (xs ++ ys) w
 scopes_more u v w xs ys a b =
     let same : scope_events v ys ≡ scope_events u ys =
-    λ i. flat_map (λ s. scope_event (a.known i) (a.origin i) (a.tid i) s.span) ys in
+    λ i. flat_map (λ s. scope_event (a.overview i).now (a.tid i) s.span) ys in
     record {
       text = b.text ∙ (λ i. a.text i ++ same i)
           ∙ append_assoc u.text.items (scope_events u xs) (scope_events u ys)
           ∙ ap (λ (t : List ℕ). u.text.items ++ t)
-          (sym (flat_map-append (λ s. scope_event u.known u.origin u.tid s.span) xs ys));
-      known = b.known ∙ a.known;
+          (sym (flat_map-append (λ s. scope_event u.overview.now u.tid s.span) xs ys));
+      overview = b.overview ∙ a.overview;
       tid = b.tid ∙ a.tid;
-      origin = b.origin ∙ a.origin;
     }

@@ -2,32 +2,33 @@
 use Rattle.std.specs.Prelude.{◌≡◌, ◌⊎◌, ℕ, Bool, true, false, List, [], ◌++◌, fold, Option, option_map}
 use Rattle.std.proofs.Common.{refl, sym, ap, subst, ◌∙◌}
 use Rattle.std.proofs.lemmas.List.Sums.{fold-append}
+use Rattle.std.proofs.lemmas.List.Concat.{flat_map-append}
 use denote.Ref.{Bor}
 use Rattle.puffin_data.specs.declared.error.Error.{Error}
 use Rattle.puffin_data.specs.Forest.{Forest}
 use Rattle.puffin_data.specs.Forest.Spelling.{Spells}
 use Rattle.puffin_data.specs.Honesty.{StreamFacts}
 use Rattle.puffin_data.specs.Walk.{IsFault}
-use Rattle.puffin_threads.specs.Details.Collection.{Collection}
-use Rattle.puffin_threads.specs.Thread.ThreadKey.{ThreadKey}
+use Rattle.puffin_threads.specs.declared.thread_profiler.thread_info.ThreadInfo.{ThreadInfo}
+use Rattle.puffin_threads.specs.Thread.ThreadKey.{ThreadKey, key_of}
 use Rattle.puffin_look.specs.OpenFrame.{OpenFrame}
 use Rattle.puffin_look.specs.Trees.{TreeFrame, AreRead, AreUnread}
-use Rattle.puffin_look.specs.FrameTree.{is_wanted, wanted_streams, known_with, has_trees, found_in}
+use Rattle.puffin_look.specs.FrameTree.{is_wanted, wanted_streams, has_trees, found_in}
 use Rattle.puffin_look.specs.Folded.{forest_parts, frame_parts, parts}
-use Rattle.puffin_look.specs.inner.Reads.{AreRead-append, outputs-append}
+use Rattle.puffin_look.specs.inner.Reads.{AreRead-append}
 use Rattle.puffin_look.specs.inner.Stacks.{rows_of, with_part, HasMoreParts}
 use Rattle.puffin_look.specs.declared.folded.Folding.{Folding}
 
--- the text of the thread that is wanted
-abbrev pub wanted_of : Folding → Option (List ℕ)
-wanted_of v = option_map (λ t. t.now) v.thread
+-- the thread that is wanted
+abbrev pub wanted_of : Folding → Option ThreadKey
+wanted_of v = option_map (λ t. key_of t.now) v.thread
 
 -- ---- a thread
 
 pub record AddsStack (v u : Folding) (r : StreamFacts) : Type 0 where
   pub forest : Forest
   pub spells : Spells r.form r.bytes forest
-  pub parts : HasMoreParts v.stacks u.stacks (forest_parts v.stacks.known forest)
+  pub parts : HasMoreParts v.stacks u.stacks (forest_parts v.stacks.known.now forest)
   pub found : u.is_found ≡ true
   pub thread : u.thread ≡ v.thread
 
@@ -48,8 +49,8 @@ pub record TakesStacks (v : Folding) (frames : List OpenFrame) (text : List ℕ)
   pub trees : List TreeFrame
   pub read : AreRead (wanted_streams (wanted_of v)) frames trees
   pub rows : rows_of u.stacks
-      ≡ fold with_part (rows_of v.stacks) (parts v.stacks.known trees)
-  pub known : u.stacks.known ≡ fold known_with v.stacks.known trees
+      ≡ fold with_part (rows_of v.stacks) (parts v.stacks.known.now trees)
+  pub known : u.stacks.known ≡ v.stacks.known
   pub found : u.is_found ≡ found_in v.is_found trees
   pub thread : u.thread ≡ v.thread
 
@@ -72,21 +73,20 @@ stacks_none v = record {
 pub stacks_more : (u v w : Folding) (xs ys : List OpenFrame) (s t : List ℕ) → TakesStacks u xs s v →
     TakesStacks v ys t w → TakesStacks u (xs ++ ys) (s ++ t) w
 stacks_more u v w xs ys s t a b =
-    let thread = ap (option_map (λ (t : Bor (List ℕ)). t.now)) a.thread in
-    let known = u.stacks.known in
+    let thread = ap (option_map (λ (t : Bor ThreadInfo). key_of t.now)) a.thread in
+    let known = u.stacks.known.now in
     record {
       none = ap (λ (r : List ℕ). r ++ t) a.none ∙ b.none;
       trees = a.trees ++ b.trees;
       read = AreRead-append (wanted_streams (wanted_of u)) xs ys a.trees b.trees a.read (
-          subst (λ (p : Option (List ℕ)). AreRead (wanted_streams p) ys b.trees) thread b.read);
+          subst (λ (p : Option ThreadKey). AreRead (wanted_streams p) ys b.trees) thread b.read);
       rows = b.rows
-          ∙ (λ i. fold with_part (a.rows i) (parts (a.known i) b.trees))
+          ∙ (λ i. fold with_part (a.rows i) (parts (a.known i).now b.trees))
           ∙ sym (fold-append with_part (rows_of u.stacks) (parts known a.trees)
-          (parts (fold known_with known a.trees) b.trees))
+          (parts known b.trees))
           ∙ ap (fold with_part (rows_of u.stacks)) (
-          sym (outputs-append frame_parts known_with known a.trees b.trees));
-      known = b.known ∙ ap (λ (k : Collection). fold known_with k b.trees) a.known
-          ∙ sym (fold-append known_with known a.trees b.trees);
+          sym (flat_map-append (frame_parts known) a.trees b.trees));
+      known = b.known ∙ a.known;
       found = b.found ∙ ap (λ (f : Bool). found_in f b.trees) a.found
           ∙ sym (fold-append (λ f t. has_trees f t.trees) u.is_found a.trees b.trees);
       thread = b.thread ∙ a.thread;

@@ -56,8 +56,8 @@ pub record ListsAll {L : Type 0} (text : L → List ℕ)
   pub none_left : text new ≡ []
   pub written : Appends before after (text old ++ more)
 
--- where and why listing stopped
-pub record StopsListing {L : Type 0} (text : L → List ℕ)
+-- where and why listing stopped, behind the letters of the file
+pub record StopsBehind {L : Type 0} (text : L → List ℕ)
     (takes : L → List OpenFrame → List ℕ → L → Type 0) (refuses : L → OpenFrame → Error → Type 0)
     (old new : L) (unread left before after : Option (List ℕ)) (fault : FileError) : Type 0 where
   pub stored : List Stored
@@ -77,6 +77,19 @@ pub record StopsListing {L : Type 0} (text : L → List ℕ)
       ⊎ (Appends before after (text old ++ more)
       × (s : Stored) × HasGiven unread left (stored ++ s ∷ [])
       × FailsToAdd refuses state new (opened s) fault)
-      -- the file doesn't begin with its letters
-      ⊎ ((stored ≡ []) × (state ≡ new) × FailsToRead file_at unread left fault
-      × Appends before after [])
+
+-- the file doesn't begin with its letters, or they can't be read
+pub record IsNoFile {L : Type 0} (takes : L → List OpenFrame → List ℕ → L → Type 0) (old new : L)
+    (unread left before after : Option (List ℕ)) (fault : FileError) : Type 0 where
+  pub same : new ≡ old
+  pub none : takes old [] [] old
+  pub fails : FailsToRead file_at unread left fault
+  pub written : Appends before after []
+
+-- where and why listing stopped
+abbrev pub StopsListing : {L : Type 0} → (L → List ℕ) →
+    (L → List OpenFrame → List ℕ → L → Type 0) → (L → OpenFrame → Error → Type 0) → L → L →
+    Option (List ℕ) → Option (List ℕ) → Option (List ℕ) → Option (List ℕ) → FileError → Type 0
+StopsListing text takes refuses old new unread left before after fault =
+    StopsBehind text takes refuses old new unread left before after fault
+    ⊎ IsNoFile takes old new unread left before after fault

@@ -9,6 +9,7 @@ use Rattle.std.specs.declared.alloc.Global.{Global}
 use Rattle.std.proofs.Common.{refl, sym, ap, subst, ◌∙◌}
 use Rattle.std.proofs.lemmas.List.Sums.{fold-append}
 use Rattle.std.proofs.lemmas.List.Concat.{flat_map-append}
+use denote.Ref.{Bor}
 use Rattle.puffin_data.specs.Forest.{Span}
 use Rattle.puffin_data.specs.Walk.PlacedScopes.{ScopeInContext}
 use Rattle.puffin_threads.specs.Details.Collection.{Collection}
@@ -72,16 +73,16 @@ pub record HasMoreParts (v u : Stacks) (more : List Part) : Type 0 where
   pub known : u.known ≡ v.known
 
 abbrev pub all_parts : Stacks → List ScopeInContext → List Part
-all_parts v xs = flat_map (scope_parts v.known) xs
+all_parts v xs = flat_map (scope_parts v.known.now) xs
 
 abbrev pub TakesScopes : Stacks → List ScopeInContext → Stacks → Type 0
 TakesScopes v xs u = HasMoreParts v u (all_parts v xs)
 
 -- what is kept is the place of the path of the innermost of these scopes, or nothing outside of all scopes
 abbrev pub StandsFor : Stacks → Option ℕ → List Span → Type 0
-StandsFor v None around = path_of v.known around ≡ None
+StandsFor v None around = path_of v.known.now around ≡ None
 StandsFor v (Some i) around =
-    (path : List ℕ) × (path_of v.known around ≡ Some path)
+    (path : List ℕ) × (path_of v.known.now around ≡ Some path)
     × (slice_get (keys_of (rows_of v)) i ≡ Some path)
 
 -- ---- laws
@@ -141,16 +142,16 @@ parts_more u v w xs ys a b = record {
 pub scopes_more : (u v w : Stacks) (xs ys : List ScopeInContext) → TakesScopes u xs v →
     TakesScopes v ys w → TakesScopes u (xs ++ ys) w
 scopes_more u v w xs ys a b =
-    subst (HasMoreParts u w) (sym (flat_map-append (scope_parts u.known) xs ys))
+    subst (HasMoreParts u w) (sym (flat_map-append (scope_parts u.known.now) xs ys))
     (parts_more u v w (all_parts u xs) (all_parts u ys) a (subst (HasMoreParts v w)
-    (λ i. flat_map (scope_parts (a.known i)) ys) b))
+    (λ i. flat_map (scope_parts (a.known i).now) ys) b))
 
 pub still_stands : (u v : Stacks) (xs : List ScopeInContext) (w : Option ℕ) (around : List Span) →
     TakesScopes u xs v → StandsFor u w around → StandsFor v w around
-still_stands u v xs None around t s = ap (λ (k : Collection). path_of k around) t.known ∙ s
+still_stands u v xs None around t s = ap (λ (k : Bor Collection). path_of k.now around) t.known ∙ s
 still_stands u v xs (Some i) around t s = (
   s.0,
-  ap (λ (k : Collection). path_of k around) t.known ∙ s.1,
+  ap (λ (k : Bor Collection). path_of k.now around) t.known ∙ s.1,
   ap (λ (rows : List Row). slice_get (keys_of rows) i) t.rows
       ∙ places_kept (rows_of u) (all_parts u xs) (Some i) s.0 s.2,
 )

@@ -16,7 +16,7 @@ pub record HasMoreLines (v u : Lines) (more : List ℕ) : Type 0 where
   pub range : u.range_ns ≡ v.range_ns
 
 abbrev pub scope_lines : Lines → List ScopeInContext → List ℕ
-scope_lines v xs = flat_map (scope_line v.known v.range_ns) xs
+scope_lines v xs = flat_map (scope_line v.known.now v.range_ns) xs
 
 abbrev pub TakesScopes : Lines → List ScopeInContext → Lines → Type 0
 TakesScopes v xs u = HasMoreLines v u (scope_lines v xs)
@@ -33,12 +33,12 @@ pub scopes_more : (u v w : Lines) (xs ys : List ScopeInContext) → TakesScopes 
     TakesScopes v ys w → TakesScopes u (xs ++ ys) w
 scopes_more u v w xs ys a b =
     let same : scope_lines v ys ≡ scope_lines u ys =
-    λ i. flat_map (scope_line (a.known i) (a.range i)) ys in
+    λ i. flat_map (scope_line (a.known i).now (a.range i)) ys in
     record {
       text = b.text ∙ (λ i. a.text i ++ same i)
           ∙ append_assoc u.text.items (scope_lines u xs) (scope_lines u ys)
           ∙ ap (λ (t : List ℕ). u.text.items ++ t)
-          (sym (flat_map-append (scope_line u.known u.range_ns) xs ys));
+          (sym (flat_map-append (scope_line u.known.now u.range_ns) xs ys));
       known = b.known ∙ a.known;
       range = b.range ∙ a.range;
     }

@@ -7,7 +7,7 @@ use Rattle.puffin_merge.specs.declared.merge.scope.MergeScope.{MergeScope}
 use Rattle.puffin_merge.specs.Merge.Scopes.{forest_in}
 use Rattle.puffin_report.specs.Report.{HasSummary}
 use Rattle.puffin_c.specs.Merges.{IsListOf}
-use Rattle.puffin_c.specs.Reporting.{key_given, LacksLines}
+use Rattle.puffin_c.specs.Reporting.{key_given, LacksSummary}
 use Rattle.puffin_c.proofs.Named.{text_given}
 use Rattle.puffin_c.proofs.MergesMade.{list_given, name_not_merged, file_not_merged, no_room_for_file}
 use Rattle.puffin_c.proofs.merge.file_merged.Goals as goal
@@ -23,7 +23,7 @@ returns-in_err-summary c =
     let same = to_z-of_z c.ranges.start_ns in
     let key = c.in_ok-thread.ensures.ok ∙ ap (λ (s : ℤ). key_given c.args.has_start s c.args.name.now) same in
     rw p.1 (file_not_merged _ c.args.has_start _ _ _ _ _ p.0 _ p.2 (text_given c.args.has_start _ _ c.in_ok-thread.ensures.text)
-    (subst (λ (i : ThreadKey). LacksLines c.args.file.now i c.in_err-summary.field-0.0) key c.in_err-summary.ensures.err))
+    (subst (λ (i : ThreadKey). LacksSummary c.args.file.now i c.in_err-summary.field-0.0) key c.in_err-summary.ensures.err))
 
 pub returns-in_err-list : goal.returns-in_err-list
 returns-in_err-list c =

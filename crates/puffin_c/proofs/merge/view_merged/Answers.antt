@@ -6,7 +6,7 @@ use Rattle.puffin_threads.specs.Thread.ThreadKey.{ThreadKey, key_of}
 use Rattle.puffin_c.specs.declared.profiler.Profiler.{Profiler}
 use Rattle.puffin_c.specs.Merges.{newest_fields, IsMergeOf, LacksMerge}
 use Rattle.puffin_c.specs.Reporting.{key_given}
-use Rattle.puffin_c.proofs.Held.{something_held}
+use Rattle.puffin_c.proofs.Refusals.{something_held}
 use Rattle.puffin_c.proofs.Named.{text_given}
 use Rattle.puffin_c.proofs.MergesMade.{list_given, name_not_viewed}
 use Rattle.puffin_c.proofs.merge.view_merged.Goals as goal

@@ -4,7 +4,7 @@ use Rattle.puffin_threads.specs.Thread.Calls.{Thread}
 use Rattle.puffin_collector.specs.Collector.State.{Collected}
 use Rattle.puffin_c.specs.declared.profiler.Profiler.{Profiler}
 use Rattle.puffin_c.specs.Profiling.{with_collected}
-use Rattle.puffin_c.proofs.Held.{refusal_keeps, reported_so, refused_so}
+use Rattle.puffin_c.proofs.Refusals.{refusal_keeps, reported_so, refused_so}
 use Rattle.puffin_c.proofs.profiling.reported.Goals as goal
 
 pub returns-in-Ok-clause-hands : goal.returns-in-Ok-clause-hands

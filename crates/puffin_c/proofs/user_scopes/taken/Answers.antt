@@ -7,7 +7,7 @@ use Rattle.puffin_collector.specs.Collector.State.{Collected, AcceptsReport, IsR
 use Rattle.puffin_c.specs.declared.profiler.Profiler.{Profiler}
 use Rattle.puffin_c.specs.Profiling.{with_collected}
 use Rattle.puffin_c.specs.Reporting.{key_given}
-use Rattle.puffin_c.proofs.Held.{something_held, name_refused, bytes_refused}
+use Rattle.puffin_c.proofs.Refusals.{something_held, name_refused, bytes_refused}
 use Rattle.puffin_c.proofs.Named.{name_given, text_given}
 use Rattle.puffin_c.proofs.user_scopes.taken.Goals as goal
 

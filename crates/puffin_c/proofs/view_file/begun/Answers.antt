@@ -2,7 +2,7 @@ use Rattle.std.proofs.Common.{refl, sym, ap, ◌∙◌, inr}
 use Rattle.std.specs.Prelude.{Some, length}
 use Rattle.puffin_c.specs.declared.profiler.Profiler.{Profiler}
 use Rattle.puffin_c.specs.Profiling.{bytes_of, with_unread}
-use Rattle.puffin_c.proofs.Held.{piece_refusal}
+use Rattle.puffin_c.proofs.Refusals.{piece_refusal}
 use Rattle.puffin_c.proofs.view_file.begun.Goals as goal
 
 pub returns-in-Ok : goal.returns-in-Ok

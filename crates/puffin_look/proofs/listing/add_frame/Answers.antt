@@ -1,13 +1,11 @@
 -- The frame that was added is the one that was read.
-use Rattle.std.proofs.Common.{◌≡◌, ◌⊎◌, [], ◌∷◌, inl, inr, refl, ap, subst, ◌∙◌}
+use Rattle.std.proofs.Common.{◌≡◌, ◌⊎◌, [], ◌∷◌, inl, inr, refl, ap, subst}
 use Rattle.std.proofs.lemmas.Result.{err_from_is_err_and}
 use Rattle.std.specs.Arc.{arc_value}
 use Rattle.puffin_data.specs.declared.error.Error.{Error}
 use Rattle.puffin_data.specs.declared.error.Error.TheVariants.{Memory}
 use Rattle.puffin_data.specs.declared.file_error.FileError.TheVariants as file
 use Rattle.puffin_data.specs.Cause.{file_error_of}
-use Rattle.puffin_threads.specs.Details.{shared_details}
-use Rattle.puffin_frames.specs.Frame.Contents.{frame_details}
 use Rattle.puffin_look.specs.OpenFrame.{OpenFrame, open_of}
 use Rattle.puffin_look.proofs.listing.add_frame.Goals as goal
 
@@ -19,9 +17,9 @@ told cause = inr refl
 pub returns-clause-ok : goal.returns-clause-ok
 returns-clause-ok g c =
     let added = c.in_ok-add.ensures.ok in
-    let same = (λ i. open_of (c.deref.ensures i) (shared_details (c.deref-2.ensures.value i))) ∙ ap (open_of (arc_value c.in_ok-unpacked.unpacked)) c.unpacked.ensures.details in
+    let same = ap open_of c.deref.ensures in
     record {
-      frame = open_of (arc_value c.in_ok-unpacked.unpacked) (frame_details c.args.frame);
+      frame = open_of (arc_value c.in_ok-unpacked.unpacked);
       opens = c.in_ok-unpacked.ensures.ok;
       more = added.0;
       pending = added.1;
@@ -32,11 +30,11 @@ pub returns-in_err-add-clause-err : goal.returns-in_err-add-clause-err
 returns-in_err-add-clause-err g c =
     let p = err_from_is_err_and c.from_residual-in_err-add.result c.from_residual-in_err-add.ensures.1 in
     let cause = c.in_err-add.field-0.0 in
-    let same = (λ i. open_of (c.deref.ensures i) (shared_details (c.deref-2.ensures.value i))) ∙ ap (open_of (arc_value c.in_ok-unpacked.unpacked)) c.unpacked.ensures.details in
+    let same = ap open_of c.deref.ensures in
     rw (p.1, p.2) (elim (c.in_err-add.ensures.err) [
       | inl memory ↦ inl (ap file_error_of memory)
       | inr refused ↦ elim (told cause) [
         | inl memory ↦ inl memory
-        | inr is ↦ inr (inr (open_of (arc_value c.in_ok-unpacked.unpacked) (frame_details c.args.frame), cause, c.in_ok-unpacked.ensures.ok, is, subst (λ (f : OpenFrame). g.L.Listing.refuses c.args.listing.now f cause) same refused))
+        | inr is ↦ inr (inr (open_of (arc_value c.in_ok-unpacked.unpacked), cause, c.in_ok-unpacked.ensures.ok, is, subst (λ (f : OpenFrame). g.L.Listing.refuses c.args.listing.now f cause) same refused))
       ]
     ])

@@ -1,9 +1,6 @@
-use Rattle.std.proofs.Common.{List, [], ◌∷◌, ◌++◌, subst, ◌∙◌, arith, length-append}
-use Rattle.std.proofs.lemmas.Result.{err_from_is_err_and}
-use Rattle.puffin_frames.specs.Packet.Stored.{Stored}
-use Rattle.puffin_frames.specs.Packet.Next.{stored_of}
-use Rattle.puffin_look.specs.inner.Listings.{AddsFrame, FailsToAdd}
-use Rattle.puffin_look.proofs.Listed.{opened_fresh, goes_on, frame_cut, not_a_file, head_cut, not_added, too_many}
+use Rattle.std.proofs.Common.{inl}
+use Rattle.std.proofs.lemmas.Result.{err_from_is_err_and, on_ok_weaker}
+use Rattle.puffin_look.proofs.Listed.{if_err_so, not_a_file}
 use Rattle.puffin_look.proofs.listing.list_frames.Goals as goal
 
 pub returns-in_err-read_magic-clause-err : goal.returns-in_err-read_magic-clause-err
@@ -11,48 +8,8 @@ returns-in_err-read_magic-clause-err g c =
     let p = err_from_is_err_and c.from_residual.result c.from_residual.ensures.1 in
     rw (p.1, p.2) (not_a_file g.L.Listing.text g.L.Listing.takes g.L.Listing.refuses c.args.listing.now _ _ _ _ (g.met.L.Listing.takes_none c.args.listing.now) c.in_err-read_magic.ensures.err)
 
-pub returns-in_err-write_all-clause-err : goal.returns-in_err-write_all-clause-err
-returns-in_err-write_all-clause-err g c =
-    let p = err_from_is_err_and c.from_residual-in_err-write_all.result c.from_residual-in_err-write_all.ensures.1 in
-    rw (p.1, p.2) (head_cut g.L.Listing.text g.L.Listing.takes g.L.Listing.refuses c.args.listing.now _ _ _ _ _ _ (g.met.L.Listing.takes_none c.args.listing.now) c.pending.ensures c.in_err-write_all.ensures.io.0 c.in_err-write_all.ensures.err)
-
-pub returns-in_err-add_frame-clause-err : goal.returns-in_err-add_frame-clause-err
-returns-in_err-add_frame-clause-err g c =
-    let p = err_from_is_err_and c.from_residual-in_err-add_frame.result c.from_residual-in_err-add_frame.ensures.1 in
-    let before = c.frames.invariant in
-    let frame = c.in-Some.frame in
-    let given = (rw c.in-Some.is at c.in_ok-frame.ensures.given) _ before.0 before.2.given in
-    let fresh = opened_fresh frame (rw c.in-Some.is at c.in_ok-frame.ensures.fresh) in
-    let fails = subst (λ r. FailsToAdd g.L.Listing.refuses c.frames.listing c.add_frame.new.listing r c.in_err-add_frame.field-0.0) fresh c.in_err-add_frame.ensures.err in
-    rw (p.1, p.2) (not_added g.L.Listing.text g.L.Listing.takes g.L.Listing.refuses c.args.listing.now c.frames.listing c.add_frame.new.listing _ _ _ _ _ before.0 (stored_of frame) before.1 c.in_err-add_frame.field-0.0 before.2 given fails)
-
-pub returns-in_err-write_all-2-clause-err : goal.returns-in_err-write_all-2-clause-err
-returns-in_err-write_all-2-clause-err g c =
-    let p = err_from_is_err_and c.from_residual-in_err-write_all-2.result c.from_residual-in_err-write_all-2.ensures.1 in
-    let before = c.frames.invariant in
-    let frame = c.in-Some.frame in
-    let given = (rw c.in-Some.is at c.in_ok-frame.ensures.given) _ before.0 before.2.given in
-    let fresh = opened_fresh frame (rw c.in-Some.is at c.in_ok-frame.ensures.fresh) in
-    let added = subst (λ r. AddsFrame g.L.Listing.text g.L.Listing.takes c.frames.listing c.add_frame.new.listing r) fresh c.in_ok-add_frame.ensures.ok in
-    rw (p.1, p.2) (frame_cut g.L.Listing.text g.L.Listing.takes g.met.L.Listing.takes_more g.L.Listing.refuses c.args.listing.now c.frames.listing c.add_frame.new.listing _ _ _ _ _ _ before.0 (stored_of frame) before.1 _ _ before.2 given added c.pending-in-frames.ensures c.in_err-write_all-2.ensures.io.0 c.in_err-write_all-2.ensures.err)
-
-pub frames-preserved : goal.frames-preserved
-frames-preserved g c =
-    let before = c.frames.invariant in
-    let frame = c.in-Some.frame in
-    let one : List Stored = stored_of frame ∷ [] in
-    let given = (rw c.in-Some.is at c.in_ok-frame.ensures.given) _ before.0 before.2.given in
-    let fresh = opened_fresh frame (rw c.in-Some.is at c.in_ok-frame.ensures.fresh) in
-    let added = subst (λ r. AddsFrame g.L.Listing.text g.L.Listing.takes c.frames.listing c.add_frame.new.listing r) fresh c.in_ok-add_frame.ensures.ok in (
-      before.0 ++ one,
-      before.1 ++ added.more,
-      goes_on g.L.Listing.text g.L.Listing.takes g.met.L.Listing.takes_more c.args.listing.now c.frames.listing c.add_frame.new.listing c.clear-in-frames.new.self _ _ _ _ _ _ before.0 (stored_of frame) before.1 _ before.2 given added c.pending-in-frames.ensures c.in_ok-write_all-2.ensures.ok c.clear-in-frames.ensures.text c.clear-in-frames.ensures.same,
-      omega (arith, length-append before.0 one, before.3),
-      c.in_ok-frame.ensures.failures ∙ before.4,
-      c.in_ok-write_all-2.ensures.failures ∙ before.5,
-    )
+pub returns-clause-ok : goal.returns-clause-ok
+returns-clause-ok g c = on_ok_weaker c.list_behind.result (λ h. h _ c.in_ok-read_magic.ensures.begun) c.list_behind.ensures.ok
 
 pub returns-clause-err : goal.returns-clause-err
-returns-clause-err g c =
-    let before = c.frames.invariant in
-    too_many g.L.Listing.text g.L.Listing.takes g.L.Listing.refuses c.args.listing.now c.frames.listing _ _ _ _ before.0 before.1 before.2 (omega (arith, before.3, c.frames-test.false))
+returns-clause-err g c = if_err_so c.list_behind.result (λ e h. inl (h _ c.in_ok-read_magic.ensures.begun)) c.list_behind.ensures.err

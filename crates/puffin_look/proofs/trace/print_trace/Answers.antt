@@ -1,23 +1,44 @@
 -- What was written is the trace of the frames that were read.
-use Rattle.std.proofs.Common.{inl, inr}
+use Rattle.std.proofs.Common.{ℕ, ◌+◌, inl, inr, refl, ap, sym, ◌∙◌}
 use Rattle.std.proofs.lemmas.Result.{err_from_is_err_and, on_ok_weaker}
-use Rattle.puffin_look.proofs.TracePrinted.{none_written, trace_stopped, trace_printed, trace_cut, cut_told}
+use Rattle.puffin_look.proofs.Listed.{if_err_so}
+use Rattle.puffin_look.proofs.ThreadsPrinted.{not_io}
+use Rattle.puffin_look.proofs.TracePrinted.{none_written, no_letters, told_open, told_closed, told_printed, end_cut}
 use Rattle.puffin_look.proofs.trace.print_trace.Goals as goal
 
 pub returns-in_err-trace-clause-err : goal.returns-in_err-trace-clause-err
 returns-in_err-trace-clause-err g c =
     let p = err_from_is_err_and c.from_residual.result c.from_residual.ensures.1 in
-    rw p.1 (inl (none_written _ _ p.0 (inr p.2)))
+    rw p.1 (none_written c.args.overview.now _ _ _ p.0 (inr p.2))
 
-pub returns-in_err-list_frames-clause-err : goal.returns-in_err-list_frames-clause-err
-returns-in_err-list_frames-clause-err g c =
-    let p = err_from_is_err_and c.from_residual-in_err-list_frames.result c.from_residual-in_err-list_frames.ensures.1 in
-    rw (p.1, p.2) (inl (trace_stopped c.in_ok-trace.trace c.list_frames.new.listing c.in_ok-trace.ensures.text c.in_ok-trace.ensures.none _ _ _ _ _ c.in_err-list_frames.ensures.err))
+pub returns-in_err-read_magic-clause-err : goal.returns-in_err-read_magic-clause-err
+returns-in_err-read_magic-clause-err g c =
+    let p = err_from_is_err_and c.from_residual-in_err-read_magic.result c.from_residual-in_err-read_magic.ensures.1 in
+    rw (p.1, p.2) (no_letters c.args.overview.now _ _ _ _ c.in_err-read_magic.ensures.err)
+
+pub returns-then-fails_outside-clause-err : goal.returns-then-fails_outside-clause-err
+returns-then-fails_outside-clause-err g c =
+    told_open c.args.overview.now c.in_ok-trace.trace c.list_behind-answer.new.listing c.in_ok-trace.ensures.text c.in_ok-trace.ensures.none c.in_ok-trace.ensures.overview _ _ _ _ _ c.list_behind-answer.result refl (sym c.fails_outside.ensures ∙ c.if-fails_outside.true)
+    (on_ok_weaker c.list_behind-answer.result (λ h. h _ c.in_ok-read_magic.ensures.begun) c.list_behind-answer.ensures.ok, if_err_so c.list_behind-answer.result (λ e h. h _ c.in_ok-read_magic.ensures.begun) c.list_behind-answer.ensures.err)
+
+pub returns-in_err-write_all-clause-err : goal.returns-in_err-write_all-clause-err
+returns-in_err-write_all-clause-err g c =
+    let p = err_from_is_err_and c.from_residual-in_err-write_all.result c.from_residual-in_err-write_all.ensures.1 in
+    rw (p.1, p.2) (end_cut c.args.overview.now c.in_ok-trace.trace c.list_behind-answer.new.listing c.in_ok-trace.ensures.text c.in_ok-trace.ensures.none c.in_ok-trace.ensures.overview _ _ _ _ _ c.list_behind-answer.result _ (sym c.fails_outside.ensures ∙ c.if-fails_outside.false)
+    (on_ok_weaker c.list_behind-answer.result (λ h. h _ c.in_ok-read_magic.ensures.begun) c.list_behind-answer.ensures.ok, if_err_so c.list_behind-answer.result (λ e h. h _ c.in_ok-read_magic.ensures.begun) c.list_behind-answer.ensures.err) c.in_err-write_all.ensures.io.0 c.in_err-write_all.ensures.err)
 
 pub returns-clause-ok : goal.returns-clause-ok
 returns-clause-ok g c =
-    on_ok_weaker c.write_all.result (trace_printed c.in_ok-trace.trace c.list_frames.new.listing c.in_ok-trace.ensures.text c.in_ok-trace.ensures.none _ _ _ _ _ c.in_ok-list_frames.ensures.ok) c.write_all.ensures.ok
+    told_printed c.args.overview.now c.in_ok-trace.trace c.list_behind-answer.new.listing c.in_ok-trace.ensures.text c.in_ok-trace.ensures.none c.in_ok-trace.ensures.overview _ _ _ _ _ c.list_behind-answer.result (on_ok_weaker c.list_behind-answer.result (λ h. h _ c.in_ok-read_magic.ensures.begun) c.list_behind-answer.ensures.ok, if_err_so c.list_behind-answer.result (λ e h. h _ c.in_ok-read_magic.ensures.begun) c.list_behind-answer.ensures.err) c.in_ok-write_all.ensures.ok
 
 pub returns-clause-err : goal.returns-clause-err
 returns-clause-err g c =
-    cut_told _ _ c.write_all.result (λ e io part. inr (io, trace_cut c.in_ok-trace.trace c.list_frames.new.listing c.in_ok-trace.ensures.text c.in_ok-trace.ensures.none _ _ _ _ _ c.in_ok-list_frames.ensures.ok part)) c.write_all.ensures.err c.write_all.ensures.io
+    told_closed c.args.overview.now c.in_ok-trace.trace c.list_behind-answer.new.listing c.in_ok-trace.ensures.text c.in_ok-trace.ensures.none c.in_ok-trace.ensures.overview _ _ _ _ _ c.list_behind-answer.result (sym c.fails_outside.ensures ∙ c.if-fails_outside.false) (on_ok_weaker c.list_behind-answer.result (λ h. h _ c.in_ok-read_magic.ensures.begun) c.list_behind-answer.ensures.ok, if_err_so c.list_behind-answer.result (λ e h. h _ c.in_ok-read_magic.ensures.begun) c.list_behind-answer.ensures.err) c.in_ok-write_all.ensures.ok
+
+pub returns-in_err-write_all-clause-io : goal.returns-in_err-write_all-clause-io
+returns-in_err-write_all-clause-io g c =
+    let same = c.list_behind-answer.ensures.drained (not_io c.list_behind-answer.result (sym c.fails_outside.ensures ∙ c.if-fails_outside.false)) in
+    λ is. elim (c.in_err-write_all.ensures.io.1) [
+      | inl failed ↦ inr (inl (failed ∙ ap (λ (n : ℕ). n + 1) same))
+      | inr nothing ↦ inr (inr nothing)
+    ]

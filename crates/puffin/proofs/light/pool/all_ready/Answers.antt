@@ -19,6 +19,6 @@ pub returns-clause-clocks : goal.returns-clause-clocks
 returns-clause-clocks g c = (
   clock_start c.in_ok-clock.clock,
   clock_begun c.in_ok-clock.clock,
-  c.in_ok-ready.ensures,
+  c.in_ok-ready.ensures.clock,
   c.loop.invariant.clocks,
 )

@@ -1,9 +1,11 @@
-use Rattle.std.specs.Prelude.{◌≡◌, vec_len, length, All}
+use Rattle.std.specs.Prelude.{◌≡◌, length, All}
 use Rattle.puffin.specs.Members.{IsNewMember}
+use Rattle.puffin.specs.Joined.{AreStarted}
 use Rattle.puffin.proofs.light.started.start_all.Given as goal
 
 abbrev pub invariant-loop-thread : goal.invariant-loop-thread
 invariant-loop-thread g l = record {
-  started : vec_len l.started ≡ length l.yielded;
+  started : length l.started.items ≡ length l.yielded;
+  each : AreStarted l.started.items l.yielded l.program;
   new : All IsNewMember l.shares.items;
 }

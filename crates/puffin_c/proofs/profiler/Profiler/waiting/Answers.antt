@@ -5,7 +5,7 @@ use Rattle.std.specs.Option.{option_map}
 use Rattle.puffin_frames.specs.declared.frame_data.frame.FrameData.{FrameData}
 use Rattle.puffin_c.specs.declared.profiler.Waiting.{Waiting}
 use Rattle.puffin_c.specs.Profiling.{waiting_frame}
-use Rattle.puffin_c.proofs.Held.{on_err}
+use Rattle.puffin_c.proofs.Refusals.{on_err}
 use Rattle.puffin_c.proofs.profiler.Profiler.waiting.Goals as goal
 
 pub returns-in_err-clone-in-Some-clause-err : goal.returns-in_err-clone-in-Some-clause-err

@@ -8,7 +8,6 @@ use Rattle.std.specs.List.Sorted.{IsStrictlySortedBy}
 use Rattle.puffin_data.specs.Honesty.{StreamFacts, facts_of}
 use Rattle.puffin_data.specs.Walk.{IsFault}
 use Rattle.puffin_threads.specs.Thread.ThreadKey.{key_of, thread_cmp}
-use Rattle.puffin_threads.specs.Details.{shared_details}
 use Rattle.puffin_look.specs.OpenFrame.{open_of}
 use Rattle.puffin_look.specs.inner.Foldings.{StepsStack}
 use Rattle.puffin_look.proofs.HeldStreams.{entry_of, entries_held}
@@ -27,16 +26,16 @@ streams-preserved c =
 
 pub returns-in_err-add_stream-clause-err : goal.returns-in_err-add_stream-clause-err
 returns-in_err-add_stream-clause-err c =
-    let p = err_from_is_err_and c.from_residual-in_err-add_stream.result c.from_residual-in_err-add_stream.ensures.1 in
+    let p = err_from_is_err_and c.from_residual.result c.from_residual.ensures.1 in
     let sorted : IsStrictlySortedBy thread_cmp (keys_of c.args.frame.now.thread_streams.entries) = search rules in
     let left = ap (map entry_of) (rest_more deref_pair _ _ _ _ c.in-Some.is c.next.ensures.steps) in
     let fault_of = subst (λ (r : StreamFacts). IsFault r.form r.bytes c.in_err-add_stream.field-0.0) (ap facts_of c.deref.ensures) in
     rw (p.1, p.2) (elim (c.in_err-add_stream.ensures.err) [
       | inl memory ↦ inl memory
-      | inr fault ↦ inr (frame_unread c.args.self.now (open_of c.args.frame.now (shared_details c.args.details.now)) _ c.in_ok-insert_all.ensures.ok _ _ (entries_held c.args.frame.now.thread_streams.entries sorted) (folding_unread _ _ _ _ _ _ _ left c.streams.invariant fault.0 (fault_of fault.1)))
+      | inr fault ↦ inr (frame_unread c.args.self.now (open_of c.args.frame.now) _ _ (entries_held c.args.frame.now.thread_streams.entries sorted) (folding_unread _ _ _ _ _ _ _ left c.streams.invariant fault.0 (fault_of fault.1)))
     ])
 
 pub returns-clause-ok : goal.returns-clause-ok
 returns-clause-ok c =
     let sorted : IsStrictlySortedBy thread_cmp (keys_of c.args.frame.now.thread_streams.entries) = search rules in
-    frame_folded c.args.self.now (open_of c.args.frame.now (shared_details c.args.details.now)) _ c.in_ok-insert_all.ensures.ok _ _ _ (ap (map entry_of) c.in-None.ensures.steps.0) c.streams.invariant (entries_held c.args.frame.now.thread_streams.entries sorted)
+    frame_folded c.args.self.now (open_of c.args.frame.now) _ _ _ (ap (map entry_of) c.in-None.ensures.steps.0) c.streams.invariant (entries_held c.args.frame.now.thread_streams.entries sorted)

@@ -1,5 +1,5 @@
 -- What was shown is the frame's wanted threads.
-use Rattle.std.proofs.Common.{rules, ◌≡◌, List, [], map, inl, inr, refl, ap, subst, sym}
+use Rattle.std.proofs.Common.{rules, ◌≡◌, List, map, inl, inr, refl, ap, subst, sym}
 use Rattle.std.proofs.lemmas.Result.{err_from_is_err_and}
 use Rattle.std.proofs.lemmas.Map.Iter.{rest_more}
 use Rattle.std.specs.Map.{keys_of}
@@ -39,4 +39,4 @@ returns-in_err-add_stream-clause-err c =
 pub returns-clause-ok : goal.returns-clause-ok
 returns-clause-ok c =
     let sorted : IsStrictlySortedBy thread_cmp (keys_of c.args.frame.now.thread_streams.entries) = search rules in
-    trees_shown c.args.self.now _ _ (open_of c.args.frame.now []) _ _ _ c.in_ok-push_head.ensures refl refl refl refl refl (ap (map entry_of) c.in-None.ensures.steps.0) c.streams.invariant (entries_held c.args.frame.now.thread_streams.entries sorted)
+    trees_shown c.args.self.now _ _ (open_of c.args.frame.now) _ _ _ c.in_ok-push_head.ensures refl refl refl refl refl (ap (map entry_of) c.in-None.ensures.steps.0) c.streams.invariant (entries_held c.args.frame.now.thread_streams.entries sorted)

@@ -12,9 +12,7 @@ returns-clause-ok c =
       ap (λ (n : ℕ). n + 1) (c.len.ensures.len ∙ sym (numbers_len c.args.self.now.numbers.entries sorted)),
       record {
         text = c.in_ok-push_thread_event.ensures;
-        known = refl;
-        start = refl;
+        overview = refl;
         numbers = thread_inserted c.args.self.now.numbers.entries c.insert.new.self.entries c.in_ok-clone.field-0 c.args.thread.now _ c.in_ok-insert.ensures.entries c.in_ok-clone.ensures.ok;
-        origin = refl;
       },
     )

@@ -1,5 +1,6 @@
 -- What was traced is the frame.
-use Rattle.std.proofs.Common.{rules, ◌≡◌, List, map, inl, inr, ap, subst, sym}
+use Rattle.std.proofs.Common.{rules, ◌≡◌, ◌++◌, map, inl, inr, refl, ap, subst, ◌∙◌, w64, arith}
+use Rattle.std.proofs.lemmas.Int.{ints, to_z-of_z}
 use Rattle.std.proofs.lemmas.Result.{err_from_is_err_and}
 use Rattle.std.proofs.lemmas.Map.Iter.{rest_more}
 use Rattle.std.specs.Map.{keys_of}
@@ -8,17 +9,17 @@ use Rattle.std.specs.List.Sorted.{IsStrictlySortedBy}
 use Rattle.puffin_data.specs.Honesty.{StreamFacts, facts_of}
 use Rattle.puffin_data.specs.Walk.{IsFault}
 use Rattle.puffin_threads.specs.Thread.ThreadKey.{key_of, thread_cmp}
-use Rattle.puffin_threads.specs.Details.{shared_details}
 use Rattle.puffin_look.specs.OpenFrame.{open_of}
+use Rattle.puffin_look.specs.Trace.{frame_event}
 use Rattle.puffin_look.specs.inner.Tracings.{AddsStream}
-use Rattle.puffin_look.proofs.HeldStreams.{Held, entry_of, entries_held}
-use Rattle.puffin_look.proofs.Traced.{IsTracing, tracing_begun, tracing_more, tracing_unread, frame_traced}
+use Rattle.puffin_look.proofs.HeldStreams.{entry_of, entries_held}
+use Rattle.puffin_look.proofs.Traced.{tracing_at, tracing_more, tracing_unread, frame_traced}
 use Rattle.puffin_look.proofs.trace.TraceListing.add.Goals as goal
 
 pub streams-init : goal.streams-init
 streams-init c =
     let same : c.into_iter-thread-iterator.result ≡ c.args.frame.now.thread_streams.entries = search rules in
-    subst (λ (es : List Held). IsTracing c.begin_frame.new.self c.begin_frame.new.self (map entry_of c.args.frame.now.thread_streams.entries) (map entry_of es)) (sym same) (tracing_begun _ _)
+    tracing_at _ _ _ (ap (map entry_of) same)
 
 pub streams-preserved : goal.streams-preserved
 streams-preserved c =
@@ -33,10 +34,12 @@ returns-in_err-add_stream-clause-err c =
     let fault_of = subst (λ (r : StreamFacts). IsFault r.form r.bytes c.in_err-add_stream.field-0.0) (ap facts_of c.deref.ensures) in
     rw (p.1, p.2) (elim (c.in_err-add_stream.ensures.err) [
       | inl memory ↦ inl memory
-      | inr fault ↦ inr (tracing_unread _ _ _ _ _ _ (open_of c.args.frame.now (shared_details c.args.details.now)) _ left c.streams.invariant (entries_held c.args.frame.now.thread_streams.entries sorted) (fault_of fault))
+      | inr fault ↦ inr (tracing_unread _ _ _ _ _ _ (open_of c.args.frame.now) _ left c.streams.invariant (entries_held c.args.frame.now.thread_streams.entries sorted) (fault_of fault))
     ])
 
 pub returns-clause-ok : goal.returns-clause-ok
 returns-clause-ok c =
     let sorted : IsStrictlySortedBy thread_cmp (keys_of c.args.frame.now.thread_streams.entries) = search rules in
-    frame_traced _ _ _ (open_of c.args.frame.now (shared_details c.args.details.now)) _ _ c.in_ok-begin_frame.ensures.ok (ap (map entry_of) c.in-None.ensures.steps.0) c.streams.invariant (entries_held c.args.frame.now.thread_streams.entries sorted)
+    let origin = to_z-of_z w64 c.args.self.now.events.overview.now.start (omega (arith, ints)) in
+    let text = c.in_ok-push_frame.ensures ∙ (λ i. c.args.self.now.events.text.items ++ frame_event (origin i) c.args.frame.now.meta) in
+    frame_traced c.args.self.now (record c.args.self.now { events = record c.args.self.now.events { text = c.push_frame.new.text } }) _ (open_of c.args.frame.now) _ _ text refl refl (ap (map entry_of) c.in-None.ensures.steps.0) c.streams.invariant (entries_held c.args.frame.now.thread_streams.entries sorted)

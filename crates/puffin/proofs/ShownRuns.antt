@@ -1,0 +1,121 @@
+-- What a run shows, by what its threads told.
+use Rattle.std.proofs.Common.{◌≡◌, ℕ, zero, suc, ◌<◌, Bool, true, false, List, [], ◌∷◌, Option, Some, None, Result, Ok, Err, length, string_bytes, refl, sym, ap, subst, ◌∙◌, arith}
+use Rattle.std.specs.Prelude.{slice_get, IsOk, IfOk}
+use Rattle.std.proofs.lemmas.Option.{slice_get_within}
+use Rattle.puffin_data.specs.declared.data.form.Form.TheVariants.{Short}
+use Rattle.puffin.specs.declared.light.outcome.Failed.{Failed}
+use Rattle.puffin.specs.declared.light.outcome.Outcome.{Outcome}
+use Rattle.puffin.specs.declared.light.outcome.ThreadCounts.{ThreadCounts}
+use Rattle.puffin.specs.declared.light.ready.Ended.{Ended}
+use Rattle.puffin.specs.declared.light.ready.Ready.{Ready}
+use Rattle.puffin.specs.Code.{Code}
+use Rattle.puffin.specs.Happenings.{Happening, frames_in}
+use Rattle.puffin.specs.Leaving.{accounts_of}
+use Rattle.puffin.specs.Members.{Member}
+use Rattle.puffin.specs.Places.{num_known}
+use Rattle.puffin.specs.Recounted.{Recounts}
+use Rattle.puffin.specs.Telling.{HasRun, HasRunAs, HasLedAs}
+use Rattle.puffin.specs.Joined.{EachTells, HasTold}
+use Rattle.puffin_frames.specs.Frame.Contents.{Streams}
+use Rattle.puffin.specs.Shown.{AreNamed, RanEach, ShowsProgram, Shows, leader_first}
+use Rattle.puffin.proofs.ShownCode.{frames_show}
+
+there : {A : Type 0} (xs : List A) (k : ℕ) → k < length xs → (x : A) × (slice_get xs k ≡ Some x)
+there [] k below = absurd (omega arith)
+there (x ∷ xs) zero below = (x, refl)
+there (x ∷ xs) (suc k) below = there xs k (omega arith)
+
+only_one : {A : Type 0} (o : Option A) (x y : A) → o ≡ Some x → o ≡ Some y → x ≡ y
+only_one o x y p q = let same = sym p ∙ q in cc
+
+-- what a thread ran that didn't fail
+ran_well : {X E : Type 0} (is : Code → Type 0) (name : List ℕ) (known : ℕ) (result : Result X E) (after : List Happening) (waiting : ℕ) → IsOk result → HasRunAs true is name Short known result [] after waiting → (code : Code) × is code × HasRun name Short known code [] after waiting
+ran_well is name known (Ok x) after waiting well ran = ran
+ran_well is name known (Err e) after waiting well ran = absurd cc
+
+module _ {C W : Type 0} (states : W → Bool) (runs : W → ℕ → Code → Type 0) (leads : W → Code → Type 0) (takes : W → List Streams → Type 0) where
+  abbrev tells : Ready C → W → ℕ → Ended → List Happening → List Happening → Type 0
+  tells ready program number ended before after = HasRunAs (states program) (runs program number) (string_bytes ready.name) Short (num_known ready.scopes) ended.result before after ended.left.unreported
+
+  abbrev led_tells : Ready C → W → ℕ → List Happening → List Happening → Type 0
+  led_tells ready program unreported before after = HasLedAs (states program) (leads program) (string_bytes ready.name) Short (num_known ready.scopes) before after unreported
+
+  abbrev took : Ready C → W → List Streams → Type 0
+  took ready program frames = takes program frames
+
+  ran_each : (known : ℕ) (names : List (List ℕ)) (threads : List (Ready C)) (program : W) (failed : Option Failed) (counts : List ThreadCounts) (shares : List Member) → states program ≡ true → failed ≡ None → length threads ≡ length names → AreNamed known names threads
+      → EachTells tells threads program failed counts shares → RanEach known (runs program) names shares counts
+  ran_each known names threads program failed counts shares stated none same named each k name at =
+      let t = there threads k (subst (λ (n : ℕ). k < n) (sym same) (slice_get_within names k name at)) in
+      let told = each k t.0 t.1 in
+      let its = named k t.0 t.1 in
+      let its_name : string_bytes t.0.name ≡ name = only_one (slice_get names k) (string_bytes t.0.name) name its.0 at in
+      let ran = ran_well (runs program k) (string_bytes t.0.name) (num_known t.0.scopes) told.ended.result told.share.own told.ended.left.unreported (told.went_well none)
+      (subst (λ (b : Bool). HasRunAs b (runs program k) (string_bytes t.0.name) Short (num_known t.0.scopes) told.ended.result [] told.share.own told.ended.left.unreported) stated told.told) in (
+        told.share,
+        told.count,
+        ran.0,
+        told.share_is,
+        told.count_is,
+        ran.1,
+        subst (λ (n : ℕ). HasRun name Short known ran.0 [] told.share.own n) (sym told.unreported)
+            (subst (λ (n : ℕ). HasRun name Short n ran.0 [] told.share.own told.ended.left.unreported) its.1
+            (subst (λ (x : List ℕ). HasRun x Short (num_known t.0.scopes) ran.0 [] told.share.own told.ended.left.unreported) its_name ran.2)),
+      )
+
+  -- the leader and the threads
+  ran_all : (known : ℕ) (names : List (List ℕ)) (leader_name : List ℕ) (leader : Ready C) (program : W) (counts : List ThreadCounts) (led : ThreadCounts) (own : Member) (shares : List Member) → states program ≡ true
+      → string_bytes leader.name ≡ leader_name → num_known leader.scopes ≡ known
+      → led_tells leader program led.unreported [] own.own → RanEach known (runs program) names shares counts
+      → RanEach known (leader_first (leads program) (runs program)) (leader_name ∷ names) (own ∷ shares) (led ∷ counts)
+  ran_all known names leader_name leader program counts led own shares stated its_name its_known told each zero name at =
+      let l = subst (λ (b : Bool). HasLedAs b (leads program) (string_bytes leader.name) Short (num_known leader.scopes) [] own.own led.unreported) stated told in
+      let same : leader_name ≡ name = cc in (
+        own,
+        led,
+        l.0,
+        refl,
+        refl,
+        l.1,
+        subst (λ (n : ℕ). HasRun name Short n l.0 [] own.own led.unreported) its_known (subst (λ (x : List ℕ). HasRun x Short (num_known leader.scopes) l.0 [] own.own led.unreported) (its_name ∙ same) l.2),
+      )
+  ran_all known names leader_name leader program counts led own shares stated its_name its_known told each (suc k) name at = each k name at
+
+  shown : (known : ℕ) (names : List (List ℕ)) (leader_name : List ℕ) (threads : List (Ready C)) (leader : Ready C) (program : W) (outcome : Outcome) → length threads ≡ length names → AreNamed known names threads
+      → string_bytes leader.name ≡ leader_name → num_known leader.scopes ≡ known
+      → HasTold tells led_tells took threads leader program outcome → states program ≡ true → outcome.failed ≡ None
+      → ShowsProgram (takes program) known (leader_first (leads program) (runs program)) (leader_name ∷ names) outcome
+  shown known names leader_name threads leader program outcome same named its_name its_known told stated none =
+      let a = told.are in
+      let is = leader_first (leads program) (runs program) in
+      let counts = outcome.leader ∷ outcome.threads.items in
+      let ran = ran_all known names leader_name leader program outcome.threads.items outcome.leader a.own a.rest stated its_name its_known a.led
+      (ran_each known names threads program outcome.failed outcome.threads.items a.rest stated none same named a.each) in
+      record {
+        frames = frames_in a.taker.own;
+        pending = told.pending;
+        taken = a.taken;
+        as_many = a.took.as_many;
+        handed = told.handed ∙ a.handed ∙ a.took.handed;
+        left = told.left;
+        each =
+            frames_show known (length told.shares) is (leader_name ∷ names) (a.own ∷ a.rest) counts a.taker told.log told.pending ran (ap suc (a.as_many ∙ same)) a.took.quiet
+            (subst (λ (ms : List Member). Recounts (length told.shares) (accounts_of ms) told.log told.pending) a.shares_are told.recounts);
+      }
+
+  shows : (known : ℕ) (names : List (List ℕ)) (leader_name : List ℕ) (threads : List (Ready C)) (leader : Ready C) (program : W) (outcome : Outcome) → length threads ≡ length names → AreNamed known names threads
+      → string_bytes leader.name ≡ leader_name → num_known leader.scopes ≡ known
+      → HasTold tells led_tells took threads leader program outcome
+      → Shows (states program) (takes program) known (leader_first (leads program) (runs program)) (leader_name ∷ names) outcome
+  shows known names leader_name threads leader program outcome same named its_name its_known told = by (states program) refl
+    where
+      by : (b : Bool) → states program ≡ b → Shows b (takes program) known (leader_first (leads program) (runs program)) (leader_name ∷ names) outcome
+      by false is = tt
+      by true is = shown known names leader_name threads leader program outcome same named its_name its_known told is
+
+  pub shows_if : {E : Type 0} (known : ℕ) (names : List (List ℕ)) (leader_name : List ℕ) (threads : List (Ready C)) (leader : Ready C) (program : W) (r : Result Outcome E) → length threads ≡ length names → AreNamed known names threads
+      → string_bytes leader.name ≡ leader_name → num_known leader.scopes ≡ known
+      → IfOk r (λ outcome. HasTold tells led_tells took threads leader program outcome)
+      → IfOk r (λ outcome. Shows (states program) (takes program) known (leader_first (leads program) (runs program)) (leader_name ∷ names) outcome)
+  shows_if known names leader_name threads leader program (Ok outcome) same named its_name its_known told = shows known names leader_name threads leader program outcome same named its_name its_known told
+  shows_if known names leader_name threads leader program (Err e) same named its_name its_known told = tt

@@ -1,0 +1,63 @@
+-- What a share counts through which only frames are taken.
+use Rattle.std.proofs.Common.{◌≡◌, ℕ, ◌+◌, ◌<◌, ◌^◌, List, [], ◌∷◌, ◌++◌, Option, Some, None, length, refl, ap, sym, subst, ◌∙◌, arith}
+use Rattle.std.specs.Arc.{arc_value}
+use Rattle.std.specs.FinMap as map
+use Rattle.std.specs.declared.sync.Arc.{Arc}
+use Rattle.std.proofs.lemmas.List.{length-append}
+use Rattle.std.proofs.lemmas.List.Sums.{sum_by-append}
+use Rattle.puffin_frames.specs.declared.frame_data.frame.FrameData.{FrameData}
+use Rattle.puffin_frames.specs.Frame.Contents.{Streams, holding_of, frame_meta}
+use Rattle.puffin_frames.specs.Frame.Holding.{Holding}
+use Rattle.puffin_frames.specs.Frame.Sums.{total_scopes}
+use Rattle.puffin_threads.specs.Thread.ThreadKey.{ThreadKey}
+use Rattle.puffin_data.specs.Honesty.{StreamFacts}
+use Rattle.puffin.specs.Happenings.{Happening, framed, reports_under, report_under, frames_in, frame_of}
+use Rattle.puffin.specs.Members.{Member, IsNewMember, TakesFrame}
+use Rattle.puffin.specs.Shares.{CountsFrame, SpellsItsScopes}
+use Rattle.puffin.specs.Taking.{CountsTaken, IsTaken, num_scopes_in, TookAll}
+use Rattle.puffin.proofs.TellingShares.{nothing_told}
+
+no_report : (i : ThreadKey) (own : List Happening) (streams : Streams) → reports_under i (own ++ framed streams ∷ []) ≡ reports_under i own
+no_report i [] streams = refl
+no_report i (h ∷ hs) streams = ap (λ (rs : List StreamFacts). report_under i h ++ rs) (no_report i hs streams)
+
+assoc : (xs ys zs : List Streams) → xs ++ (ys ++ zs) ≡ (xs ++ ys) ++ zs
+assoc [] ys zs = refl
+assoc (x ∷ xs) ys zs = ap (λ (rest : List Streams). x ∷ rest) (assoc xs ys zs)
+
+one_frame : (own : List Happening) (streams : Streams) → frames_in (own ++ framed streams ∷ []) ≡ frames_in own ++ streams ∷ []
+one_frame [] streams = refl
+one_frame (h ∷ hs) streams = ap (λ (fs : List Streams). frame_of h ++ fs) (one_frame hs streams) ∙ assoc (frame_of h) (frames_in hs) (streams ∷ [])
+
+same_streams : (h : Holding) (a b : Streams) → h ≡ record { packed = None; unpacked = Some a } → h ≡ record { packed = None; unpacked = Some b } → a ≡ b
+same_streams h a b p q = let both = ap (λ (x : Holding). x.unpacked) (sym p ∙ q) in cc
+
+-- a share through which nothing happened
+pub took_none : (m : Member) → IsNewMember m → TookAll m 0
+took_none m new = record {
+  quiet = λ i. ap (λ (own : List Happening). length (reports_under i own)) (nothing_told m new);
+  as_many = λ few. sym (ap (λ (own : List Happening). length (frames_in own)) (nothing_told m new));
+  handed = ap (λ c. c.handed) new.counts ∙ sym (ap (λ (own : List Happening). num_scopes_in (frames_in own)) (nothing_told m new));
+}
+
+pub taken_more : {A : Type 0} (old new : Member) (f : Option (Arc FrameData A)) → TakesFrame old f new → IsTaken (frames_in old.own) f (frames_in new.own)
+taken_more old new None is = ap (λ (m : Member). frames_in m.own) is
+taken_more old new (Some frame) is = (is.1, is.3, ap frames_in is.4.own ∙ one_frame old.own is.1)
+
+-- and after one call more
+pub took_more : {A : Type 0} (old new : Member) (f : Option (Arc FrameData A)) (refused frames missed after missed_after : ℕ) → TakesFrame old f new → CountsFrame old.counts f new.counts → SpellsItsScopes f → CountsTaken f refused (frames, missed) (after, missed_after) → TookAll old frames
+    → TookAll new after
+took_more old new None refused frames missed after missed_after is counts spells counted took =
+    subst (λ (n : ℕ). TookAll new n) (sym (ap (λ (p : ℕ × ℕ). p.0) counted)) (subst (λ (m : Member). TookAll m frames) (sym is) took)
+took_more old new (Some frame) refused frames missed after missed_after is counts spells counted took =
+    let due = is.1 in
+    let more : frames_in new.own ≡ frames_in old.own ++ due ∷ [] = ap frames_in is.4.own ∙ one_frame old.own due in
+    let longer : length (frames_in new.own) ≡ length (frames_in old.own) + 1 = ap length more ∙ length-append (frames_in old.own) (due ∷ []) in
+    let same : spells.0 ≡ due = same_streams (holding_of (arc_value frame)) spells.0 due spells.1 is.3 in
+    let whole : num_scopes_in (frames_in new.own) ≡ num_scopes_in (frames_in old.own) + total_scopes (map.values due) = ap num_scopes_in more ∙ sum_by-append (λ (s : Streams). total_scopes (map.values s)) (frames_in old.own) (due ∷ []) ∙ omega arith in
+    let one : (frame_meta (arc_value frame)).num_scopes ≡ total_scopes (map.values due) = spells.3 ∙ ap (λ (s : Streams). total_scopes (map.values s)) same in
+    record {
+      quiet = λ i. ap (λ (own : List Happening). length (reports_under i own)) is.4.own ∙ ap length (no_report i old.own due) ∙ took.quiet i;
+      as_many = λ few. let before : length (frames_in old.own) < 2 ^ 64 = omega (arith, few, longer) in let so_far = took.as_many before in counted.0 ∙ omega (arith, few, longer, so_far);
+      handed = let sum : new.counts.handed ≡ old.counts.handed + (frame_meta (arc_value frame)).num_scopes = ap (λ c. c.handed) counts in omega (arith, sum, one, whole, took.handed);
+    }

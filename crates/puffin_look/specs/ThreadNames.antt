@@ -1,0 +1,41 @@
+-- Which threads of a file a word names.
+use Rattle.std.specs.Prelude.{◌≡◌, ◌⊎◌, ℕ, Bool, List, [], ◌∷◌, map, filter, Option}
+use Rattle.std.specs.FinMap as tree
+use Rattle.std.specs.Str.{bytes_eq}
+use Rattle.puffin_data.specs.declared.file_error.FileError.{FileError}
+use Rattle.puffin_threads.specs.Thread.ThreadKey.{ThreadKey}
+use Rattle.puffin_frames.specs.Packet.Stored.{Stored}
+use Rattle.puffin_view.specs.View.File.{file_at, TookFrames, FailsToRead}
+use Rattle.puffin_look.specs.OpenFrame.{OpenFrame, AreOpened}
+use Rattle.puffin_look.specs.Printed.{Begins, HasFaultBehind, RefusesNone}
+use Rattle.puffin_look.specs.declared.thread_names.Naming.{Naming}
+use Rattle.puffin_look.specs.declared.thread_names.Naming.TheVariants.{Text, Name}
+use Rattle.puffin_look.specs.ThreadLines.{thread_text, totals_of}
+
+-- whether a word names a thread: is the text by which it is listed, or its name alone
+abbrev pub is_named : Naming → List ℕ → ThreadKey → Bool
+is_named Text word key = bytes_eq (thread_text key) word
+is_named Name word key = bytes_eq key.name word
+
+abbrev pub or_else : List ThreadKey → List ThreadKey → List ThreadKey
+or_else [] others = others
+or_else (key ∷ keys) others = key ∷ keys
+
+-- the thread that is listed by this word, or else those with this name
+abbrev pub threads_named : List ℕ → List ThreadKey → List ThreadKey
+threads_named word keys = or_else (filter (is_named Text word) keys) (filter (is_named Name word) keys)
+
+-- the threads of some frames, in their order
+abbrev pub threads_in : List OpenFrame → List ThreadKey
+threads_in frames = map (λ e. e.0) (tree.entries (totals_of frames))
+
+-- These are the threads with a name in the frames of a file that are before its end or its first fault.
+pub record AreNamed (word : List ℕ) (unread left : Option (List ℕ)) (found : List ThreadKey) : Type 0 where
+  pub stored : List Stored
+  pub begins : Begins unread stored
+  pub frames : List OpenFrame
+  pub opens : AreOpened stored frames
+  pub end : TookFrames file_at unread left stored
+      ⊎ ((fault : FileError) × (HasFaultBehind RefusesNone unread left stored frames fault
+      ⊎ (FailsToRead file_at unread left fault × (stored ≡ []))))
+  pub are : found ≡ threads_named word (threads_in frames)
