@@ -147,11 +147,13 @@ fn what_is_over_a_limit_is_refused_for_memory() {
     thread.set_max_bytes(100).unwrap();
     assert_eq!(thread.begin(1, 1, "").unwrap_err(), Fault::MEMORY);
     thread.set_max_bytes(1000).unwrap();
-    profiler.set_max_pending(30).unwrap();
-    let scope = thread.begin(1, 1, "").unwrap();
-    thread.end(2, scope).unwrap();
-    assert_eq!(profiler.report(&mut thread), Err(Fault::MEMORY));
-    profiler.set_max_pending(31).unwrap();
+    profiler.set_max_pending(61).unwrap();
+    for (start, answer) in [(1, Ok(())), (3, Err(Fault::MEMORY))] {
+        let scope = thread.begin(start, 1, "").unwrap();
+        thread.end(start + 1, scope).unwrap();
+        assert_eq!(profiler.report(&mut thread), answer);
+    }
+    profiler.set_max_pending(62).unwrap();
     profiler.report(&mut thread).unwrap();
 }
 

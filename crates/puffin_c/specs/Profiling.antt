@@ -28,8 +28,9 @@ use Rattle.puffin_view.specs.View.{empty_view, without_frames, after_taking, Kee
 use Rattle.puffin_view.specs.View.Ranking.{last_in}
 use Rattle.puffin_view.specs.View.ViewedFrames.{Frame, fields_of, index_of}
 use Rattle.puffin_view.specs.View.FrameOf.{frame_of}
-use Rattle.puffin_view.specs.View.Known.{view_of, with_frames}
-use Rattle.puffin_view.specs.View.File.{file_of, fields_in}
+use Rattle.puffin_view.specs.View.Known.{view_of, collection_of, with_frames}
+use Rattle.puffin_frames.specs.Packet.Stored.{PacketFields}
+use Rattle.puffin_view.specs.View.File.{file_of, fields_in, first_with}
 use Rattle.puffin_c.specs.declared.fault.Fault.{Fault}
 use Rattle.puffin_c.specs.declared.fault.Fault.TheVariants as fault
 use Rattle.puffin_c.specs.declared.frame.PuffinFrame.{PuffinFrame}
@@ -45,9 +46,13 @@ use Rattle.puffin_c.specs.Pieces.{unread_in, pieces_with}
 abbrev pub waiting_frame : Profiler → Option FrameData
 waiting_frame p = option_map (λ w. arc_value w.frame) p.waiting
 
+-- the contents of the view's frames, the first with all details that the view knows
+abbrev pub view_fields : Profiler → List PacketFields
+view_fields p = first_with (Some (collection_of p.view)) (fields_in (view_of p.view))
+
 -- the file of the view
 abbrev pub view_file : Profiler → List ℕ
-view_file p = file_of (fields_in (view_of p.view))
+view_file p = file_of (view_fields p)
 
 -- the newest frame of the view
 abbrev pub newest_frame : Profiler → Option Frame
@@ -262,7 +267,7 @@ bytes_of Packet p = newest_packet p
 
 -- it has a part whose length can't be written
 abbrev pub HasLong : Piece → Profiler → Type 0
-HasLong File p = Any HasLongPart (fields_in (view_of p.view))
+HasLong File p = Any HasLongPart (view_fields p)
 HasLong Packet p = HasLongNewest p
 
 -- It is made, and its bytes replace any unread ones of an earlier call; or nothing is changed.

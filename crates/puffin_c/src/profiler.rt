@@ -11,8 +11,6 @@ ghost use Rattle.puffin_frames.specs.declared.frame_data.frame.FrameData.{FrameD
 ghost use Rattle.puffin_frames.specs.Frame.Contents.{frame_details, packet_fields};
 ghost use Rattle.puffin_frames.specs.Packet.Grammar.{packet};
 ghost use Rattle.puffin_frames.specs.Packet.Writing.{HasLongPart};
-ghost use Rattle.puffin_view.specs.View.Known.{view_of};
-ghost use Rattle.puffin_view.specs.View.File.{fields_in};
 
 use crate::shared_ids::SharedIds;
 use crate::unread::{Piece, Pieces, Unread};
@@ -60,7 +58,7 @@ pub(crate) struct Profiler {
 
 impl Profiler {
     ghost use Rattle.puffin_c.specs.Naming.{after_naming, IsUnregistered};
-    ghost use Rattle.puffin_c.specs.Profiling.{with_collected, waiting_frame, IsNew, IsCollected, IsTaken, IsLeft, view_file, newest_packet, HasLongNewest, bytes_of, HasLong, with_unread, with_limits, without_view};
+    ghost use Rattle.puffin_c.specs.Profiling.{with_collected, waiting_frame, IsNew, IsCollected, IsTaken, IsLeft, view_fields, view_file, newest_packet, HasLongNewest, bytes_of, HasLong, with_unread, with_limits, without_view};
 
     /// Makes a profiler without scopes or frames.
     pub(crate) fn new(alloc: Global, shared: SharedIds) -> Profiler
@@ -142,16 +140,16 @@ impl Profiler {
         Ok(Some(meta))
     }
 
-    /// Returns the view's file. Fails with `PartTooLong`, or if memory runs out.
+    /// Returns the view's file, which has all details that the view knows. Fails with `PartTooLong`, or if memory runs out.
     pub(crate) fn file(&self, alloc: Global) -> Result<Vec<u8>, FileError>
         ensures ok { IfOk result (λ written. written.items ≡ view_file self.now) }
         ensures err { IfErr result (λ e.
-            ((e ≡ file.PartTooLong) × Any HasLongPart (fields_in (view_of self.now.view)))
+            ((e ≡ file.PartTooLong) × Any HasLongPart (view_fields self.now))
             ⊎ (e ≡ file.Memory)
             ⊎ (e ≡ file.Io)) }
     {
         let mut file = Counted::new(Vec::new(alloc));
-        match self.view.write(&mut file) {
+        match self.view.write_with_details(&mut file) {
             Ok(()) => Ok(file.into_inner()),
             Err(fault) => Err(fault),
         }

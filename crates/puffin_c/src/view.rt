@@ -61,8 +61,8 @@ fn pending_limited(alloc: Global, profiler: &mut PuffinProfiler, bytes: u64) -> 
 }
 
 /// Sets how many bytes of scopes may wait for the next frame, of all threads together. [`puffin_report`] and
-/// [`puffin_user_scopes`] fail with `Memory` where there would be more, and change nothing. What waits stays. At first there is no
-/// such limit.
+/// [`puffin_user_scopes`] fail with `Memory` where there would be more, and change nothing; while nothing waits, they take scopes of
+/// any size. What waits stays. At first there is no such limit.
 ///
 /// Fails with `NotOpen`. Allocates nothing.
 ///

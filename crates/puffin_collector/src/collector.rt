@@ -42,7 +42,7 @@ pub struct Collector {
     collection: ScopeCollection,
     new_details: Vec<Arc<ScopeDetails>>,
     wants_all: bool,
-    // How many bytes may be pending after a report.
+    // How many bytes may be pending after a report, unless it is the first one.
     max_pending: usize,
 }
 
@@ -93,8 +93,9 @@ impl Collector {
     }
 
     /// Sets how many bytes of scopes may be pending, of all threads together. [`Collector::report`] fails with `Memory` where
-    /// there would be more, as if the machine had no more, and changes nothing. What is pending stays. At first there is no such
-    /// limit.
+    /// there would be more, as if the machine had no more, and changes nothing. While nothing is pending, a report is taken
+    /// whatever its size: otherwise what a thread holds could exceed the limit by itself, and would never be taken. What is
+    /// pending stays. At first there is no such limit.
     pub fn set_max_pending(&mut self, bytes: usize)
         ensures { self.new ≡ self.old }
     {

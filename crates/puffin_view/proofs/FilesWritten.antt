@@ -10,17 +10,18 @@ use Rattle.puffin_data.specs.declared.file_error.FileError.{FileError}
 use Rattle.puffin_data.specs.declared.file_error.FileError.TheVariants as file
 use Rattle.puffin_data.specs.Part.{◌>>=◌}
 use Rattle.puffin_data.specs.Value.Layout.{NoneBeginsAnother}
-use Rattle.puffin_data.specs.Device.{WritesBeginning, is_io}
-use Rattle.puffin_data.specs.declared.error.Error.TheVariants.{MissingId}
+use Rattle.puffin_data.specs.Device.{TookNothing, WritesBeginning, is_io}
+use Rattle.puffin_data.specs.Cause.{file_error_of}
+use Rattle.puffin_data.specs.declared.error.Error.{Error}
+use Rattle.puffin_data.specs.declared.error.Error.TheVariants.{Memory, MissingId}
 use Rattle.puffin_frames.specs.Packet.Stored.{PacketFields, Stored, packed}
 use Rattle.puffin_frames.specs.Packet.Front.{next_at, is_end}
 use Rattle.puffin_frames.specs.Packet.Grammar.{packet_head, packet, IsPacked}
-use Rattle.puffin_frames.specs.Packet.Writing.{HasLongPart}
-use Rattle.std.proofs.Props.{props}
-use Rattle.puffin_view.specs.declared.profile_view.frame_file.FrameWriter.{FrameWriter}
+use Rattle.puffin_threads.specs.Details.Collection.{Collection}
+use Rattle.puffin_frames.specs.Packet.Writing.{HasLongPart, details_or}
 use Rattle.puffin_view.specs.View.ViewedFrames.{Frame, fields_of}
 use Rattle.puffin_view.specs.View.Known.{lacks_ids}
-use Rattle.puffin_view.specs.View.File.{magic, file_of, with_ids, frames_from, frames_at, most_packets, file_at}
+use Rattle.puffin_view.specs.View.File.{magic, file_of, first_with, without_details, WritesFile, with_ids, frames_from, frames_at, most_packets, file_at}
 use Rattle.puffin_view.specs.View.FrameFile.{HoldsFile, HoldsBegun, HoldsSoFar, written_after}
 
 -- ---- a file grows
@@ -36,9 +37,18 @@ all_more [] c h p = (p, tt)
 all_more (d ∷ done) c h p = (h.0, all_more done c h.1 p)
 
 -- the frames that are left begin with one
-pub one_left : (done : List PacketFields) (c : PacketFields) (f : Frame) (now next : List Frame) (cs : List PacketFields) → cs ≡ done ++ map fields_of now → now ≡ f ∷ next → c ≡ fields_of f → cs ≡ done ++ c ∷ map fields_of next
-one_left done c f now next cs is left same =
-    is ∙ (ap (λ (fs : List Frame). done ++ map fields_of fs) left ∙ ap (λ (d : PacketFields). done ++ d ∷ map fields_of next) (sym same))
+pub one_left : (done : List PacketFields) (o : Option Collection) (c : PacketFields) (f : Frame) (now next : List Frame) (cs : List PacketFields) → cs ≡ done ++ first_with o (map fields_of now) → now ≡ f ∷ next → c ≡ fields_of f
+    → cs ≡ done ++ record c { details = details_or c.details o } ∷ map fields_of next
+one_left done o c f now next cs is left same =
+    is ∙ (ap (λ (fs : List Frame). done ++ first_with o (map fields_of fs)) left ∙ ap (λ (d : PacketFields). done ++ record d { details = details_or d.details o } ∷ map fields_of next) (sym same))
+
+pub first_as_it_is : (cs : List PacketFields) → first_with None cs ≡ cs
+first_as_it_is [] = refl
+first_as_it_is (c ∷ cs) = refl
+
+pub others_stay : (scopes : Option Collection) (cs : List PacketFields) → map without_details (first_with scopes cs) ≡ map without_details cs
+others_stay scopes [] = refl
+others_stay scopes (c ∷ cs) = refl
 
 pub magic_begins : (old new : Option (List ℕ)) (cs : List PacketFields) → WritesBeginning old new magic → WritesBeginning old new (file_of cs)
 magic_begins old new cs h = (h.0, h.1 ++ flat_map packet cs, ap (λ (t : List ℕ). t ++ flat_map packet cs) h.2 ∙ append_assoc h.0 h.1 (flat_map packet cs), h.3)
@@ -67,7 +77,7 @@ not_io_memory : file.Memory ≡ file.Io → ⊥
 not_io_memory e = cc
 
 -- nothing at all, of one more
-nothing_begun : (old mid new : Option (List ℕ)) (cs : List PacketFields) (c : PacketFields) → HoldsFile old mid cs → new ≡ mid → HoldsBegun old new cs c
+pub nothing_begun : (old mid new : Option (List ℕ)) (cs : List PacketFields) (c : PacketFields) → HoldsFile old mid cs → new ≡ mid → HoldsBegun old new cs c
 nothing_begun old mid new cs c h same = ([], packet c, refl, subst (λ (bytes : List ℕ). Appends old new bytes) (sym (append-nil (file_of cs))) (subst (λ (m : Option (List ℕ)). Appends old m (file_of cs)) (sym same) h))
 
 pub begun : (old mid new : Option (List ℕ)) (done : List PacketFields) (c : PacketFields) (left cs : List PacketFields) (e : FileError) → cs ≡ done ++ c ∷ left → Appends old mid (file_of done)
@@ -81,6 +91,16 @@ begun old mid new done c left cs e is first io other (inr (inl memory)) =
 begun old mid new done c left cs e is first io other (inr (inr at)) =
     subst (λ (ds : List PacketFields). WritesBeginning old new (file_of ds)) (sym is) (begun_in old mid new done c left first (io at))
 
+-- a file that was refused with this fault
+pub refuses_file : {D : Type 0} (contents : D → Option (List ℕ)) (failures : D → ℕ) (takes : D → List ℕ → ℕ → D → Type 0) (old new : D) (cs : List PacketFields) (r : Result (Unit {0}) FileError) (e : FileError) → r ≡ Err e
+    → WritesBeginning (contents old) (contents new) (file_of cs) → (e ≡ file.Io → (failures new ≡ failures old + 1) ⊎ TookNothing takes new) → (e ≡ file.PartTooLong → Any HasLongPart cs) → Cause e
+    → WritesFile contents failures takes old new cs r
+refuses_file contents failures takes old new cs r e is begun io long cause =
+    subst (WritesFile contents failures takes old new cs) (sym is) (record { ok = tt; packed = tt; begun = begun; io = io; too_long = long; cause = cause; none_failed = tt })
+
+pub io_is_not_long : (e : FileError) → e ≡ file.Io → e ≡ file.PartTooLong → ⊥
+io_is_not_long e at long = not_io_long (sym long ∙ at)
+
 -- behind a file, a prefix of one more packet
 more_begun : (old mid new : Option (List ℕ)) (cs : List PacketFields) (c : PacketFields) (e : FileError) → HoldsFile old mid cs → (e ≡ file.Io → WritesBeginning mid new (packet c)) → ((e ≡ file.Io → ⊥) → new ≡ mid) → Cause e → HoldsBegun old new cs c
 more_begun old mid new cs c e h io other (inl long) = nothing_begun old mid new cs c h (other (λ at. not_io_long (sym long ∙ at)))
@@ -90,21 +110,13 @@ more_begun old mid new cs c e h io other (inr (inr at)) = let w = io at in (w.0,
 abbrev failed : FileError → Bool
 failed e = is_io {X = Unit {0}} (Err e)
 
--- two writers with the same fields
-pub same_writer : {D : Type 0} {d : _} (w v : FrameWriter D d) → w.drain ≡ v.drain → w.is_broken ≡ v.is_broken → w ≡ v
-same_writer {D} {d} w v drain broken =
-    let one : IsProp (w.is_broken ≡ false → d.failures w.drain < 2 ^ 64 - 1) = Prim.hlevel props in
-    subst (λ (y : D). (k : v.is_broken ≡ false → d.failures y < 2 ^ 64 - 1) → ◌≡◌ {A = FrameWriter D d} w record { drain = y; is_broken = v.is_broken; countable = k }) drain
-    (subst (λ (b : Bool). (k : b ≡ false → d.failures w.drain < 2 ^ 64 - 1) → ◌≡◌ {A = FrameWriter D d} w record { drain = w.drain; is_broken = b; countable = k }) broken
-    (λ k. ap (λ (h : w.is_broken ≡ false → d.failures w.drain < 2 ^ 64 - 1). record { drain = w.drain; is_broken = w.is_broken; countable = h }) (one w.countable k)))
-    v.countable
-
--- a call whose fault isn't `Io` leaves the writer
-pub unchanged_writer : {D : Type 0} {d : _} (w v : FrameWriter D d) (r : Result (Unit {0}) FileError) → w.is_broken ≡ is_io r → v.is_broken ≡ false → IfErr r (λ e. (e ≡ file.Io → ⊥) → w.drain ≡ v.drain) → IfErr r Cause → IfErr r (λ e. (e ≡ file.Io → ⊥) → w ≡ v)
-unchanged_writer w v (Ok x) now sound other cause = tt
-unchanged_writer w v (Err e) now sound other (inl long) = λ no. same_writer w v (other no) (now ∙ (ap failed long ∙ sym sound))
-unchanged_writer w v (Err e) now sound other (inr (inl memory)) = λ no. same_writer w v (other no) (now ∙ (ap failed memory ∙ sym sound))
-unchanged_writer w v (Err e) now sound other (inr (inr at)) = λ no. absurd (no at)
+-- details are refused as a fault of the file only where some have no id
+pub refused_ids : {L : Type 0} (e : Error) → file_error_of e ≡ file.Refused MissingId → (e ≡ MissingId) ⊎ (e ≡ Memory) → (e ≡ MissingId → L) → L
+refused_ids e is (inl missing) f = f missing
+refused_ids e is (inr memory) f = absurd (not_refused (sym (ap file_error_of memory) ∙ is))
+  where
+    not_refused : file.Memory ≡ file.Refused MissingId → ⊥
+    not_refused h = cc
 
 -- a call that didn't touch the device, whose fault isn't `Io`, leaves what it held
 kept : {D : Type 0} (contents : D → Option (List ℕ)) (before after : D) (c : PacketFields) (was is : Bool) (e fault : FileError) → was ≡ false → is ≡ failed e → e ≡ fault → failed fault ≡ false → after ≡ before

@@ -38,6 +38,19 @@ fn a_report_above_the_limit_is_refused(rt: HostRuntime) {
 }
 
 #[test]
+fn a_report_is_taken_where_nothing_is_pending(rt: HostRuntime) {
+    let mut collector = Collector::new(rt.alloc(), 0);
+    collector.set_max_pending(0);
+    report(&rt, &mut collector, "a", 1, (100, 200)).expect(&rt, "a report");
+    equal(
+        &rt,
+        report(&rt, &mut collector, "a", 1, (200, 300)),
+        Err(Error::Memory),
+    );
+    equal(&rt, collector.totals().reported, 1);
+}
+
+#[test]
 fn after_a_frame_there_is_room_again(rt: HostRuntime) {
     let mut profiler = GlobalProfiler::new(rt.alloc());
     profiler.set_max_pending(2 * 31 + 30);

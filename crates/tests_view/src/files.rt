@@ -178,11 +178,33 @@ fn knows_one(rt: &(impl AllocGlobal + Abort), file: &[u8]) {
     is_written(rt, &known, file);
 }
 
+/// The details of a packet: one scope, with an id.
+pub(crate) const DETAILS: [u8; 12] = *b"\x08\0\0\0\x01\x01\x07\0\x01f\0\0";
+
 #[test]
 fn details_are_learnt(rt: HostRuntime) {
-    let details = b"\x08\0\0\0\x01\x01\x07\0\x01f\0\0";
-    let bytes = bytes_of(rt.alloc(), &[&FILE[..74], details]).expect(&rt, "memory");
+    let bytes = bytes_of(rt.alloc(), &[&FILE[..74], &DETAILS]).expect(&rt, "memory");
     knows_one(&rt, &bytes);
+}
+
+/// What a view writes with all details that it knows.
+fn written_with_details(rt: &(impl AllocGlobal + Abort), view: &FrameView) -> Vec<u8> {
+    let mut bytes = Vec::new(rt.alloc());
+    view.write_with_details(&mut Counted::new(&mut bytes))
+        .ok()
+        .expect(rt, "no fault");
+    bytes
+}
+
+#[test]
+fn a_file_has_the_details_of_frames_that_are_gone(rt: HostRuntime) {
+    let named = bytes_of(rt.alloc(), &[&FILE[..74], &DETAILS, &FILE[79..]]).expect(&rt, "memory");
+    let view = limited(&rt, &named, 1, 0);
+    let bare = bytes_of(rt.alloc(), &[b"PUF0", &FILE[79..]]).expect(&rt, "memory");
+    is_written(&rt, &view, &bare);
+    let whole = bytes_of(rt.alloc(), &[b"PUF0", &FILE[79..150], &DETAILS]).expect(&rt, "memory");
+    let found = written_with_details(&rt, &view);
+    assert!(rt; found == whole);
 }
 
 #[test]

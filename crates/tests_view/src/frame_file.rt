@@ -3,7 +3,7 @@
 ghost use Rattle.std.specs.Prelude.{◌≡◌};
 
 use crate::devices::Full;
-use crate::files::view;
+use crate::files::{DETAILS, view};
 use puffin_data::data::{Counted, Drain, Source};
 use puffin_data::{Error, FileError};
 use puffin_frames::frame_data::{FrameData, FrameIndex};
@@ -179,10 +179,14 @@ fn a_reader_stops_at_a_fault(rt: HostRuntime) {
 }
 
 /// Writes the frames of a view, one at a time.
-fn write_frames<D: Drain + Drop>(drain: D, view: &FrameView) -> std::result::Result<D, FileError>
+fn write_frames<D: Drain + Drop>(
+    alloc: Global,
+    drain: D,
+    view: &FrameView,
+) -> std::result::Result<D, FileError>
     requires { D.failures drain ≡ 0 }
 {
-    let mut writer = FrameWriter::new(drain)?;
+    let mut writer = FrameWriter::new(alloc, drain)?;
     'frames: for frame in view.recent_frames() {
         writer.write(frame)?;
     }
@@ -195,7 +199,7 @@ fn written_frames(
     view: &FrameView,
 ) -> std::result::Result<(Vec<u8>, u64), FileError> {
     let mut bytes = Vec::new(alloc);
-    let drain = write_frames(Counted::new(&mut bytes), view)?;
+    let drain = write_frames(alloc, Counted::new(&mut bytes), view)?;
     let faults = drain.faults();
     Ok((bytes, faults))
 }
@@ -223,7 +227,7 @@ fn written_to_full(
         failure: Some(ErrorKind::Other),
         written: Vec::new(rt.alloc()),
     };
-    let refused = write_frames(Counted::new(&mut full), view).is_err();
+    let refused = write_frames(rt.alloc(), Counted::new(&mut full), view).is_err();
     (full.written, refused)
 }
 
@@ -266,7 +270,7 @@ fn refused_by(
     view: &FrameView,
 ) -> Vec<Option<FileError>> {
     let mut refused = Vec::new(rt.alloc());
-    let mut writer = FrameWriter::new(Counted::new(flaky)).expect(rt, "a file");
+    let mut writer = FrameWriter::new(rt.alloc(), Counted::new(flaky)).expect(rt, "a file");
     for frame in view.recent_frames() {
         refused.push(writer.write(frame).err()).expect(rt, "memory");
     }
@@ -296,4 +300,39 @@ fn nothing_is_written_behind_a_packet_that_was_cut(rt: HostRuntime) {
     let len = written.len();
     assert!(rt; len < ONE_FRAME);
     assert!(rt; Some(written.as_slice()) == FILE.get(..len));
+}
+
+/// Writes each frame of a view to a file of its own, and returns the files.
+fn written_apart(alloc: Global, view: &FrameView) -> std::result::Result<Vec<Vec<u8>>, FileError> {
+    let mut files = Vec::new(alloc);
+    let mut writer = FrameWriter::new(alloc, Counted::new(Vec::new(alloc)))?;
+    'frames: for frame in view.recent_frames() {
+        writer.write(frame)?;
+        let last = writer.next_file(Counted::new(Vec::new(alloc)))?;
+        files.push(last.into_inner())?;
+    }
+    Ok(files)
+}
+
+#[test]
+fn each_file_has_the_details_of_all_frames_so_far(rt: HostRuntime) {
+    let named = bytes_of(rt.alloc(), &[&FILE[..74], &DETAILS, &FILE[79..]]).expect(&rt, "memory");
+    let files = written_apart(rt.alloc(), &view(&rt, &named)).expect(&rt, "files");
+    let second = bytes_of(rt.alloc(), &[b"PUF0", &FILE[79..150], &DETAILS]).expect(&rt, "memory");
+    assert!(rt; files.first().map(|file| file.as_slice()) == named.get(..86));
+    assert!(rt; files.get(1) == Some(&second));
+}
+
+#[test]
+fn a_frame_whose_details_have_no_id_is_not_written(rt: HostRuntime) {
+    let packet = bytes_of(rt.alloc(), &[&FILE[4..74], b"\x07\0\0\0\x01\0\0\x01f\0\0"]).expect(
+        &rt, "memory",
+    );
+    let frame = FrameData::read_next(rt.alloc(), &mut Counted::new(packet.as_slice())).ok();
+    let frame = frame.flatten().expect(&rt, "a frame");
+    let mut bytes = Vec::new(rt.alloc());
+    let mut writer = FrameWriter::new(rt.alloc(), Counted::new(&mut bytes)).expect(&rt, "a file");
+    let refused = writer.write(&frame).err();
+    assert!(rt; refused == Some(FileError::Refused(Error::MissingId)));
+    assert!(rt; bytes.as_slice() == b"PUF0".as_slice());
 }

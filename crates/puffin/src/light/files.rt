@@ -66,7 +66,7 @@ impl std::error::Error for SaveError<'_> {}
 /// Writes the frames of a view to a file, which is created or emptied first. Returns the file.
 fn write_to<R: Files>(rt: &R, path: &str, view: &FrameView) -> result::Result<R::File, SaveCause> {
     let mut out = Counted::new(File::create(rt, path)?);
-    match (view.write(&mut out), out.last_error()) {
+    match (view.write_with_details(&mut out), out.last_error()) {
         (Ok(()), _) => Ok(out.into_inner()),
         (Err(FileError::Io), Some(e)) => Err(SaveCause::System(e)),
         (Err(fault), _) => Err(SaveCause::View(fault)),

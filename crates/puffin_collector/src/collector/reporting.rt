@@ -25,7 +25,7 @@ impl Collector {
     /// if these scopes and those pending under the info have bytes in unlike forms; `TooLarge` if, with these scopes, the
     /// number of pending bytes, of pending scopes or of scopes ever reported doesn't fit 64 bits; `RangeTooLong` if the time
     /// from the least start to the greatest stop of all scopes then pending doesn't fit `i64`; `Memory` if there is none, or if
-    /// more would be pending than [`Collector::set_max_pending`] allows.
+    /// some scopes are pending and, with these, there would be more than [`Collector::set_max_pending`] allows.
     #[inline(always)]
     pub fn report(
         &mut self,
@@ -113,7 +113,7 @@ impl Collector {
             Ok(sums) => sums,
             Err(cause) => return Err(self.first_cause(&info, times, cause)),
         };
-        if self.max_pending < meta.num_bytes {
+        if self.max_pending < meta.num_bytes && self.meta.num_bytes > 0 {
             return Err(self.first_cause(&info, times, Error::Memory));
         }
         report_to(self.alloc, &mut self.pending, info, times)?;

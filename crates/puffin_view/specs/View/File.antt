@@ -1,18 +1,20 @@
 -- Files of frames: what they hold, and what reading one returns.
-use Rattle.std.specs.Prelude.{◌≡◌, ◌⊎◌, ◌&&◌, ◌==◌, ◌^◌, ◌-◌, ℕ, zero, suc, Bool, true, false, List, [], ◌∷◌, ◌++◌, Option, Some, None, Result, Ok, Err, map, drop, slice_index, if◌then◌else◌}
-use Rattle.std.specs.List.{flat_map}
-use Rattle.std.specs.Io.KnownBytes.{Consumes, IsAtEnd}
+use Rattle.std.specs.Prelude.{◌≡◌, ◌⊎◌, ◌&&◌, ◌==◌, ◌^◌, ◌+◌, ◌-◌, ℕ, zero, suc, Bool, true, false, List, [], ◌∷◌, ◌++◌, Option, Some, None, Result, Ok, Err, OnOk, IfErr, map, drop, slice_index, if◌then◌else◌}
+use Rattle.std.specs.List.{flat_map, AllByRecursion, Any}
+use Rattle.std.specs.Io.KnownBytes.{Appends, Consumes, IsAtEnd}
 use Rattle.puffin_data.specs.declared.error.Error.TheVariants.{MissingId}
 use Rattle.puffin_data.specs.declared.file_error.FileError.{FileError}
 use Rattle.puffin_data.specs.declared.file_error.FileError.TheVariants as file
+use Rattle.puffin_data.specs.Device.{TookNothing, WritesBeginning}
 use Rattle.puffin_data.specs.Part.{◌>>=◌}
 use Rattle.puffin_threads.specs.Details.{Details}
-use Rattle.puffin_threads.specs.Details.Collection.{no_details, with_all_details}
+use Rattle.puffin_threads.specs.Details.Collection.{Collection, no_details, with_all_details}
 use Rattle.puffin_frames.specs.declared.frame_data.kind.Kind.TheVariants.{Uncompressed}
 use Rattle.puffin_frames.specs.Packet.Structs.{Legacy, form_of_all, streams_layout}
 use Rattle.puffin_frames.specs.Packet.Stored.{PacketFields, Stored, packed, legacy}
 use Rattle.puffin_frames.specs.Packet.Front.{next_at}
-use Rattle.puffin_frames.specs.Packet.Grammar.{packet}
+use Rattle.puffin_frames.specs.Packet.Grammar.{packet, IsPacked}
+use Rattle.puffin_frames.specs.Packet.Writing.{HasLongPart, details_or}
 use Rattle.puffin_view.specs.declared.profile_view.frame_view.FrameView.{FrameView}
 use Rattle.puffin_view.specs.View.ViewedFrames.{Frame, fields_of}
 use Rattle.puffin_view.specs.View.FrameOf.{details_of_frame}
@@ -36,6 +38,29 @@ fields_held v = map fields_of (v.recent ++ v.slow)
 -- the contents of a view's frames, each once, in ascending order of index
 abbrev pub fields_in : View → List PacketFields
 fields_in v = map fields_of (all_uniq v)
+
+-- frames' contents, where the first has the details of a collection in place of its own, if one is given
+abbrev pub first_with : Option Collection → List PacketFields → List PacketFields
+first_with scopes [] = []
+first_with scopes (c ∷ cs) = record c { details = details_or c.details scopes } ∷ cs
+
+-- what a packet has but for its details
+abbrev pub without_details : PacketFields → PacketFields
+without_details c = record c { details = [] }
+
+-- The promise of a call that writes the file of these frames to a device. What is written can be read again; a refusal leaves a
+-- prefix of it.
+pub record WritesFile {D : Type 0} (contents : D → Option (List ℕ)) (failures : D → ℕ)
+    (takes : D → List ℕ → ℕ → D → Type 0) (old new : D) (cs : List PacketFields)
+    (result : Result (Unit {0}) FileError) : Type 0 where
+  pub ok : OnOk result (Appends (contents old) (contents new) (file_of cs))
+  pub packed : OnOk result (AllByRecursion IsPacked cs)
+  pub begun : IfErr result (λ e. WritesBeginning (contents old) (contents new) (file_of cs))
+  pub io : IfErr result (λ e.
+      e ≡ file.Io → (failures new ≡ failures old + 1) ⊎ TookNothing takes new)
+  pub too_long : IfErr result (λ e. e ≡ file.PartTooLong → Any HasLongPart cs)
+  pub cause : IfErr result (λ e. (e ≡ file.PartTooLong) ⊎ (e ≡ file.Memory) ⊎ (e ≡ file.Io))
+  pub none_failed : OnOk result (failures new ≡ failures old)
 
 -- ---- frames that are read
 

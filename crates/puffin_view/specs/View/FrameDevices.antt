@@ -1,8 +1,13 @@
--- What a reader of frames reads from and how many frames it has returned, what a writer of frames writes to, and whether the reader is done or the writer broken.
-use Rattle.std.specs.Prelude.{ℕ, ◌+◌, ◌-◌, ◌^◌, Bool, true, false, Option, Some, None, Result, Ok, Err, min}
+-- What a reader of frames reads from and how many frames it has returned, what a writer of frames writes to and with which details, and whether the reader is done or the writer broken.
+use Rattle.std.specs.Prelude.{◌≡◌, ℕ, ◌+◌, ◌-◌, ◌^◌, Bool, true, false, [], Option, Some, None, Result, Ok, Err, min}
 use Rattle.puffin_data.specs.declared.file_error.FileError.{FileError}
 use Rattle.puffin_view.specs.declared.profile_view.frame_file.FrameReader.{FrameReader}
 use Rattle.puffin_view.specs.declared.profile_view.frame_file.FrameWriter.{FrameWriter}
+use Rattle.puffin_threads.specs.Details.Collection.{Collection, with_all_details}
+use Rattle.puffin_frames.specs.declared.frame_data.frame.FrameData.{FrameData}
+use Rattle.puffin_frames.specs.Frame.Contents.{frame_details}
+use Rattle.puffin_frames.specs.Packet.Stored.{PacketFields}
+use Rattle.puffin_view.specs.View.FrameFile.{HoldsFile, fields_if}
 
 -- the source that frames are read from
 abbrev pub source_of : {S : Type 0} {s : _} → FrameReader S s → S
@@ -35,3 +40,28 @@ drain_of writer = writer.drain
 -- whether a call failed with `Io`
 abbrev pub is_broken_of : {D : Type 0} {d : _} → FrameWriter D d → Bool
 is_broken_of writer = writer.is_broken
+
+-- whether its file has no packet yet
+abbrev pub is_first_of : {D : Type 0} {d : _} → FrameWriter D d → Bool
+is_first_of writer = writer.is_first
+
+-- the same after a call
+abbrev pub is_first_after : {X E : Type 0} → Result X E → Bool → Bool
+is_first_after (Ok x) first = false
+is_first_after (Err e) first = first
+
+-- the details of all frames that were written
+abbrev pub scopes_of : {D : Type 0} {d : _} → FrameWriter D d → Collection
+scopes_of writer = writer.scopes
+
+-- what the packet of a frame has: its own details or, if it is the first of its file, those of all frames so far
+abbrev pub next_fields : {D : Type 0} {d : _} → FrameWriter D d → FrameData → PacketFields
+next_fields writer frame =
+    fields_if (is_first_of writer) (with_all_details (scopes_of writer) (frame_details frame)) frame
+
+-- The writer has begun a file on this drain.
+pub record BeginsFile {D : Type 0} {d : _} (drain : D) (writer : FrameWriter D d) : Type 0 where
+  pub begun : HoldsFile (d.contents drain) (d.contents (drain_of writer)) []
+  pub none_failed : d.failures (drain_of writer) ≡ d.failures drain
+  pub sound : is_broken_of writer ≡ false
+  pub first : is_first_of writer ≡ true

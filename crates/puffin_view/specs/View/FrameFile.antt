@@ -5,6 +5,9 @@ use Rattle.puffin_data.specs.declared.file_error.FileError.{FileError}
 use Rattle.puffin_data.specs.Device.{FromDevice, FailsAt}
 use Rattle.puffin_data.specs.Part.{◌>>=◌}
 use Rattle.puffin_frames.specs.declared.frame_data.frame.FrameData.{FrameData}
+use Rattle.puffin_threads.specs.Details.Collection.{Collection}
+use Rattle.puffin_frames.specs.Frame.Contents.{packet_fields}
+use Rattle.puffin_frames.specs.Packet.Writing.{fields_with}
 use Rattle.puffin_frames.specs.Packet.Stored.{PacketFields, Stored}
 use Rattle.puffin_frames.specs.Packet.Front.{next_at, AtEnd}
 use Rattle.puffin_frames.specs.Packet.Next.{stored_of}
@@ -51,6 +54,11 @@ pub record HasGiven (old new : Option (List ℕ)) (frames : List Stored) : Type 
   pub given : AreGiven bytes frames
 
 -- ---- writing
+
+-- what the packet of a frame has: its own details or, if it is the first of its file, those of a collection
+abbrev pub fields_if : Bool → Collection → FrameData → PacketFields
+fields_if true scopes frame = fields_with frame (Some scopes)
+fields_if false scopes frame = packet_fields frame
 
 -- the device got the file of these frames
 abbrev pub HoldsFile : Option (List ℕ) → Option (List ℕ) → List PacketFields → Type 0

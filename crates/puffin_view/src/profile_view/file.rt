@@ -1,6 +1,6 @@
 //! Files of views.
 
-ghost use Rattle.std.specs.Prelude.{◌≡◌, ◌⊎◌, ◌+◌, IsTrue, IfErr, OnOk};
+ghost use Rattle.std.specs.Prelude.{◌≡◌, ◌⊎◌, ◌+◌, Some, IsTrue, IfErr, OnOk, option_map};
 ghost use Rattle.std.specs.List.{AllByRecursion, Any};
 ghost use Rattle.std.specs.Io.KnownBytes.{Appends};
 ghost use Rattle.puffin_data.specs.declared.error.Error.{Error};
@@ -10,15 +10,16 @@ ghost use Rattle.puffin_frames.specs.Packet.Grammar.{IsPacked};
 ghost use Rattle.puffin_frames.specs.Packet.Writing.{HasLongPart};
 ghost use Rattle.puffin_view.specs.View.ViewedFrames.{fields_of};
 ghost use Rattle.puffin_view.specs.View.FrameOf.{frame_of};
-ghost use Rattle.puffin_view.specs.View.Known.{view_of, lacks_ids};
+ghost use Rattle.puffin_view.specs.View.Known.{view_of, collection_of, lacks_ids};
 ghost use Rattle.puffin_view.specs.View.Adding.{Adds};
-ghost use Rattle.puffin_view.specs.View.File.{file_of, fields_in, file_at, ReadsView};
+ghost use Rattle.puffin_view.specs.View.File.{file_of, fields_in, first_with, WritesFile, file_at, ReadsView};
 
 use crate::profile_view::frame_file::{read_magic, write_magic};
 use crate::profile_view::frame_view::FrameView;
 use puffin_data::FileError;
 use puffin_data::data::{Drain, Source};
 use puffin_frames::frame_data::FrameData;
+use puffin_threads::scope_details::ScopeCollection;
 use std::alloc::Global;
 use std::sync::Arc;
 
@@ -66,9 +67,37 @@ impl FrameView {
             (e ≡ FileError.PartTooLong) ⊎ (e ≡ FileError.Memory) ⊎ (e ≡ FileError.Io)) }
         ensures failures { OnOk result (D.failures drain.new ≡ D.failures drain.old) }
     {
+        self.write_frames(None, drain)
+    }
+
+    /// Writes a file as [`FrameView::write`] does, but its first packet has the details of every scope that the view knows
+    /// ([`FrameView::scope_collection`]), in ascending order of id, in place of its frame's own. So the file has the names of
+    /// all its scopes, even if the view doesn't hold the frames any more that listed them. Without frames, it has no details.
+    ///
+    /// Fails in the same cases as [`FrameView::write`], and leaves the same.
+    pub fn write_with_details<D: Drain>(&self, drain: &mut D) -> Result<(), FileError>
+        requires { CanFail D.failures drain.old }
+        ensures written { WritesFile D.contents D.failures D.takes drain.old drain.new (
+            first_with (Some (collection_of self.now)) (fields_in (view_of self.now))) result }
+    {
+        self.write_frames(Some(self.scope_collection()), drain)
+    }
+
+    /// Writes the file of the view's frames, the first with these details in place of its own, if any are given.
+    fn write_frames<D: Drain>(
+        &self,
+        scopes: Option<&ScopeCollection>,
+        drain: &mut D,
+    ) -> Result<(), FileError>
+        requires { CanFail D.failures drain.old }
+        ensures written { WritesFile D.contents D.failures D.takes drain.old drain.new (
+            first_with (option_map (λ c. c.now) scopes.entry) (fields_in (view_of self.now)))
+            result }
+    {
+        let mut first = scopes;
         write_magic(drain)?;
         'frames: for frame in self.all_uniq() {
-            frame.write_into(None, drain)?;
+            frame.write_into(first.take(), drain)?;
         }
         Ok(())
     }

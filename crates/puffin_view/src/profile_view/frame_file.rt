@@ -1,6 +1,6 @@
 //! Files of frames, one frame at a time.
 
-ghost use Rattle.std.specs.Prelude.{◌≡◌, ◌≢◌, ◌⊎◌, ◌+◌, ◌-◌, ◌^◌, ◌<◌, ◌++◌, ◌∷◌, [], List, ℕ, IsFalse, IsTrue, Option, None, length, Err, Ok, IfOk, IfErr, IfSome, IfNone, OnOk, IsOkUnless};
+ghost use Rattle.std.specs.Prelude.{◌≡◌, ◌≢◌, ◌⊎◌, ◌+◌, ◌-◌, ◌^◌, ◌<◌, ◌++◌, ◌∷◌, [], List, ℕ, IsFalse, IsTrue, Option, None, length, Err, Ok, IfOk, IfErr, IfSome, IfNone, OnOk, OnErr, IsOkUnless};
 ghost use Rattle.std.specs.Io.KnownBytes.{Appends, Consumes};
 ghost use Rattle.puffin_data.specs.declared.file_error.FileError.{FileError};
 ghost use Rattle.puffin_data.specs.Device.{CanFail, TookNothing, WritesBeginning, failures_after, is_io};
@@ -8,16 +8,19 @@ ghost use Rattle.puffin_frames.specs.Packet.Stored.{PacketFields, Stored};
 ghost use Rattle.puffin_frames.specs.Packet.Next.{stored_of, IsFresh};
 ghost use Rattle.puffin_frames.specs.Packet.Grammar.{IsPacked, packet};
 ghost use Rattle.puffin_frames.specs.Packet.Writing.{HasLongPart, WritesPacket};
-ghost use Rattle.puffin_frames.specs.Frame.Contents.{packet_fields};
+ghost use Rattle.puffin_frames.specs.Frame.Contents.{packet_fields, frame_details};
+ghost use Rattle.puffin_threads.specs.Details.Collection.{no_details, with_all_details, LearnsSome};
+ghost use Rattle.puffin_data.specs.declared.error.Error.{Error};
 ghost use Rattle.puffin_view.specs.View.Known.{lacks_ids};
 ghost use Rattle.puffin_view.specs.View.File.{magic, begins_file, file_at, TookFrames, FailsToRead};
-ghost use Rattle.puffin_view.specs.View.FrameFile.{GivesNext, HasGiven, HoldsFile, HoldsBegun, HoldsSoFar, written_after};
+ghost use Rattle.puffin_view.specs.View.FrameFile.{GivesNext, HasGiven, HoldsFile, HoldsBegun, HoldsSoFar, written_after, fields_if};
 
 use puffin_data::data::{Drain, Source, read_up_to, write_all};
 use puffin_data::{Error, FileError};
 use puffin_frames::frame_data::FrameData;
-use puffin_threads::scope_details::any_lacks_id;
+use puffin_threads::scope_details::{ScopeCollection, any_lacks_id};
 use std::alloc::Global;
+use std::mem;
 
 /// Returns whether these letters begin a file.
 fn is_magic(letters: [u8; 4]) -> bool
@@ -224,10 +227,31 @@ impl<S: Source> FrameReader<S> {
     }
 }
 
-/// Writes a file one frame at a time.
+/// Writes a frame as one packet, with these details in place of its own, if it is the first of its file.
+fn write_packet<D: Drain>(
+    frame: &FrameData,
+    scopes: &ScopeCollection,
+    is_first: bool,
+    drain: &mut D,
+) -> Result<(), FileError>
+    requires { CanFail D.failures drain.old }
+    ensures written { WritesPacket D.contents D.failures D.takes drain.old drain.new
+        (packet (fields_if is_first scopes.now frame.now))
+        (HasLongPart (fields_if is_first scopes.now frame.now)) result }
+    ensures packed { OnOk result (IsPacked (fields_if is_first scopes.now frame.now)) }
+{
+    if is_first {
+        frame.write_into(Some(scopes), drain)
+    } else {
+        frame.write_into(None, drain)
+    }
+}
+
+/// Writes a file one frame at a time. The first packet of a file has the details of all frames that were written so far, also to
+/// earlier files, so each file has the names of its scopes.
 ///
 /// ```
-/// let mut writer = FrameWriter::new(Counted::new(File::create(&rt, "frames.puffin")?))?;
+/// let mut writer = FrameWriter::new(alloc, Counted::new(File::create(&rt, "frames.puffin")?))?;
 /// writer.write(&frame)?;
 /// ```
 #[derive(Drop)]
@@ -235,76 +259,131 @@ pub struct FrameWriter<D: Drain> {
     drain: D,
     /// True after `Io`: a prefix of a packet may have been written, and nothing after it would be read.
     is_broken: bool,
+    /// True until the file has a packet.
+    is_first: bool,
+    /// The details of all frames that were written.
+    scopes: ScopeCollection,
     ghost countable: { IsFalse is_broken → CanFail D.failures drain },
 }
 
 impl<D: Drain> FrameWriter<D> {
-    ghost use Rattle.puffin_view.specs.View.FrameDevices.{drain_of, is_broken_of};
+    ghost use Rattle.puffin_view.specs.View.FrameDevices.{drain_of, is_broken_of, is_first_of, is_first_after, scopes_of, next_fields, BeginsFile};
 
     /// Makes a writer, and writes the four letters that a file begins with.
     ///
     /// Fails only with `Io`, if a write fails or takes none of the bytes that are left. `drain` is then dropped, with a prefix
     /// of the letters written to it.
-    pub fn new(drain: D) -> Result<FrameWriter<D>, FileError>
+    pub fn new(alloc: Global, drain: D) -> Result<FrameWriter<D>, FileError>
     where
         D: Drop,
         requires { CanFail D.failures drain }
-        ensures begun { IfOk result (λ writer.
-            HoldsFile (D.contents drain) (D.contents (drain_of writer)) []) }
+        ensures begun { IfOk result (BeginsFile drain) }
+        ensures none { IfOk result (λ writer. scopes_of writer ≡ no_details) }
         // what a failure left of the drain that was dropped
         ensures err { IfErr result (λ e.
             (dropped : D)
             × WritesBeginning (D.contents drain) (D.contents dropped) magic
             × ((D.failures dropped ≡ D.failures drain + 1) ⊎ TookNothing D.takes dropped)) }
         ensures cause { IsOkUnless result FileError.Io }
-        ensures failures { IfOk result (λ writer.
-            D.failures (drain_of writer) ≡ D.failures drain) }
-        ensures not_broken { IfOk result (λ writer. IsFalse (is_broken_of writer)) }
     {
         let mut drain = drain;
         write_magic(&mut drain)?;
         Ok(FrameWriter {
             drain,
             is_broken: false,
+            is_first: true,
+            scopes: ScopeCollection::new(alloc),
         })
     }
 
-    /// Appends a frame as one packet, which has the details of the frame's own `scope_delta`.
+    /// Begins the next file, on another drain, and returns the drain of the last one. The next packet has the details of all
+    /// frames written so far. A writer that was broken goes on.
     ///
-    /// Fails like [`FrameData::write_into`]. After `Io`, a prefix of the packet has been written, and each further call fails
-    /// with `Io` and writes nothing, since nothing after a cut packet would ever be read. After any other error the writer is
-    /// unchanged.
+    /// Fails as [`FrameWriter::new`] does; the writer doesn't change then.
+    pub fn next_file(&mut self, drain: D) -> Result<D, FileError>
+    where
+        D: Drop,
+        requires { CanFail D.failures drain }
+        ensures begun { OnOk result (BeginsFile drain self.new) }
+        ensures last { IfOk result (λ last. last ≡ drain_of self.old) }
+        ensures scopes { scopes_of self.new ≡ scopes_of self.old }
+        ensures err { IfErr result (λ e.
+            (dropped : D)
+            × WritesBeginning (D.contents drain) (D.contents dropped) magic
+            × ((D.failures dropped ≡ D.failures drain + 1) ⊎ TookNothing D.takes dropped)) }
+        ensures unchanged { OnErr result (self.new ≡ self.old) }
+        ensures cause { IsOkUnless result FileError.Io }
+    {
+        let mut drain = drain;
+        write_magic(&mut drain)?;
+        let last = mem::replace(&mut self.drain, drain);
+        self.is_broken = false;
+        self.is_first = true;
+        Ok(last)
+    }
+
+    /// Appends a frame as one packet. It has the details of the frame's own `scope_delta` or, if it is the first of its file,
+    /// those of all frames written so far and of this one, in ascending order of id.
+    ///
+    /// Fails with `Refused(MissingId)` if some of the frame's details have no id, since no reader would take them; and like
+    /// [`FrameData::write_into`]. After `Io`, a prefix of the packet has been written, and each further call fails with `Io`
+    /// and writes nothing, since nothing after a cut packet would ever be read; [`FrameWriter::next_file`] ends that. After any
+    /// other error nothing has been written; after `PartTooLong` and `Memory`, some of the frame's details may be known.
     pub fn write(&mut self, frame: &FrameData) -> Result<(), FileError>
         // After each call the device holds the frames written so far, followed by nothing or, if the writer is broken, by a
         // prefix of one packet.
         ensures so_far { (old : Option (List ℕ)) (cs : List PacketFields) →
             HoldsSoFar (is_broken_of self.old) old (D.contents (drain_of self.old)) cs →
             HoldsSoFar (is_broken_of self.new) old (D.contents (drain_of self.new))
-            (written_after result cs (packet_fields frame.now)) }
+            (written_after result cs (next_fields self.old frame.now)) }
         ensures breaks { is_broken_of self.new ≡ is_io result }
         ensures broken { IsTrue (is_broken_of self.old) →
             (result ≡ Err FileError.Io) × (self.new ≡ self.old) }
         ensures written { OnOk result ((old : Option (List ℕ)) (cs : List PacketFields) →
             HoldsFile old (D.contents (drain_of self.old)) cs →
-            HoldsFile old (D.contents (drain_of self.new)) (cs ++ packet_fields frame.now ∷ [])) }
+            HoldsFile old (D.contents (drain_of self.new))
+            (cs ++ next_fields self.old frame.now ∷ [])) }
         ensures begun { IfErr result (λ e. (old : Option (List ℕ)) (cs : List PacketFields) →
             HoldsFile old (D.contents (drain_of self.old)) cs →
-            HoldsBegun old (D.contents (drain_of self.new)) cs (packet_fields frame.now)) }
-        ensures unchanged { IfErr result (λ e. e ≢ FileError.Io → self.new ≡ self.old) }
+            HoldsBegun old (D.contents (drain_of self.new)) cs
+            (next_fields self.old frame.now)) }
+        ensures unchanged { IfErr result (λ e. e ≢ FileError.Io →
+            drain_of self.new ≡ drain_of self.old) }
         // What is written can be read again.
-        ensures packed { OnOk result (IsPacked (packet_fields frame.now)) }
+        ensures packed { OnOk result (IsPacked (next_fields self.old frame.now)) }
+        ensures ids { OnOk result (IsFalse (lacks_ids (packet_fields frame.now))) }
+        ensures missing { IfErr result (λ e. e ≡ FileError.Refused Error.MissingId →
+            IsTrue (lacks_ids (packet_fields frame.now))
+            × (scopes_of self.new ≡ scopes_of self.old)) }
+        // What the next packet will have.
+        ensures first { is_first_of self.new ≡ is_first_after result (is_first_of self.old) }
+        ensures scopes { OnOk result (scopes_of self.new
+            ≡ with_all_details (scopes_of self.old) (frame_details frame.now)) }
+        ensures some { OnErr result (
+            LearnsSome (scopes_of self.old) (frame_details frame.now) (scopes_of self.new)) }
 
         // The same for this call alone.
         ensures packet { IsFalse (is_broken_of self.old) →
+            IsFalse (lacks_ids (packet_fields frame.now)) →
             WritesPacket D.contents D.failures D.takes (drain_of self.old) (drain_of self.new)
-            (packet (packet_fields frame.now)) (HasLongPart (packet_fields frame.now)) result }
+            (packet (next_fields self.old frame.now))
+            (HasLongPart (next_fields self.old frame.now)) result }
     {
         if self.is_broken {
             return Err(FileError::Io);
         }
-        let written = frame.write_into(None, &mut self.drain);
+        self.scopes.insert_all(&frame.scope_delta)?;
+        let written = write_packet(frame, &self.scopes, self.is_first, &mut self.drain);
         self.is_broken = matches!(written, Err(FileError::Io));
+        self.is_first = self.is_first && written.is_err();
         written
+    }
+
+    /// Borrows the drain, for example to ask why a write failed.
+    pub fn drain(&self) -> &D
+        ensures { result.now ≡ drain_of self.now }
+    {
+        &self.drain
     }
 
     /// Returns the drain. It contains the four letters that the file begins with, a packet for each frame written and, if a

@@ -6,6 +6,7 @@ ghost use Rattle.std.specs.List.{AllPairs, AllByRecursion, list_any};
 ghost use Rattle.std.specs.declared.cmp.Ordering.TheVariants.{Less, Equal};
 ghost use Rattle.std.specs.Ordering.{eq_by_cmp};
 ghost use Rattle.std.specs.Cmp.{IsTotalOrder};
+ghost use Rattle.puffin_threads.specs.Details.Collection.{Collection};
 ghost use Rattle.puffin_frames.specs.Packet.Stored.{PacketFields, Stored, packed};
 ghost use Rattle.puffin_view.specs.declared.profile_view.slow_rank.SlowRank.{SlowRank};
 ghost use Rattle.puffin_view.specs.View.Ranking.{AreFirst};
@@ -24,7 +25,7 @@ ghost use Rattle.puffin_view.specs.View.{View, after_all, last_index, rises_behi
 ghost use Rattle.puffin_view.specs.View.Known.{view_of, lacks_ids};
 ghost use Rattle.puffin_view.specs.View.Grammar.{fields_stored, IsFile};
 ghost use Rattle.puffin_view.specs.View.FrameFile.{GivesNext, HasGiven, IsCut};
-ghost use Rattle.puffin_view.specs.View.File.{file_of, fields_held, fields_in, frame_stored, read_view, file_at, TookFrames, FailsToRead, ReadsView};
+ghost use Rattle.puffin_view.specs.View.File.{file_of, first_with, without_details, fields_held, fields_in, frame_stored, read_view, file_at, TookFrames, FailsToRead, ReadsView};
 
 use crate::profile_view::select::ByIndex;
 use crate::profile_view::slow_rank::SlowRank;
@@ -103,6 +104,15 @@ pub fn written_files_are_read()
     // For the proof alone: a law of packets.
     written_is_read();
 }
+
+/// A file whose first packet has the details of a collection, as [`FrameView::write_with_details`] writes it, differs from one
+/// without them in these details alone.
+///
+/// [`FrameView::write_with_details`]: crate::profile_view::FrameView::write_with_details
+pub fn details_change_nothing_else()
+    ensures { (scopes : Option Collection) (cs : List PacketFields) →
+        map without_details (first_with scopes cs) ≡ map without_details cs }
+{}
 
 /// A file of frames is `PUF0`, a packet for each frame, in order, and an end as in [`written_files_are_read`]. The packets may
 /// be of any version that is read. Bytes are read as frames exactly when they are a file of these frames, all details of the
