@@ -6,15 +6,14 @@
 //! list, up to the last complete frame.
 #![tactic(auto)]
 
-mod rotation;
-
 use anyhow::{Context, Result};
 use puffin::data::Counted;
 use puffin::global_profiler::{Emitted, GlobalProfiler};
-use puffin::light::{Frames, Place, Records, Rounds, Scopes, Settings, Thread, in_rounds};
+use puffin::light::{
+    Frames, Place, Records, Rotation, RotationLimits, Rounds, Scopes, Settings, Thread, in_rounds,
+};
 use puffin::profile_view::{FrameReader, FrameWriter};
 use puffin::{FileError, place, profile};
-use rotation::Rotation;
 use std::fs::File;
 use std::rt::{Clock, Files};
 use std::sync::{Mutex, Wait};
@@ -75,7 +74,7 @@ fn record<R: AllocGlobal + Clock + Files + Print + Wait + Copy>(
 ) -> Result<()> {
     let mut scopes = Scopes::new(rt.alloc())?;
     let places = Places::new(&mut scopes)?;
-    let mut writer = FrameWriter::new(Counted::new(File::create(&rt, path)?))?;
+    let mut writer = FrameWriter::new(rt.alloc(), Counted::new(File::create(&rt, path)?))?;
     let mut thread = Thread::start(rt, "main", GlobalProfiler::new(rt.alloc()), &scopes)?;
     for _ in 0..frames {
         places.update(&mut thread);
@@ -90,7 +89,7 @@ fn record<R: AllocGlobal + Clock + Files + Print + Wait + Copy>(
 #[derive(Drop)]
 struct Game {
     places: Places,
-    files: Mutex<Rotation>,
+    files: Mutex<Rotation<HostRuntime>>,
 }
 
 impl Rounds for Game {
@@ -118,26 +117,9 @@ impl Rounds for Game {
         rt: &R,
         _round: usize,
         taken: &puffin::Result<Emitted>,
-        frames: &mut F,
+        _frames: &mut F,
     ) -> bool {
-        let Ok(
-            Emitted {
-                frame: Some(frame),
-                refused: _,
-            },
-        ) = taken
-        else {
-            return true;
-        };
-        match self.files.lock(rt).write(frame) {
-            Ok(is_full) => {
-                if is_full {
-                    frames.emit_scope_snapshot();
-                }
-                true
-            }
-            Err(_) => false,
-        }
+        self.files.lock(rt).write_taken(taken)
     }
 }
 
@@ -151,12 +133,16 @@ fn main(rt: HostRuntime) -> Result<()> {
     if word.as_str() == "record" {
         return record(rt, path.as_str(), frames);
     }
-    let every = argument(&rt, 4)?.parse()?;
-    let kept = argument(&rt, 5)?.parse()?;
+    let limits = RotationLimits {
+        max_frames: argument(&rt, 4)?.parse()?,
+        max_files: argument(&rt, 5)?.parse()?,
+        ..RotationLimits::default()
+    };
+    let folder = format!(in rt.alloc(); "{path}/")?;
     let mut scopes = Scopes::new(rt.alloc())?;
     let game = Game {
         places: Places::new(&mut scopes)?,
-        files: Mutex::new(Rotation::new(rt, path, every, kept)?),
+        files: Mutex::new(Rotation::new(rt, folder.as_str(), limits)?),
     };
     let outcome = in_rounds(
         rt,
@@ -166,6 +152,7 @@ fn main(rt: HostRuntime) -> Result<()> {
         frames,
         &game,
     )?;
+    game.files.lock(&rt).finish()?;
     println!(rt;
         "frames {} scopes {}",
         outcome.frames, outcome.settled.handed

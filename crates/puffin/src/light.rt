@@ -11,6 +11,7 @@
 //! | turn all scopes off and on | [`Scopes::set_on`] |
 //! | take a frame of one thread | [`Thread::new_frame`] |
 //! | write frames to a file | [`save`] |
+//! | write each frame as it comes, to files that replace each other | [`Rotation`] |
 //! | profile several threads that work in rounds, with a frame for each round | [`Rounds`], [`in_rounds`] |
 //! | profile several threads, and take frames when you choose | [`Program`], [`profiled`] |
 //! | profile a server or a pool, each of whose jobs has a name of its own | [`Pool`], [`pooled`] |
@@ -29,6 +30,7 @@ pub mod place;
 pub mod pool;
 pub mod program;
 mod ready;
+pub mod rotation;
 pub mod rounds;
 pub mod scopes;
 pub mod settings;
@@ -43,6 +45,7 @@ pub use outcome::{Failed, Outcome, ThreadCounts};
 pub use place::Place;
 pub use pool::{Pool, pooled};
 pub use program::{Frames, Program, profiled};
+pub use rotation::{Rotation, RotationLimits};
 pub use rounds::{Rounds, in_rounds};
 pub use scopes::{Scopes, ThreadScopes};
 pub use settings::Settings;

@@ -7,6 +7,7 @@ mod calls;
 mod details;
 #[cfg(test)]
 mod equal;
+mod files;
 #[cfg(test)]
 mod global_profiler;
 #[cfg(test)]

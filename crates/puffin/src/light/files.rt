@@ -6,7 +6,9 @@ ghost use Rattle.std.specs.Prelude.{◌≡◌};
 use crate::profile_view::FrameView;
 use puffin_data::FileError;
 use puffin_data::data::Counted;
+use std::alloc::Global;
 use std::fs::{File, OpenFile};
+use std::io::{ErrorKind, Write};
 use std::rt::Files;
 use std::{fmt, fs, io, result};
 
@@ -63,26 +65,77 @@ impl fmt::Display for SaveError<'_> {
 
 impl std::error::Error for SaveError<'_> {}
 
-/// Writes the frames of a view to a file, which is created or emptied first. Returns the file.
-fn write_to<R: Files>(rt: &R, path: &str, view: &FrameView) -> result::Result<R::File, SaveCause> {
-    let mut out = Counted::new(File::create(rt, path)?);
-    match (view.write_with_details(&mut out), out.last_error()) {
-        (Ok(()), _) => Ok(out.into_inner()),
-        (Err(FileError::Io), Some(e)) => Err(SaveCause::System(e)),
-        (Err(fault), _) => Err(SaveCause::View(fault)),
+/// The cause of a write that failed so, where the system may have given an error.
+pub(crate) fn cause_of(fault: FileError, error: Option<io::Error>) -> SaveCause {
+    match (fault, error) {
+        (FileError::Io, Some(e)) => SaveCause::System(e),
+        (fault, _) => SaveCause::View(fault),
     }
 }
 
-/// Writes the frames of a view to the file `beside`, waits until the system has stored them, and then renames the file to
-/// `path`.
-fn replace(
-    rt: &impl Files,
+/// The cause where memory ran out.
+pub(crate) fn no_memory() -> SaveCause {
+    SaveCause::View(FileError::Memory)
+}
+
+/// Writes the frames of a view to a file, with all details that the view knows. Returns the file.
+fn write_to<F: Write + Drop>(file: F, view: &FrameView) -> result::Result<F, SaveCause> {
+    let mut out = Counted::new(file);
+    match view.write_with_details(&mut out) {
+        Ok(()) => Ok(out.into_inner()),
+        Err(fault) => Err(cause_of(fault, out.last_error())),
+    }
+}
+
+/// The greatest number of bytes of a file's name.
+const MAX_NAME: usize = 255;
+
+/// The number of names that are tried for a part.
+const MAX_TRIES: usize = 1_000;
+
+/// Returns the name of a part beside this file. It is cut where it would be too long.
+fn part_name(alloc: Global, path: &str, number: usize) -> result::Result<String, SaveCause> {
+    let ending = if number == 0 {
+        String::from_str(alloc, ".part")
+    } else {
+        format!(in alloc; ".part{number}")
+    };
+    let ending = ending.map_err(|_| no_memory())?;
+    let start = path.rfind('/').map_or(0, |at| at.saturating_add(1));
+    let longest = start.saturating_add(MAX_NAME.saturating_sub(ending.len()));
+    let kept = &path[..path.floor_char_boundary(longest)];
+    format!(in alloc; "{kept}{ending}").map_err(|_| no_memory())
+}
+
+/// Creates a file beside this one, under a name that isn't taken.
+fn create_part<R: Files + AllocGlobal>(
+    rt: &R,
     path: &str,
-    beside: &str,
+) -> result::Result<(String, R::File), SaveCause> {
+    for number in 0..MAX_TRIES {
+        let name = part_name(rt.alloc(), path, number)?;
+        match File::create_new(rt, name.as_str()) {
+            Ok(file) => return Ok((name, file)),
+            Err(e) if e.kind() == ErrorKind::AlreadyExists => {}
+            Err(e) => return Err(SaveCause::System(e)),
+        }
+    }
+    Err(SaveCause::System(io::Error::from(ErrorKind::AlreadyExists)))
+}
+
+/// Writes the frames of a view to a part, waits until the system has stored it, and renames it to `path`.
+fn replace<R: Files>(
+    rt: &R,
+    path: &str,
+    part: &str,
+    file: R::File,
     view: &FrameView,
 ) -> result::Result<(), SaveCause> {
-    write_to(rt, beside, view)?.sync_all()?;
-    Ok(fs::rename(rt, beside, path)?)
+    if let Ok(old) = fs::metadata(rt, path) {
+        file.set_permissions(old.permissions())?;
+    }
+    write_to(file, view)?.sync_all()?;
+    Ok(fs::rename(rt, part, path)?)
 }
 
 /// Returns whether this name is taken by something other than a plain file, for example a device or a link.
@@ -100,26 +153,26 @@ fn saved<R: Files + AllocGlobal>(
     view: &FrameView,
 ) -> result::Result<(), SaveCause> {
     if is_no_file(rt, path) {
-        let _file = write_to(rt, path, view)?;
+        let _file = write_to(File::create(rt, path)?, view)?;
         return Ok(());
     }
-    let Ok(beside) = format!(in rt.alloc(); "{path}.part") else {
-        return Err(SaveCause::View(FileError::Memory));
-    };
-    let replaced = replace(rt, path, &beside, view);
+    let (part, file) = create_part(rt, path)?;
+    let replaced = replace(rt, path, part.as_str(), file, view);
     if replaced.is_err() {
-        let _removed = fs::remove_file(rt, beside.as_str());
+        let _removed = fs::remove_file(rt, part.as_str());
     }
     replaced
 }
 
-/// Writes the frames of a view to a file with this name. They are first written to a second file, with `.part` added to the
-/// name. Once the system has stored that file, it replaces the old one. So after a crash or a loss of power, a file that was
-/// there has its old frames or the new ones, and no part of either. A device, a pipe or a link is written to directly, and isn't
-/// waited for.
+/// Writes the frames of a view to a file with this name, as [`FrameView::write_with_details`] does: the file has the names of
+/// all its scopes. They are first written to a second file, with `.part` added to the name, or `.part1` and so on if that is
+/// taken; a name that is too long is cut before it. Once the system has stored that file, it replaces the old one, whose
+/// permissions it has. So after a crash or a loss of power, a file that was there has its old frames or the new ones, and no
+/// part of either. A device, a pipe or a link is written to directly, and isn't waited for.
 ///
 /// Fails with the system's error if a file can't be created, written, stored or renamed; with `Memory` if the second file's
-/// name can't be allocated; or as [`FrameView::write`] does. If it fails, an old plain file is unchanged.
+/// name can't be allocated; or as [`FrameView::write`] does. If it fails, an old plain file is unchanged, and the second one is
+/// removed.
 ///
 /// No contract states what the file holds afterwards, since contracts can't express that; tests read the file again.
 ///
