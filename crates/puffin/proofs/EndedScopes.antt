@@ -18,7 +18,7 @@ use Rattle.puffin_scopes.specs.Guards.Ending.{innermost_of}
 use Rattle.puffin.specs.declared.light.place.Place.{Place}
 use Rattle.puffin.specs.declared.light.thread.Thread.{Thread}
 use Rattle.puffin.specs.LightThread.{profiler_of, reporter_of}
-use Rattle.puffin.specs.Guards.{BeginsAt, EndsIn}
+use Rattle.puffin.specs.Guards.{BeginsThere, MakesRoom, BeginsAt, EndsIn}
 use Rattle.puffin.specs.Ended.{CountsReports, counted_by}
 use Rattle.puffin.proofs.lemmas.Waiting.{num_ended-append, num_ended-tour}
 
@@ -65,9 +65,15 @@ leaves answers accepts refuses reported old offset new h other =
 begun_ended : (t : calls.Thread) (id : ℕ) (text : List ℕ) (at : ℤ) → num_ended (after_begin t id text at).word ≡ num_ended t.word
 begun_ended t id text at = omega (arith, num_ended-append t.word (Open id text (calls.time_of t at) ∷ []))
 
-pub begins : {C R : Type 0} (answers : C → ℤ → C → Type 0) (reported : R → ℕ) (old : Thread C R) (place : Place) (text : List ℕ) (state : GuardState) (new : Thread C R) → BeginsAt answers old place text state new → counted_by reported new ≡ counted_by reported old
-begins answers reported old place text (On offset) new h =
+begins_there : {C R : Type 0} (answers : C → ℤ → C → Type 0) (reported : R → ℕ) (old : Thread C R) (place : Place) (text : List ℕ) (state : GuardState) (new : Thread C R) → BeginsThere answers old place text state new → counted_by reported new ≡ counted_by reported old
+begins_there answers reported old place text (On offset) new h =
     let began = h.begins.1 in
     omega (arith, ap reported h.reporter, ap (λ (t : calls.Thread). num_ended t.word) began.begun, begun_ended (thread_of (profiler_of old)) place.id (cut_text (thread_of (profiler_of old)).form text) began.at)
-begins answers reported old place text Off new h = omega (arith, ap reported h.reporter, ap (λ p. num_ended (thread_of p).word) h.begins)
-begins answers reported old place text (Refused e) new h = omega (arith, ap reported h.reporter, ap (λ p. num_ended (thread_of p).word) h.begins.0)
+begins_there answers reported old place text Off new h = omega (arith, ap reported h.reporter, ap (λ p. num_ended (thread_of p).word) h.begins)
+begins_there answers reported old place text (Refused e) new h = omega (arith, ap reported h.reporter, ap (λ p. num_ended (thread_of p).word) h.begins.0)
+
+pub begins : {C R : Type 0} (answers : C → ℤ → C → Type 0) (accepts : R → ThreadKey → List Details → StreamFacts → R → Type 0) (refuses : R → ThreadKey → List Details → StreamFacts → Error → R → Type 0) (reported : R → ℕ) → CountsReports accepts refuses reported
+    → (old : Thread C R) (place : Place) (text : List ℕ) (state : GuardState) (new : Thread C R) → BeginsAt answers accepts refuses old place text state new → counted_by reported new ≡ counted_by reported old
+begins answers accepts refuses reported counts old place text state new (ready, inl same, there) = begins_there answers reported ready place text state new there ∙ ap (counted_by reported) same
+begins answers accepts refuses reported counts old place text state new (ready, inr room, there) =
+    begins_there answers reported ready place text state new there ∙ reports_by accepts refuses reported counts old ready room.answer room.reports

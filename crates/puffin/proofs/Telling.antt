@@ -1,5 +1,5 @@
 -- What a thread's calls add to what its reporter tells, and to what waits.
-use Rattle.std.proofs.Common.{◌≡◌, ℕ, ◌+◌, ◌<◌, ℤ, Bool, List, [], ◌∷◌, ◌++◌, ◌^◌, length, map, Option, Some, None, Result, Ok, Err, true, false, ◌⊎◌, inl, inr, refl, sym, ap, ◌∙◌, subst, append_assoc, arith}
+use Rattle.std.proofs.Common.{◌≡◌, ℕ, zero, suc, ◌+◌, ◌<◌, ℤ, Bool, List, [], ◌∷◌, ◌++◌, ◌^◌, length, map, Option, Some, None, Result, Ok, Err, true, false, ◌⊎◌, inl, inr, refl, sym, ap, ◌∙◌, subst, append_assoc, arith}
 use Rattle.std.specs.Prelude.{slice_get}
 use Rattle.std.specs.Option.{option_or}
 use Rattle.std.proofs.lemmas.List.{append-nil, map-append}
@@ -162,7 +162,7 @@ Accepts old i ds r new = (new ≡ old ++ reported i r ∷ []) × (length r.bytes
 abbrev pub Refuses : List Happening → ThreadKey → List Details → StreamFacts → Error → List Happening → Type 0
 Refuses old i ds r e new = new ≡ old
 
-some_first : (s : Option ℤ) (t : ℤ) → (y : ℤ) × (option_or s (Some t) ≡ Some y)
+pub some_first : (s : Option ℤ) (t : ℤ) → (y : ℤ) × (option_or s (Some t) ≡ Some y)
 some_first None t = (t, refl)
 some_first (Some y) t = (y, refl)
 
@@ -286,6 +286,70 @@ reports_stay : (old new : calls.Thread) (before after : List Happening) (result 
 reports_stay old new before after (Ok false) h = (ap (λ (t : calls.Thread). t.name) h.1, ap (λ (t : calls.Thread). t.first_start) h.1)
 reports_stay old new before after (Ok true) h = (ap (λ (t : calls.Thread). t.name) h.1, ap (λ (t : calls.Thread). t.first_start) h.1)
 reports_stay old new before after (Err e) h = (ap (λ (t : calls.Thread). t.name) h.0, ap (λ (t : calls.Thread). t.first_start) h.0)
+
+-- what waits has begun
+abbrev pub Started : Stage → Type 0
+Started m = m.thread.first_start ≡ None → m.thread.word ≡ []
+
+none_behind : {A : Type 0} (xs ys : List A) → xs ++ ys ≡ [] → ys ≡ []
+none_behind [] ys is = is
+none_behind (x ∷ xs) ys is = absurd (let h : x ∷ (xs ++ ys) ≡ [] = is in cc)
+
+-- after code, what waits has begun, if it had before
+pub stays_started : (o m : Stage) (f : Forest) → Started o → Adds o m f → Started m
+stays_started o m f started adds none = at_depth (num_open o) refl
+  where
+    first : o.thread.first_start ≡ None
+    first = not_yet o m adds.started none
+
+    whole : o.thread.word ++ tour f ≡ []
+    whole = ap (λ (w : List Event). w ++ tour f) (started first) ∙ adds.none none
+
+    at_depth : (k : ℕ) → num_open o ≡ k → m.thread.word ≡ []
+    at_depth zero is = let p = adds.passed is in none_behind p.reported m.thread.word (p.kept ∙ whole)
+    at_depth (suc k) is = adds.word (omega (arith, is)) ∙ whole
+
+-- a report of what waits adds nothing
+pub adds_report : (m n : Stage) (result : Result Bool Error) → Started m → n.known ≡ m.known → Reports Accepts Refuses m.thread n.thread m.told n.told result → Adds m n empty
+adds_report m n result started known h = record {
+  name = stay.0;
+  form = form_stays m.thread n.thread m.told n.told result h;
+  known = known;
+  started = λ t is. stay.1 ∙ is;
+  word = λ some. open_stays some ∙ sym (append-nil m.thread.word);
+  told = λ some. untold result h some;
+  none_open = λ none. shut result h none;
+  passed = λ none. reports_pass m n result (λ not. started (sym stay.1 ∙ not)) h;
+  none = λ not. refl;
+}
+  where
+    stay : (n.thread.name ≡ m.thread.name) × (n.thread.first_start ≡ m.thread.first_start)
+    stay = reports_stay m.thread n.thread m.told n.told result h
+
+    form_stays : (old new : calls.Thread) (before after : List Happening) (result : Result Bool Error) → Reports Accepts Refuses old new before after result → new.form ≡ old.form
+    form_stays old new before after (Ok false) h = ap (λ (t : calls.Thread). t.form) h.1
+    form_stays old new before after (Ok true) h = ap (λ (t : calls.Thread). t.form) h.1
+    form_stays old new before after (Err e) h = ap (λ (t : calls.Thread). t.form) h.0
+
+    same_word : (result : Result Bool Error) → Reports Accepts Refuses m.thread n.thread m.told n.told result → 0 < num_open m → n.thread.word ≡ m.thread.word
+    same_word (Ok false) h some = ap (λ (t : calls.Thread). t.word) h.1
+    same_word (Ok true) h some = absurd (let none = h.0.none_open in omega arith)
+    same_word (Err e) h some = ap (λ (t : calls.Thread). t.word) h.0
+
+    open_stays : 0 < num_open m → n.thread.word ≡ m.thread.word
+    open_stays some = same_word result h some
+
+    untold : (result : Result Bool Error) → Reports Accepts Refuses m.thread n.thread m.told n.told result → 0 < num_open m → n.told ≡ m.told
+    untold (Ok false) h some = h.2
+    untold (Ok true) h some = absurd (let none = h.0.none_open in omega arith)
+    untold (Err e) (same, inl opened) some = opened.2
+    untold (Err e) (same, inr (waits, inl memory)) some = memory.1
+    untold (Err e) (same, inr (waits, inr refused)) some = refused.2
+
+    shut : (result : Result Bool Error) → Reports Accepts Refuses m.thread n.thread m.told n.told result → num_open m ≡ 0 → num_open n ≡ 0
+    shut (Ok false) h none = ap (λ (t : calls.Thread). open_after 0 t.word) h.1 ∙ none
+    shut (Ok true) h none = ap (λ (t : calls.Thread). open_after 0 t.word) h.1
+    shut (Err e) h none = ap (λ (t : calls.Thread). open_after 0 t.word) h.0 ∙ none
 
 -- ---- all that code on a new thread told
 

@@ -1,5 +1,5 @@
 -- Code on a light thread, by what its reporter tells.
-use Rattle.std.proofs.Common.{◌≡◌, ℕ, ℤ, pos, Bool, true, false, List, Some, Result, Ok, Err, inl, inr, refl, sym, ap, ◌∙◌, subst}
+use Rattle.std.proofs.Common.{◌≡◌, ◌⊎◌, ℕ, ℤ, pos, Bool, true, false, List, Some, Result, Ok, Err, inl, inr, refl, sym, ap, ◌∙◌, subst}
 use Rattle.puffin_data.specs.declared.error.Error.{Error}
 use Rattle.puffin_data.specs.declared.data.form.Form.{Form}
 use Rattle.puffin_data.specs.Forest.{Forest, empty, append}
@@ -21,19 +21,19 @@ use Rattle.puffin.specs.declared.light.thread.Thread.{Thread}
 use Rattle.puffin.specs.declared.light.place.Place.{Place}
 use Rattle.puffin.specs.LightThread.{profiler_of, reporter_of, scopes_of}
 use Rattle.puffin.specs.Places.{num_known}
-use Rattle.puffin.specs.Guards.{BeginsAt, EndsIn, Leaves}
+use Rattle.puffin.specs.Guards.{BeginsThere, MakesRoom, BeginsAt, EndsIn, Leaves}
 use Rattle.puffin.specs.Code.{Code, nothing, scope, Runs, AreScopesOf, MayBe, scope_if, span_at}
 use Rattle.puffin.specs.Happenings.{Happening}
 use Rattle.puffin.specs.Telling.{KeepsReports, HasRun, RunsAs, HasRunAs, LeadsAs, HasLedAs}
 use Rattle.puffin.proofs.lemmas.Waiting.{num_ended-tour}
-use Rattle.puffin.proofs.Telling.{Stage, Adds, Accepts, Refuses, adds_nothing, adds_both, innermost, around, told_all}
+use Rattle.puffin.proofs.Telling.{Stage, Adds, Accepts, Refuses, Started, some_first, stays_started, adds_report, adds_nothing, adds_both, innermost, around, told_all}
 
-begins_form : {C R : Type 0} (answers : C → ℤ → C → Type 0) (old new : Thread C R) (place : Place) (text : List ℕ) (state : GuardState) → BeginsAt answers old place text state new → (thread_of (profiler_of new)).form ≡ (thread_of (profiler_of old)).form
+begins_form : {C R : Type 0} (answers : C → ℤ → C → Type 0) (old new : Thread C R) (place : Place) (text : List ℕ) (state : GuardState) → BeginsThere answers old place text state new → (thread_of (profiler_of new)).form ≡ (thread_of (profiler_of old)).form
 begins_form answers old new place text (On offset) begins = ap (λ (t : calls.Thread). t.form) begins.begins.1.begun
 begins_form answers old new place text Off begins = ap (λ p. (thread_of p).form) begins.begins
 begins_form answers old new place text (Refused e) begins = ap (λ p. (thread_of p).form) begins.begins.0
 
-may_be : {C R : Type 0} (answers : C → ℤ → C → Type 0) (old new : Thread C R) (place : Place) (text : List ℕ) (state : GuardState) → BeginsAt answers old place text state new → MayBe (num_known (scopes_of old)) place state
+may_be : {C R : Type 0} (answers : C → ℤ → C → Type 0) (old new : Thread C R) (place : Place) (text : List ℕ) (state : GuardState) → BeginsThere answers old place text state new → MayBe (num_known (scopes_of old)) place state
 may_be answers old new place text (On offset) begins = begins.begins.0
 may_be answers old new place text Off begins = tt
 may_be answers old new place text (Refused e) begins = begins.begins.1
@@ -81,7 +81,7 @@ module _ {C R : Type 0} (answers : C → ℤ → C → Type 0) (accepts : R → 
   bare a b c d f profiler reporter scopes body left = subst (λ m. Adds m (stage d) f) (same_stage a b profiler reporter scopes) (subst (λ t. Adds (stage b) (stage t) f) (sym left) body)
 
   -- A guard was opened at a place, code ran within it, and it was dropped.
-  adds_scope : (a b c d : Thread C R) (place : Place) (text : List ℕ) (state : GuardState) (f : Forest) → BeginsAt answers a place text state b → Adds (stage b) (stage c) f → Leaves (EndsIn answers accepts refuses) (offset_in state) c d
+  adds_scope : (a b c d : Thread C R) (place : Place) (text : List ℕ) (state : GuardState) (f : Forest) → BeginsThere answers a place text state b → Adds (stage b) (stage c) f → Leaves (EndsIn answers accepts refuses) (offset_in state) c d
       → (start stop : ℤ) × Adds (stage a) (stage d) (scope_if state (span_at place (cut_text (thread_of (profiler_of a)).form text) start stop) f)
   adds_scope a b c d place text Off f begins body left = (pos 0, pos 0, bare a b c d f begins.begins begins.reporter begins.scopes body left)
   adds_scope a b c d place text (Refused e) f begins body left = (pos 0, pos 0, bare a b c d f begins.begins.0 begins.reporter begins.scopes body left)
@@ -96,34 +96,53 @@ module _ {C R : Type 0} (answers : C → ℤ → C → Type 0) (accepts : R → 
             (closes_by (thread_of (profiler_of c)) (thread_of (profiler_of d)) end.at (reporter_of c) (reporter_of d) end.closed end.closes),
       )
 
-  adds_code : (code : Code) (old new : Thread C R) → Runs (BeginsAt answers) (EndsIn answers accepts refuses) code old new → (f : Forest) × AreScopesOf (num_known (scopes_of old)) (thread_of (profiler_of old)).form code f × Adds (stage old) (stage new) f
-  adds_code nothing old new runs = (empty, refl, subst (λ t. Adds (stage old) (stage t) empty) (sym runs) (adds_nothing (stage old)))
-  adds_code (scope place text within after) old new (state, begun, left, ended, begins, inner, leaves, later) =
-      let i = adds_code within begun left inner in
-      let l = adds_code after ended new later in
-      let w = adds_scope old begun left ended place text state i.0 begins i.2 leaves in
-      let form = begins_form answers old begun place text state begins in (
-        append (scope_if state (span_at place (cut_text (thread_of (profiler_of old)).form text) w.0 w.1) i.0) l.0,
+  -- what waits was reported, or not, before a scope began
+  adds_room : (a b : Thread C R) → Started (stage a) → (b ≡ a) ⊎ MakesRoom accepts refuses a b → Adds (stage a) (stage b) empty
+  adds_room a b started (inl same) = subst (λ t. Adds (stage a) (stage t) empty) (sym same) (adds_nothing (stage a))
+  adds_room a b started (inr room) =
+      adds_report (stage a) (stage b) room.answer started (ap num_known room.scopes) (reports_by (thread_of (profiler_of a)) (thread_of (profiler_of b)) (reporter_of a) (reporter_of b) room.answer room.reports)
+
+  begun_started : (a b : Thread C R) (place : Place) (text : List ℕ) (state : GuardState) → BeginsThere answers a place text state b → Started (stage a) → Started (stage b)
+  begun_started a b place text (On offset) begins started none =
+      absurd (let first = some_first (thread_of (profiler_of a)).first_start (time_of (thread_of (profiler_of a)) begins.begins.1.at) in
+      let is = ap (λ (t : calls.Thread). t.first_start) begins.begins.1.begun in cc)
+  begun_started a b place text Off begins started none = ap (λ p. (thread_of p).word) begins.begins ∙ started (sym (ap (λ p. (thread_of p).first_start) begins.begins) ∙ none)
+  begun_started a b place text (Refused e) begins started none = ap (λ p. (thread_of p).word) begins.begins.0 ∙ started (sym (ap (λ p. (thread_of p).first_start) begins.begins.0) ∙ none)
+
+  adds_code : (code : Code) (old new : Thread C R) → Started (stage old) → Runs (BeginsAt answers accepts refuses) (EndsIn answers accepts refuses) code old new → (f : Forest) × AreScopesOf (num_known (scopes_of old)) (thread_of (profiler_of old)).form code f × Adds (stage old) (stage new) f
+  adds_code nothing old new started runs = (empty, refl, subst (λ t. Adds (stage old) (stage t) empty) (sym runs) (adds_nothing (stage old)))
+  adds_code (scope place text within after) old new started (state, begun, left, ended, (ready, room, begins), inner, leaves, later) =
+      let made = adds_room old ready started room in
+      let ready_started = stays_started (stage old) (stage ready) empty started made in
+      let i = adds_code within begun left (begun_started ready begun place text state begins ready_started) inner in
+      let w = adds_scope ready begun left ended place text state i.0 begins i.2 leaves in
+      let span = span_at place (cut_text (thread_of (profiler_of ready)).form text) w.0 w.1 in
+      let l = adds_code after ended new (stays_started (stage ready) (stage ended) (scope_if state span i.0) ready_started w.2) later in
+      let whole = adds_both (stage old) (stage ready) (stage ended) empty (scope_if state span i.0) made w.2 in
+      let form = begins_form answers ready begun place text state begins ∙ made.form in
+      let known = ap num_known begins.scopes ∙ made.known in
+      let its_text = ap (λ (x : Form). cut_text x text) made.form in (
+        append (scope_if state span i.0) l.0,
         (
           state,
-          may_be answers old begun place text state begins,
+          subst (λ (n : ℕ). MayBe n place state) made.known (may_be answers ready begun place text state begins),
           w.0,
           w.1,
           i.0,
           l.0,
-          moved within i.0 (ap num_known begins.scopes) form i.1,
-          moved after l.0 w.2.known w.2.form l.1,
-          refl,
+          moved within i.0 known form i.1,
+          moved after l.0 whole.known whole.form l.1,
+          ap (λ (s : List ℕ). append (scope_if state (span_at place s w.0 w.1) i.0) l.0) its_text,
         ),
-        adds_both (stage old) (stage ended) (stage new) _ l.0 w.2 l.2,
+        adds_both (stage old) (stage ended) (stage new) (scope_if state span i.0) l.0 whole l.2,
       )
 
   -- code ran on a new thread, and then what waited was reported, or not
-  has_run : (code : Code) (old mid : Thread C R) (last : calls.Thread) (after : R) (name : List ℕ) (form : Form) (result : Result Bool Error) (waiting : ℕ) → thread_of (profiler_of old) ≡ new_thread name form → Runs (BeginsAt answers) (EndsIn answers accepts refuses) code old mid
+  has_run : (code : Code) (old mid : Thread C R) (last : calls.Thread) (after : R) (name : List ℕ) (form : Form) (result : Result Bool Error) (waiting : ℕ) → thread_of (profiler_of old) ≡ new_thread name form → Runs (BeginsAt answers accepts refuses) (EndsIn answers accepts refuses) code old mid
       → Reports accepts refuses (thread_of (profiler_of mid)) last (reporter_of mid) after result → waiting ≡ num_ended last.word
       → HasRun name form (num_known (scopes_of old)) code (told (reporter_of old)) (told after) waiting
   has_run code old mid last after name form result waiting first runs reports counted =
-      let a = adds_code code old mid runs in
+      let a = adds_code code old mid (λ none. ap (λ (x : calls.Thread). x.word) first) runs in
       let n : Stage = record { known = num_known (scopes_of mid); thread = last; told = told after } in
       let t = told_all (stage old) (stage mid) n a.0 name form result first a.2 (reports_by (thread_of (profiler_of mid)) last (reporter_of mid) after result reports) in
       let its_form : (thread_of (profiler_of old)).form ≡ form = ap (λ (x : calls.Thread). x.form) first in
@@ -140,7 +159,7 @@ module _ {C R : Type 0} (answers : C → ℤ → C → Type 0) (accepts : R → 
       }
 
   pub has_run_as : {X E : Type 0} (states : Bool) (is : Code → Type 0) (old mid : Thread C R) (last : calls.Thread) (after : R) (name : List ℕ) (form : Form) (r : Result X E) (result : Result Bool Error) (waiting : ℕ) → thread_of (profiler_of old) ≡ new_thread name form
-      → RunsAs states is (BeginsAt answers) (EndsIn answers accepts refuses) old r mid
+      → RunsAs states is (BeginsAt answers accepts refuses) (EndsIn answers accepts refuses) old r mid
       → Reports accepts refuses (thread_of (profiler_of mid)) last (reporter_of mid) after result → waiting ≡ num_ended last.word
       → HasRunAs states is name form (num_known (scopes_of old)) r (told (reporter_of old)) (told after) waiting
   has_run_as false is old mid last after name form r result waiting first runs reports counted = tt
@@ -148,7 +167,7 @@ module _ {C R : Type 0} (answers : C → ℤ → C → Type 0) (accepts : R → 
   has_run_as true is old mid last after name form (Err e) result waiting first runs reports counted = tt
 
   pub has_led_as : (states : Bool) (is : Code → Type 0) (old mid : Thread C R) (last : calls.Thread) (after : R) (name : List ℕ) (form : Form) (result : Result Bool Error) (waiting : ℕ) → thread_of (profiler_of old) ≡ new_thread name form
-      → LeadsAs states is (BeginsAt answers) (EndsIn answers accepts refuses) old mid
+      → LeadsAs states is (BeginsAt answers accepts refuses) (EndsIn answers accepts refuses) old mid
       → Reports accepts refuses (thread_of (profiler_of mid)) last (reporter_of mid) after result → waiting ≡ num_ended last.word
       → HasLedAs states is name form (num_known (scopes_of old)) (told (reporter_of old)) (told after) waiting
   has_led_as false is old mid last after name form result waiting first runs reports counted = tt

@@ -43,8 +43,9 @@ pub record CountsEnds {C R : Type 0} (answers : C → ℤ → C → Type 0)
       EndsIn answers accepts refuses old offset new →
       innermost_of (profiler_of old) ≢ Some offset →
       counted_by reported new ≡ counted_by reported old
-  pub begins : (reported : R → ℕ) → (old : Thread C R) (place : Place) (text : List ℕ)
-      (state : GuardState) (new : Thread C R) → BeginsAt answers old place text state new →
+  pub begins : (reported : R → ℕ) → CountsReports accepts refuses reported →
+      (old : Thread C R) (place : Place) (text : List ℕ) (state : GuardState)
+      (new : Thread C R) → BeginsAt answers accepts refuses old place text state new →
       counted_by reported new ≡ counted_by reported old
   pub reports : (reported : R → ℕ) → CountsReports accepts refuses reported →
       (old new : Thread C R) (result : Result Bool Error) →

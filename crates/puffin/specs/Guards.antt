@@ -1,5 +1,5 @@
 -- What beginning and ending a scope at a `Place` does to a thread.
-use Rattle.std.specs.Prelude.{ℕ, ◌+◌, ◌<◌, ◌≤◌, ◌≡◌, ◌≢◌, ◌⊎◌, ℤ, pos, ◌≤ℤ◌, List, Option, Some, None}
+use Rattle.std.specs.Prelude.{ℕ, ◌+◌, ◌<◌, ◌≤◌, ◌≡◌, ◌≢◌, ◌⊎◌, ℤ, pos, ◌≤ℤ◌, Bool, List, Option, Some, None, Result}
 use Rattle.puffin_data.specs.declared.error.Error.{Error}
 use Rattle.puffin_data.specs.declared.error.Error.TheVariants.{Memory, MissingId}
 use Rattle.puffin_data.specs.Honesty.{StreamFacts}
@@ -10,7 +10,7 @@ use Rattle.puffin_threads.specs.declared.thread_profiler.profiler.ThreadProfiler
 use Rattle.puffin_threads.specs.declared.thread_profiler.reporter.Closed.{Closed}
 use Rattle.puffin_threads.specs.Thread.ThreadProfiler.{thread_of, clock_of}
 use Rattle.puffin_threads.specs.Thread.Calls.{after_begin}
-use Rattle.puffin_threads.specs.Thread.Closing.{Closes}
+use Rattle.puffin_threads.specs.Thread.Closing.{Closes, Reports}
 use Rattle.puffin_threads.specs.Thread.ThreadKey.{ThreadKey}
 use Rattle.puffin_threads.specs.Details.{Details}
 use Rattle.puffin_scopes.specs.Guards.Ending.{innermost_of}
@@ -75,14 +75,38 @@ abbrev pub Leaves : {T : Type 0} → (T → ℕ → T → Type 0) → Option ℕ
 Leaves ends None old new = new ≡ old
 Leaves ends (Some offset) old new = ends old offset new
 
--- What `begin` does to a light thread: nothing is reported, the scopes that it knows stay, and a refused scope is counted.
-pub record BeginsAt {C R : Type 0} (answers : C → ℤ → C → Type 0) (old : Thread C R)
+-- What `begin` does to a light thread that has room, or none: nothing is reported, the scopes that it knows stay, and a refused
+-- scope is counted.
+pub record BeginsThere {C R : Type 0} (answers : C → ℤ → C → Type 0) (old : Thread C R)
     (place : Place) (text : List ℕ) (state : GuardState) (new : Thread C R) : Type 0 where
   pub begins : Begins answers (num_known (scopes_of old)) place.id (profiler_of old) text state
       (profiler_of new)
   pub reporter : reporter_of new ≡ reporter_of old
   pub scopes : scopes_of new ≡ scopes_of old
   pub refused : refused_of new ≡ refused_after (refused_of old) state
+
+-- What waits was reported, or not, so that there may be room.
+pub record MakesRoom {C R : Type 0}
+    (accepts : R → ThreadKey → List Details → StreamFacts → R → Type 0)
+    (refuses : R → ThreadKey → List Details → StreamFacts → Error → R → Type 0)
+    (old new : Thread C R) : Type 0 where
+  pub answer : Result Bool Error
+  pub reports : Reports accepts refuses (thread_of (profiler_of old)) (thread_of (profiler_of new))
+      (reporter_of old) (reporter_of new) answer
+  pub clock : clock_of (profiler_of new) ≡ clock_of (profiler_of old)
+  pub scopes : scopes_of new ≡ scopes_of old
+  pub refused : refused_of new ≡ refused_of old
+
+-- What `begin` does to a light thread: where there is no room, and no scope is open, what waits is reported, and the scope is
+-- tried once more.
+abbrev pub BeginsAt : {C R : Type 0} → (C → ℤ → C → Type 0) →
+    (R → ThreadKey → List Details → StreamFacts → R → Type 0) →
+    (R → ThreadKey → List Details → StreamFacts → Error → R → Type 0) →
+    Thread C R → Place → List ℕ → GuardState → Thread C R → Type 0
+BeginsAt {C} {R} answers accepts refuses old place text state new =
+    (ready : Thread C R)
+    × ((ready ≡ old) ⊎ MakesRoom accepts refuses old ready)
+    × BeginsThere answers ready place text state new
 
 -- what `end` does to a light thread: the scopes that it knows, and the number of refused ones, stay
 pub record EndsIn {C R : Type 0} (answers : C → ℤ → C → Type 0)

@@ -5,7 +5,7 @@ use crate::global_profiler::Emitted;
 use crate::light::files::{SaveCause, SaveError, cause_of, no_memory};
 use crate::profile_view::FrameWriter;
 use puffin_data::Result;
-use puffin_data::data::Counted;
+use puffin_data::data::{Counted, Drain};
 use std::fs::{File, OpenFile};
 use std::io::ErrorKind;
 use std::rt::Files;
@@ -55,7 +55,10 @@ impl Default for RotationLimits {
 ///
 /// No contract states what the files hold, since contracts can't express that; tests read them again.
 #[derive(Drop)]
-pub struct Rotation<R: Files> {
+pub struct Rotation<R: Files>
+where
+    Counted<R::File>: Drain,
+{
     rt: R,
     prefix: String,
     limits: RotationLimits,
@@ -97,7 +100,10 @@ fn next_number<R: Files + AllocGlobal + Copy + Drop>(rt: &R, prefix: &str) -> io
     Ok(next)
 }
 
-impl<R: Files + AllocGlobal + Copy + Drop> Rotation<R> {
+impl<R: Files + AllocGlobal + Copy + Drop> Rotation<R>
+where
+    Counted<R::File>: Drain,
+{
     /// Prepares to write files with this prefix, which may begin with folders: they have to exist. The numbers go on from those
     /// of the files that are there. The first file begins with the first frame.
     ///

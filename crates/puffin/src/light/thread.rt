@@ -1,6 +1,7 @@
 //! Threads that are profiled, each with its clock and its reporter.
 
-ghost use Rattle.std.specs.Prelude.{◌≡◌, ℕ, length, Err, OnErr, IfOk};
+ghost use Rattle.std.specs.Prelude.{◌≡◌, ◌≤◌, ℕ, length, Err, OnErr, IfOk};
+ghost use Rattle.puffin_data.specs.Forest.Words.{open_after};
 ghost use Rattle.puffin_data.specs.declared.error.Error.{Error};
 ghost use Rattle.puffin_data.specs.declared.data.form.Form.{Form};
 ghost use Rattle.puffin_threads.specs.Thread.Calls.{new_thread, num_ended};
@@ -24,7 +25,8 @@ use std::rt::Clock;
 use std::sync::{Arc, Wait};
 
 /// A thread that is profiled. Whenever its outermost scope ends, all closed scopes go to the reporter. If a report is refused,
-/// its scopes wait for the next one.
+/// its scopes wait for the next one. Where a scope doesn't begin for want of room, and no other is open, what waits is reported
+/// first, and the scope is tried once more: so a thread that has met a limit records again once a frame is taken.
 #[derive(Drop)]
 pub struct Thread<C, P> {
     profiler: ThreadProfiler<C>,
@@ -101,7 +103,8 @@ impl<C> Thread<C, GlobalProfiler> {
 }
 
 impl<C: NsSource, P: Reporter> Thread<C, P> {
-    ghost use Rattle.puffin.specs.Guards.{EndsIn};
+    ghost use Rattle.puffin.specs.Guards.{BeginsAt, EndsIn};
+    ghost use Rattle.puffin.specs.Places.{num_known};
     ghost use Rattle.puffin.specs.Taking.{one_more};
     ghost use Rattle.puffin.specs.LightThread.{profiler_of, reporter_of, scopes_of, refused_of};
     ghost use Rattle.puffin.specs.Lent.{with_reporter};
@@ -152,6 +155,13 @@ impl<C: NsSource, P: Reporter> Thread<C, P> {
         self.profiler.num_closed()
     }
 
+    /// Returns the number of open scopes.
+    pub fn num_open(&self) -> usize
+        ensures { result ≡ open_after 0 (thread_of (profiler_of self.now)).word }
+    {
+        self.profiler.depth()
+    }
+
     /// Returns the number of scopes that were refused when they should have begun, or `u64::MAX` if there were more. Such a
     /// scope isn't in any frame.
     pub fn num_refused(&self) -> u64
@@ -170,6 +180,21 @@ impl<C: NsSource, P: Reporter> Thread<C, P> {
     {
         self.refused = self.refused.saturating_add(1);
         GuardState::Refused(cause)
+    }
+
+    /// Begins a scope at a place that the thread knows, for which there was no room: reports what waits, and tries once more.
+    #[cold]
+    #[inline(never)]
+    fn begin_behind_report(&mut self, place: &Place, text: &str) -> GuardState
+        requires { place.now.id ≤ num_known (scopes_of self.old) }
+        ensures { BeginsAt C.answers P.accepts P.refuses self.old place.now text.now result
+            self.new }
+    {
+        let _ = self.report_closed();
+        match self.profiler.begin_scope(place.id(), text) {
+            Ok(offset) => GuardState::On(offset),
+            Err(e) => self.refuse(e),
+        }
     }
 
     /// Ends the scope at this offset with [`ThreadProfiler::end_scope`], which also reports if no other scope is open.
@@ -200,7 +225,7 @@ impl<C: NsSource, P: Reporter> Records for Thread<C, P> {
     ghost use Rattle.puffin.specs.Guards.{BeginsAt, EndsIn};
 
     ghost begins = { λ old place text state new.
-        BeginsAt C.answers old place text state new };
+        BeginsAt C.answers P.accepts P.refuses old place text state new };
 
     ghost ends = { λ old offset new.
         EndsIn C.answers P.accepts P.refuses old offset new };
@@ -219,7 +244,7 @@ impl<C: NsSource, P: Reporter> Records for Thread<C, P> {
         }
         match self.profiler.begin_scope(place.id(), text) {
             Ok(offset) => GuardState::On(offset),
-            Err(e) => self.refuse(e),
+            Err(_) => self.begin_behind_report(place, text),
         }
     }
 
