@@ -1,12 +1,9 @@
-ghost use Rattle.std.specs.Prelude.{◌≡◌, ◌==◌, ◌+◌, ◌-◌, ◌<◌, ◌≤◌, [], ◌++◌, length, take, drop, IfOk, OnOk, OnErr, IsOk, IsOkUnless};
+ghost use Rattle.std.specs.Prelude.{◌≡◌, ◌==◌, ◌+◌, ◌-◌, ◌<◌, ◌≤◌, [], ◌++◌, length, take, IfOk, OnOk, OnErr, IsOk, IsOkUnless};
 ghost use Rattle.puffin_data.specs.Stream.{StreamState};
-ghost use Rattle.puffin_data.specs.inner.Groups.{second_byte};
 
 mod writing;
 
 use crate::data::form::Form;
-use crate::data::scope::FRONT_SIZE;
-use crate::data::spelling::copy_text;
 use crate::error::{Error, Result};
 use std::alloc::Global;
 use std::marker::Model;
@@ -248,61 +245,6 @@ impl Stream {
         let end = self.len + bytes.len();
         self.block[self.len..end].copy_from_slice(bytes);
         self.len = end;
-    }
-
-    /// Appends the first 14 of 16 bytes. Overwrites 16 bytes, which must fit the room.
-    #[inline(always)]
-    fn put_front(&mut self, front: &[u8; 16])
-        requires { 16 ≤ self.old.room }
-        ensures bytes { self.new.bytes ≡ self.old.bytes ++ take (FRONT_SIZE + 1) front.now }
-        ensures form { self.new.form ≡ self.old.form }
-        ensures room { self.old.room ≤ self.new.room + (FRONT_SIZE + 1) }
-    {
-        let place = self.len;
-        self.block[place..place + 16].copy_from_slice(front);
-        self.len = place + (FRONT_SIZE + 1);
-    }
-
-    /// Appends a text's bytes, which must fit the room.
-    #[inline(always)]
-    fn put_text(&mut self, text: &[u8])
-        requires { length text.now ≤ self.old.room }
-        ensures bytes { self.new.bytes ≡ self.old.bytes ++ text.now }
-        ensures form { self.new.form ≡ self.old.form }
-        ensures room { self.old.room ≤ self.new.room + length text.now }
-    {
-        if text.is_empty() {
-            return;
-        }
-        let end = self.len + text.len();
-        copy_text(&mut self.block[self.len..end], text);
-        self.len = end;
-    }
-
-    /// Appends the byte, if there is one. It must fit the room.
-    #[inline]
-    fn put_second(&mut self, byte: Option<u8>)
-        requires { length (second_byte byte) ≤ self.old.room }
-        ensures bytes { self.new.bytes ≡ self.old.bytes ++ second_byte byte }
-        ensures form { self.new.form ≡ self.old.form }
-        ensures room { self.old.room ≤ self.new.room + length (second_byte byte) }
-    {
-        if let Some(byte) = byte {
-            self.put(&[byte]);
-        }
-    }
-
-    /// Overwrites the eight bytes at an offset.
-    #[inline]
-    pub(crate) fn overwrite(&mut self, place: usize, word: &[u8])
-        requires inside { place + 8 ≤ length self.old.bytes }
-        requires word { length word.now ≡ 8 }
-        ensures bytes { self.new.bytes
-            ≡ take place self.old.bytes ++ (word.now ++ drop (place + 8) self.old.bytes) }
-        ensures form { self.new.form ≡ self.old.form }
-        ensures room { self.new.room ≡ self.old.room }
-    {
-        self.block[place..place + 8].copy_from_slice(word);
     }
 }
 

@@ -9,9 +9,9 @@ ghost use Rattle.puffin_data.specs.inner.Groups.{second_byte};
 ghost use Rattle.puffin_data.specs.inner.Beginnings.{Begins};
 
 use crate::data::form::{ONE_GROUP, groups};
-use crate::data::scope::END_SIZE;
+use crate::data::scope::{END_SIZE, FRONT_SIZE};
 use crate::data::scope_id::ScopeId;
-use crate::data::spelling::{back, front, size_word};
+use crate::data::spelling::{back, copy_text, front, size_word};
 use crate::data::stream::Stream;
 use crate::error::{Error, NanoSecond, Result};
 
@@ -160,12 +160,22 @@ impl Stream {
             ≡ group ∷ second_byte second }
         ensures { Begins self.old self.new id start text.now result }
     {
-        self.put_front(&front(id.get(), start, group));
-        self.put_second(second);
-        self.put_text(text.as_bytes());
-        let offset = self.len();
-        self.put(&size_word(u64::MAX));
-        offset
+        let len = self.len;
+        let text = text.as_bytes();
+        let room = &mut self.block[len..];
+        room[..16].copy_from_slice(&front(id.get(), start, group));
+        let mut place = FRONT_SIZE + 1;
+        if let Some(byte) = second {
+            room[place] = byte;
+            place += 1;
+        }
+        if !text.is_empty() {
+            copy_text(&mut room[place..place + text.len()], text);
+            place += text.len();
+        }
+        room[place..place + 8].copy_from_slice(&size_word(u64::MAX));
+        self.len = len + place + 8;
+        len + place
     }
 
     /// Ends the scope whose size placeholder is at `offset`: overwrites the placeholder with the number of bytes after it, and
@@ -198,8 +208,10 @@ impl Stream {
         ensures form { self.new.form ≡ self.old.form }
         ensures room { self.old.room ≤ self.new.room + END_SIZE }
     {
-        let size = self.len() - (offset + 8);
-        self.overwrite(offset, &size_word(size as u64));
-        self.put(&back(stop_ns));
+        let len = self.len;
+        let block = &mut self.block[..];
+        block[offset..offset + 8].copy_from_slice(&size_word((len - (offset + 8)) as u64));
+        block[len..len + END_SIZE].copy_from_slice(&back(stop_ns));
+        self.len = len + END_SIZE;
     }
 }
