@@ -193,7 +193,7 @@ impl<C: NsSource, P: Reporter> Thread<C, P> {
     {
         let _ = self.report_closed();
         match self.profiler.begin_scope(place.id(), text) {
-            Ok(offset) => GuardState::On(offset),
+            Ok(at) => GuardState::On(at),
             Err(e) => self.refuse(e),
         }
     }
