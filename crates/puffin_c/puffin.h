@@ -326,7 +326,8 @@ uint32_t puffin_snapshot(PuffinProfiler *profiler);
 /* Sets how many recent and how many slow frames the view keeps at most. This takes effect when the next frame is added. */
 uint32_t puffin_set_limits(PuffinProfiler *profiler, size_t recent, size_t slow);
 /* Sets how many bytes of scopes may wait for the next frame, of all threads together. puffin_report and puffin_user_scopes fail with
- * PUFFIN_MEMORY where there would be more; what waits stays. At first there is no such limit. */
+ * PUFFIN_MEMORY where there would be more; while nothing waits, they take scopes of any size. What waits stays. At first there is
+ * no such limit. */
 uint32_t puffin_set_max_pending(PuffinProfiler *profiler, uint64_t bytes);
 /* Drops all frames of the view, recent and slow, and keeps its limits. What waits for the next frame stays. */
 uint32_t puffin_view_clear(PuffinProfiler *profiler);
@@ -339,7 +340,8 @@ uint32_t puffin_merge_view(PuffinProfiler *profiler, size_t frames, bool has_sta
                            size_t name_size, PuffinMerged *merged, size_t room, uint8_t *texts, size_t texts_room,
                            PuffinLists *sizes);
 
-/* Makes a .puffin file in memory from the view's frames, and sets *size to its size in bytes. */
+/* Makes a .puffin file in memory from the view's frames, and sets *size to its size in bytes. Its first frame lists every scope
+ * that the view knows. */
 PUFFIN_RESULT_
 uint32_t puffin_file_begin(PuffinProfiler *profiler, uint64_t *size);
 /* Copies that file's next bytes to the front of out, as many as fit, and sets *size to how many were copied: 0 at the end. */

@@ -78,7 +78,10 @@ fn main(rt: HostRuntime) -> Result<()> {
         picture: Picture::new(&mut scopes)?,
         write: place!(scopes, "write")?,
         meeting: Barrier::new(names.len() + 1),
-        writer: Mutex::new(FrameWriter::new(rt.alloc(), Counted::new(File::create(&rt, out.as_str())?))?),
+        writer: Mutex::new(FrameWriter::new(
+            rt.alloc(),
+            Counted::new(File::create(&rt, out.as_str())?),
+        )?),
     };
     let outcome = profiled(rt, &names, &scopes, &Settings::default(), &studio)?;
     println!(rt; "steps {}", studio.picture.steps.load(Ordering::Relaxed))?;

@@ -2,6 +2,7 @@
 pub mod Times
 pub mod Adding
 pub mod Opened
+pub mod Reported
 pub mod Showing
 pub mod Steps
 pub mod Running

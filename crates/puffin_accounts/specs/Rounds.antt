@@ -41,7 +41,7 @@ module _ {C R : Type 0} (answers : C → ℤ → C → Type 0) (seen : R → Col
   -- the calls of a round were made: those of its code, and then the frame call
   pub record MakesRound (round : Round) (old new : Thread C R) : Type 0 where
     pub ran : Thread C R
-    pub runs : Runs (BeginsAt answers) (EndsIn answers accepts refuses) round.code old ran
+    pub runs : Runs (BeginsAt answers accepts refuses) (EndsIn answers accepts refuses) round.code old ran
     pub took : Collects (seen (reporter_of ran)) round.frame (seen (reporter_of new))
     pub thread : new ≡ with_reporter ran (reporter_of new)
 

@@ -42,7 +42,8 @@ module _ {C R : Type 0} (answers : C → ℤ → C → Type 0) (seen : R → Col
     (refuses : R → ThreadKey → List Details → StreamFacts → Error → R → Type 0) where
   -- what each call's contract says of the thread before and after
   abbrev pub Does : Call → Thread C R → Thread C R → Type 0
-  Does (begins place text state) old new = BeginsAt answers old place text state new
+  Does (begins place text state) old new =
+      BeginsAt answers accepts refuses old place text state new
   Does (ends offset) old new = EndsIn answers accepts refuses old offset new
   Does (reports result) old new =
       Reports accepts refuses (thread_of (profiler_of old)) (thread_of (profiler_of new))

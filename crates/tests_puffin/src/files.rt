@@ -43,7 +43,8 @@ fn last_of_two<R: AllocGlobal + Clock + Wait + Abort + Copy + Drop>(rt: R) -> Fr
             profile!(_step, thread, step);
         }
         let frame = thread.new_frame(&rt).expect(&rt, "a frame");
-        view.add_frame(frame.expect(&rt, "scopes")).expect(&rt, "a frame");
+        view.add_frame(frame.expect(&rt, "scopes"))
+            .expect(&rt, "a frame");
     }
     view
 }
@@ -68,7 +69,11 @@ fn a_saved_file_keeps_its_permissions_and_what_stands_beside_it(rt: HostRuntime)
     fs::set_permissions(&rt, name, readonly).expect(&rt, "permissions");
     save(&rt, name, &FrameView::new(rt.alloc())).expect(&rt, "a saved view");
     let saved = fs::metadata(&rt, name).expect(&rt, "a file");
-    equal(&rt, (saved.len(), saved.permissions().readonly()), (4, true));
+    equal(
+        &rt,
+        (saved.len(), saved.permissions().readonly()),
+        (4, true),
+    );
     let beside = fs::read_to_string(&rt, "kept.puffin.part").expect(&rt, "a file");
     equal(&rt, beside.as_str() == "mine", true);
     fs::remove_file(&rt, name).expect(&rt, "a file");

@@ -6,6 +6,7 @@ use puffin::global_profiler::{Collector, GlobalProfiler};
 use puffin::light::{
     Frames, Outcome, Place, Program, Records, Scopes, Settings, Thread, ThreadCounts, profiled,
 };
+use puffin::thread_profiler::NsSource;
 use puffin::{Error, place, profile};
 use std::alloc::Global;
 use std::io;
@@ -86,6 +87,38 @@ fn a_scope_above_a_thread_s_limit_is_counted(rt: HostRuntime) {
     three_deep(&mut thread, step);
     equal(&rt, thread.num_refused(), 1);
     equal(&rt, thread.reporter().totals().reported, 2);
+}
+
+/// Opens so many scopes, one after the other, and takes a frame. Returns how many scopes it has, how many wait, and how many were
+/// refused so far.
+fn round<C: NsSource>(
+    rt: &(impl Wait + Abort),
+    thread: &mut Thread<C, GlobalProfiler>,
+    step: Place,
+    times: usize,
+) -> (usize, usize, u64) {
+    for _ in 0..times {
+        profile!(_step, thread, step);
+    }
+    let frame = thread.new_frame(rt).expect(rt, "a frame");
+    let scopes = frame.map_or(0, |frame| frame.meta().num_scopes);
+    (scopes, thread.num_closed(), thread.num_refused())
+}
+
+#[test]
+fn a_thread_that_has_met_a_limit_records_again(rt: HostRuntime) {
+    let (scopes, step) = registered(rt.alloc()).expect(&rt, "a place");
+    let mut thread = Thread::start(rt, "main", GlobalProfiler::new(rt.alloc()), &scopes).expect(
+        &rt, "a thread",
+    );
+    thread.set_max_bytes(20 * 31);
+    thread.reporter().set_max_pending(100);
+    // Three are pending, 15 wait, and the others are refused.
+    equal(&rt, round(&rt, &mut thread, step, 100), (3, 15, 82));
+    // What waits is reported before the scope begins, which then waits itself.
+    equal(&rt, round(&rt, &mut thread, step, 1), (15, 1, 82));
+    equal(&rt, round(&rt, &mut thread, step, 1), (2, 0, 82));
+    equal(&rt, thread.num_open(), 0);
 }
 
 /// A thread that begins a thousand scopes, one after the other, and a leader that takes no frame.

@@ -67,7 +67,7 @@ impl GlobalProfiler {
     }
 
     /// Sets how many bytes of scopes may wait for the next frame, as [`Collector::set_max_pending`] does. Reports above it are
-    /// refused with `Memory`. At first there is no such limit.
+    /// refused with `Memory`, unless nothing waits. At first there is no such limit.
     pub fn set_max_pending(&mut self, bytes: usize)
         requires boxed_sinks { ⊤ }
         ensures collected { collected_of self.new ≡ collected_of self.old }

@@ -153,7 +153,12 @@ where
     /// [`Rounds::goes_on`](crate::light::Rounds::goes_on) returns.
     pub fn write_taken(&mut self, taken: &Result<Emitted>) -> bool {
         match taken {
-            Ok(Emitted { frame: Some(frame), .. }) => self.write(frame),
+            Ok(
+                Emitted {
+                    frame: Some(frame),
+                    ..
+                },
+            ) => self.write(frame),
             _ => self.failure.is_none(),
         }
     }

@@ -14,9 +14,12 @@ use crate::profile_view::FrameView;
 ///
 /// With `max_recent` and `max_slow` at 0 the view keeps no frame. The leader still gets each frame that it takes.
 ///
-/// A scope above `max_thread_bytes` doesn't begin, and is counted in [`ThreadCounts::refused`](crate::light::ThreadCounts::refused). A report above
-/// `max_pending_bytes` is refused: its scopes stay with their thread and go into its next report, or are counted in
-/// [`ThreadCounts::unreported`](crate::light::ThreadCounts::unreported) at its end. With both limits, a run whose leader takes no frame doesn't use up the memory.
+/// A scope above `max_thread_bytes` doesn't begin, and is counted in
+/// [`ThreadCounts::refused`](crate::light::ThreadCounts::refused). A report above `max_pending_bytes` is refused, unless nothing
+/// waits for the next frame: its scopes stay with their thread and go into its next report, or are counted in
+/// [`ThreadCounts::unreported`](crate::light::ThreadCounts::unreported) at its end. A thread that has no room for an outermost
+/// scope reports what it holds and tries once more, so after a frame it records again. With both limits, a run whose leader takes
+/// no frame doesn't use up the memory.
 #[derive(Clone, Copy, Debug, PartialEq, Eq)]
 pub struct Settings {
     /// The name under which the leader's scopes are recorded.

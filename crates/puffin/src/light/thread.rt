@@ -141,7 +141,8 @@ impl<C: NsSource, P: Reporter> Thread<C, P> {
     }
 
     /// Sets how many bytes of scopes the thread may hold, as [`ThreadProfiler::set_max_bytes`] does. A scope above it doesn't
-    /// begin, and is counted in [`Thread::num_refused`]. At first there is no such limit.
+    /// begin, and is counted in [`Thread::num_refused`]; if no other scope is open, what waits is reported first, and the scope is
+    /// tried once more. At first there is no such limit.
     pub fn set_max_bytes(&mut self, bytes: usize)
         ensures { self.new ≡ self.old }
     {
@@ -192,7 +193,7 @@ impl<C: NsSource, P: Reporter> Thread<C, P> {
     {
         let _ = self.report_closed();
         match self.profiler.begin_scope(place.id(), text) {
-            Ok(offset) => GuardState::On(offset),
+            Ok(at) => GuardState::On(at),
             Err(e) => self.refuse(e),
         }
     }

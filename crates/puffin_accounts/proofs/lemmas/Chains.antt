@@ -19,7 +19,7 @@ module _ {C R : Type 0} (answers : C → ℤ → C → Type 0) (seen : R → Col
   left None old new last same later = subst (λ t. Made t last) same later
   left (Some offset) old new last ended later = (ends offset ∷ later.0, (new, ended, later.1))
 
-  pub calls_of_code : (code : Code) (old new last : Thread C R) → Runs (BeginsAt answers) (EndsIn answers accepts refuses) code old new → Made new last → Made old last
+  pub calls_of_code : (code : Code) (old new last : Thread C R) → Runs (BeginsAt answers accepts refuses) (EndsIn answers accepts refuses) code old new → Made new last → Made old last
   calls_of_code nothing old new last same later = subst (λ t. Made t last) same later
   calls_of_code (scope place text within after) old new last (state, begun, inner, ended, began, inside, leaves, rest) later =
       let behind = calls_of_code after ended new last rest later in

@@ -33,7 +33,7 @@ use Rattle.puffin.specs.declared.light.thread.Thread.{Thread}
 use Rattle.puffin.specs.declared.light.place.Place.{Place}
 use Rattle.puffin.specs.LightThread.{profiler_of, reporter_of, scopes_of}
 use Rattle.puffin.specs.Places.{num_known}
-use Rattle.puffin.specs.Guards.{BeginsAt, EndsIn, Leaves}
+use Rattle.puffin.specs.Guards.{BeginsThere, EndsIn, Leaves}
 use Rattle.puffin_accounts.specs.Moments.{Moment, moment_by, num_open, key_at, Sees}
 use Rattle.puffin_accounts.specs.Times.{Timed}
 use Rattle.puffin_accounts.specs.Adding.{SpellsEvents, AddsScopes, AddsScope}
@@ -168,7 +168,7 @@ module _ {C R : Type 0} (answers : C → ℤ → C → Type 0) (seen : R → Col
   bare a b c d f profiler reporter scopes body left = subst (λ m. AddsScopes answers m (moment_by seen d) f) (same_moment a b profiler reporter scopes) (subst (λ t. AddsScopes answers (moment_by seen b) (moment_by seen t) f) (sym left) body)
 
   -- A guard was opened at a place, code ran within it, and it was dropped.
-  pub adds_scope : (a b c d : Thread C R) (place : Place) (text : List ℕ) (state : GuardState) (f : Forest) → BeginsAt answers a place text state b → AddsScopes answers (moment_by seen b) (moment_by seen c) f → Leaves (EndsIn answers accepts refuses) (offset_in state) c d → AddsScope answers (moment_by seen a) (moment_by seen d) place text state f
+  pub adds_scope : (a b c d : Thread C R) (place : Place) (text : List ℕ) (state : GuardState) (f : Forest) → BeginsThere answers a place text state b → AddsScopes answers (moment_by seen b) (moment_by seen c) f → Leaves (EndsIn answers accepts refuses) (offset_in state) c d → AddsScope answers (moment_by seen a) (moment_by seen d) place text state f
   adds_scope a b c d place text Off f begins body left = record { start = pos 0; stop = pos 0; adds = bare a b c d f begins.begins begins.reporter begins.scopes body left }
   adds_scope a b c d place text (Refused e) f begins body left = record { start = pos 0; stop = pos 0; adds = bare a b c d f begins.begins.0 begins.reporter begins.scopes body left }
   adds_scope a b c d place text (On offset) f begins body left =

@@ -249,7 +249,7 @@ module _ {C R : Type 0} (answers : C → ℤ → C → Type 0) (seen : R → Col
 module _ {C R : Type 0} (answers : C → ℤ → C → Type 0) (seen : R → Collected) (accepts : R → ThreadKey → List Details → StreamFacts → R → Type 0) (refuses : R → ThreadKey → List Details → StreamFacts → Error → R → Type 0) (sees : Sees seen accepts refuses) where
   round_shows : (round : Round) (old new : Thread C R) (waited : Forest) → Rests (moment_by seen old) waited → MakesRound answers seen accepts refuses round old new → ShowedOne answers (moment_by seen old) (moment_by seen new) waited round
   round_shows round old new waited rests run =
-      let code = adds_code answers seen accepts refuses sees round.code old run.ran run.runs in
+      let code = adds_code answers seen accepts refuses sees round.code old run.ran (λ none. (rests.is_due.unstarted none).1) run.runs in
       let later = seen (reporter_of new) in
       let r = moment_by seen run.ran in
       let n : Moment C = record r { collected = later } in
@@ -307,10 +307,10 @@ starts_new {C} {name = name} {clock = clock} {details = details} {told = told} t
 module _ {C I : Type 0} {F : I → Type 0} {answers : C → ℤ → C → Type 0} where
   -- code ran, and a frame was taken
   pub runs_round : {code made : Code} {frame : Option (Arc FrameData Global)} {old new : Thread C (GlobalProfiler I F)} (ran : Thread C (GlobalProfiler I F))
-      → made ≡ code → Runs (BeginsAt answers) (EndsIn answers AcceptsThere RefusesThere) made old ran
+      → made ≡ code → Runs (BeginsAt answers AcceptsThere RefusesThere) (EndsIn answers AcceptsThere RefusesThere) made old ran
       → Collects (collected_of (reporter_of ran)) frame (collected_of (reporter_of new)) → new ≡ with_reporter ran (reporter_of new)
       → RunsRound answers (record { code = code; frame = frame }) old new
-  runs_round {old = old} ran same runs took thread = record { ran = ran; runs = subst (λ c. Runs (BeginsAt answers) (EndsIn answers AcceptsThere RefusesThere) c old ran) same runs; took = took; thread = thread }
+  runs_round {old = old} ran same runs took thread = record { ran = ran; runs = subst (λ c. Runs (BeginsAt answers AcceptsThere RefusesThere) (EndsIn answers AcceptsThere RefusesThere) c old ran) same runs; took = took; thread = thread }
 
   -- one more round, whose frame was added to those that were taken
   pub runs_more : (round_of : Option (Arc FrameData Global) → Round) (frames : List (Option (Arc FrameData Global))) {all : List (Option (Arc FrameData Global))} {frame : Option (Arc FrameData Global)} (old mid new : Thread C (GlobalProfiler I F))

@@ -36,6 +36,7 @@ use Rattle.puffin.specs.declared.light.thread.Thread.{Thread}
 use Rattle.puffin.specs.declared.light.place.Place.{Place}
 use Rattle.puffin.specs.LightThread.{profiler_of, reporter_of, scopes_of}
 use Rattle.puffin.specs.Places.{num_known}
+use Rattle.puffin.specs.Guards.{BeginsThere}
 use Rattle.puffin_accounts.specs.Moments.{Moment, moment_by, Sees, key_at}
 use Rattle.puffin_accounts.specs.Times.{Timed}
 use Rattle.puffin_accounts.specs.Adding.{SpellsEvents}
@@ -189,10 +190,10 @@ module _ {C R : Type 0} (answers : C → ℤ → C → Type 0) (seen : R → Col
   unchanged : (call : Call) → profiler_of b ≡ profiler_of a → reporter_of b ≡ reporter_of a → scopes_of b ≡ scopes_of a → Marks was.known was.thread.form call [] → AllZip (ShowsOf was.thread.name) (frames_in (call ∷ [])) [] → Stepped answers was due call now
   unchanged call profiler reporter scopes = still_step answers was now due call (ap clock_of profiler) (ap thread_of profiler) (ap num_known scopes) (ap (λ r. (seen r).streams) reporter) h
 
-  begin_step : (place : Place) (text : List ℕ) (state : GuardState) → Does answers seen accepts refuses (begins place text state) a b → Stepped answers was due (begins place text state) now
-  begin_step place text Off d = unchanged (begins place text Off) d.begins d.reporter d.scopes refl tt
-  begin_step place text (Refused e) d = unchanged (begins place text (Refused e)) d.begins.0 d.reporter d.scopes (d.begins.1, refl) tt
-  begin_step place text (On offset) d =
+  begin_there : (place : Place) (text : List ℕ) (state : GuardState) → BeginsThere answers a place text state b → Stepped answers was due (begins place text state) now
+  begin_there place text Off d = unchanged (begins place text Off) d.begins d.reporter d.scopes refl tt
+  begin_there place text (Refused e) d = unchanged (begins place text (Refused e)) d.begins.0 d.reporter d.scopes (d.begins.1, refl) tt
+  begin_there place text (On offset) d =
       let g = d.begins.1 in
       quiet_step answers was now due (Open place.id (cut_text was.thread.form text) (time_of was.thread g.at) ∷ [])
       (timed_open answers was now place.id (cut_text was.thread.form text) g.at g.answered g.never_negative g.begun (ap num_known d.scopes))
@@ -289,11 +290,33 @@ module _ {C R : Type 0} (answers : C → ℤ → C → Type 0) (seen : R → Col
             kept = ap (λ (w : List Event). w ++ now.thread.word) (append-nil (tour e.2.forest) ∙ e.2.toured) ∙ ap (λ p. due ++ (thread_of p).word) d.2 ∙ sym (append-nil (due ++ was.thread.word));
           }
 
-  step : (call : Call) → Does answers seen accepts refuses call a b → Stepped answers was due call now
+  -- a scope was begun after what waits was reported, or not
+  behind : (place : Place) (text : List ℕ) (state : GuardState) (result : Result Bool Error) (c : Thread C R) → (s : Stepped answers was due (reports result) now) → Stepped answers now s.now_due (begins place text state) (moment_by seen c) → Stepped answers was due (begins place text state) (moment_by seen c)
+  behind place text state result c s t = record {
+    events = t.events;
+    marked = subst (λ (form : Form). Marks was.known form (begins place text state) t.events) s.timed.form (subst (λ (k : ℕ). Marks k now.thread.form (begins place text state) t.events) s.timed.known t.marked);
+    timed = subst (λ (w : List Event). Timed answers was (moment_by seen c) (w ++ t.events)) s.marked (timed_both answers was now (moment_by seen c) s.events t.events s.timed t.timed);
+    shown = s.shown ++ t.shown;
+    frames = zip_both (ShowsOf was.thread.name) [] s.shown [] t.shown s.frames (subst (λ (name : List ℕ). AllZip (ShowsOf name) [] t.shown) s.timed.name t.frames);
+    now_due = t.now_due;
+    is_due = t.is_due;
+    kept = ap (λ (w : List Event). w ++ (t.now_due ++ (moment_by seen c).thread.word)) (tours_both s.shown t.shown)
+        ∙ all_kept (tours s.shown) (tours t.shown) due was.thread.word s.now_due now.thread.word s.events (t.now_due ++ (moment_by seen c).thread.word) t.events s.kept t.kept
+        ∙ ap (λ (w : List Event). (due ++ was.thread.word) ++ (w ++ t.events)) s.marked;
+  }
+
+module _ {C R : Type 0} (answers : C → ℤ → C → Type 0) (seen : R → Collected) (accepts : R → ThreadKey → List Details → StreamFacts → R → Type 0) (refuses : R → ThreadKey → List Details → StreamFacts → Error → R → Type 0) (sees : Sees seen accepts refuses) (a b : Thread C R) (due : List Event) (h : IsDue (moment_by seen a) due) where
+  begin_step : (place : Place) (text : List ℕ) (state : GuardState) → Does answers seen accepts refuses (begins place text state) a b → Stepped answers (moment_by seen a) due (begins place text state) (moment_by seen b)
+  begin_step place text state (ready, inl same, there) = begin_there answers seen accepts refuses sees a b due h place text state (subst (λ t. BeginsThere answers t place text state b) same there)
+  begin_step place text state (ready, inr room, there) =
+      let s = report_step answers seen accepts refuses sees a ready due h room.answer (room.reports, room.clock, room.scopes) in
+      behind answers seen accepts refuses sees a ready due h place text state room.answer b s (begin_there answers seen accepts refuses sees ready b s.now_due s.is_due place text state there)
+
+  step : (call : Call) → Does answers seen accepts refuses call a b → Stepped answers (moment_by seen a) due call (moment_by seen b)
   step (begins place text state) d = begin_step place text state d
-  step (ends offset) d = end_step offset d
-  step (reports result) d = report_step result d
-  step (frame result) d = frame_step result d
+  step (ends offset) d = end_step answers seen accepts refuses sees a b due h offset d
+  step (reports result) d = report_step answers seen accepts refuses sees a b due h result d
+  step (frame result) d = frame_step answers seen accepts refuses sees a b due h result d
 
 -- any list of calls accounts for what it records
 pub accounts : {C R : Type 0} (answers : C → ℤ → C → Type 0) (accepts : R → ThreadKey → List Details → StreamFacts → R → Type 0) (refuses : R → ThreadKey → List Details → StreamFacts → Error → R → Type 0) → CallsAccount answers accepts refuses
