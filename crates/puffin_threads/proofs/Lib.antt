@@ -1,5 +1,6 @@
 pub mod lemmas
 mod RecordedScopes
+mod FirstStarts
 mod ThreadStates
 mod Inserting
 mod InsertingAll

@@ -18,7 +18,9 @@ use Rattle.puffin_data.proofs.lemmas.WordMeasures.{num_begun-append, num_begun-t
 use Rattle.puffin_data.proofs.lemmas.Opening.{begins, begins-word, finishes, finishes-word, ended-written, open_size, size_within}
 use Rattle.puffin_threads.specs.Thread.Events.{events_in}
 use Rattle.puffin_threads.specs.inner.StoredThread.{scopes_closed, scopes_with, scopes_in, size_places, StartedBy, HoldsScopes}
+use Rattle.puffin_threads.specs.inner.FirstStart.{first_open, start_in}
 use Rattle.puffin_threads.specs.Thread.Calls.{opened_after, open_offsets, num_ended}
+use Rattle.puffin_threads.proofs.FirstStarts.{open_start}
 use Rattle.puffin_threads.proofs.lemmas.Events.{events_open, events_of_none}
 
 num_ended-append : (u v : List Event) → num_ended (u ++ v) ≡ num_ended u + num_ended v
@@ -216,6 +218,12 @@ module _ (form : Form) where
       let opened = (scopes_in (events_in form bytes)).0 in
       let closed = (scopes_in (events_in form bytes)).1 in
       ap length h.whole ∙ open_size form opened closed ∙ ap (word_size form) (sym (word_is bytes latest opened closed (parts bytes latest h)))
+
+  pub start_held : (bytes : List ℕ) (latest : ℤ) → HoldsScopes form bytes latest → start_in bytes ≡ first_open (events_in form bytes)
+  start_held bytes latest h =
+      let opened = (scopes_in (events_in form bytes)).0 in
+      let closed = (scopes_in (events_in form bytes)).1 in
+      ap start_in h.whole ∙ open_start form latest opened closed h.opened h.closed ∙ ap first_open (sym (word_is bytes latest opened closed (parts bytes latest h)))
 
   -- without an open scope the bytes spell a forest whose tour is the word
   pub record Closes (bytes : List ℕ) (f : Forest) : Type 0 where

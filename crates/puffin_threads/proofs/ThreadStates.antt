@@ -1,6 +1,6 @@
 -- What a recording's fields say of its thread, and what calls make of them.
-use Rattle.std.proofs.Common.{◌≡◌, ◌==◌, ◌≤◌, ◌<◌, ℕ, ◌+◌, ◌-◌, ◌*◌, ◌^◌, max, ℤ, pos, ◌≤ℤ◌, FitsSigned, w64, List, [], ◌∷◌, ◌++◌, length, reverse, drop, get_or, Some, None, string_bytes, refl, sym, ap, subst, ◌∙◌, arith, true, false, slice_get}
-use Rattle.std.specs.Int.{int_min, int_max}
+use Rattle.std.proofs.Common.{◌≡◌, ◌≢◌, ◌==◌, ◌≤◌, ◌<◌, ℕ, ◌+◌, ◌-◌, ◌*◌, ◌^◌, max, ℤ, pos, ◌≤ℤ◌, FitsSigned, w64, List, [], ◌∷◌, ◌++◌, Option, length, reverse, drop, get_or, Some, None, string_bytes, refl, sym, ap, subst, ◌∙◌, arith, true, false, slice_get}
+use Rattle.std.specs.Option.{option_or}
 use Rattle.std.specs.List.{All}
 use Rattle.std.proofs.lemmas.Int.{ints}
 use Rattle.std.proofs.lemmas.List.{length-append, length-reverse, reverse-append, get_or-reverse}
@@ -14,16 +14,18 @@ use Rattle.puffin_data.specs.Forest.Open.{ended_bytes}
 use Rattle.puffin_data.specs.Text.Lengths.{text_room}
 use Rattle.puffin_data.proofs.lemmas.Lengths.{room_least}
 use Rattle.puffin_data.specs.Forest.Spelling.{begin_bytes, size_offset}
-use Rattle.puffin_data.specs.Forest.Tour.{Event, Open, Close}
+use Rattle.puffin_data.specs.Forest.Tour.{Event, Open, Close, tour}
 use Rattle.puffin_data.specs.Forest.Words.{word_size, num_begun, open_after, most_open, least_open, greatest_close}
-use Rattle.puffin_data.proofs.lemmas.WordMeasures.{num_begun-append, most_open-opened, most_open-closed, least_open-opened, least_open-kept, greatest_close-closed, greatest_close-kept, length-begin, num_begun-tour, most_open-tour, least_open-tour, greatest_close-tour}
+use Rattle.puffin_data.proofs.lemmas.WordMeasures.{num_begun-append, most_open-opened, most_open-closed, length-begin, num_begun-tour, most_open-tour, least_open-tour, greatest_close-tour}
 use Rattle.puffin_threads.specs.declared.thread_profiler.thread_state.ThreadState.TheInside.{Inside}
 use Rattle.puffin_threads.specs.Thread.Closing.{IsReportOf}
 use Rattle.puffin_threads.specs.Thread.Events.{events_in}
-use Rattle.puffin_threads.specs.inner.StoredThread.{IsThreadState, IsThreadStateIn, HoldsScopes, Counted, scopes_in, spare_name, thread_in}
+use Rattle.puffin_threads.specs.inner.StoredThread.{IsThreadState, IsThreadStateIn, HoldsScopes, Counted, IsInOrder, scopes_in, spare_name, thread_in}
 use Rattle.puffin_threads.specs.Thread.Calls.{Thread, open_offsets, num_ended}
 use Rattle.puffin_threads.proofs.lemmas.Events.{events_of_none}
-use Rattle.puffin_threads.proofs.RecordedScopes.{Goes, held, begun_held, length-open_offsets, size_held, begins_held, ends_held, place_held, closed_held, nothing_held, offsets_opened, offsets_closed}
+use Rattle.puffin_threads.specs.inner.FirstStart.{first_open, start_in, range_until, completed}
+use Rattle.puffin_threads.proofs.FirstStarts.{or_again, none_in_order, opened_in_order, closed_in_order, ended_range}
+use Rattle.puffin_threads.proofs.RecordedScopes.{start_held, Goes, held, begun_held, length-open_offsets, size_held, begins_held, ends_held, place_held, closed_held, nothing_held, offsets_opened, offsets_closed}
 
 pub same_thread : (a b : Thread) → a.name ≡ b.name → a.form ≡ b.form → a.first_start ≡ b.first_start → a.latest ≡ b.latest → a.word ≡ b.word → a.details ≡ b.details → a ≡ b
 same_thread a b e1 ef e2 e3 e4 e5 = λ i. record { name = e1 i; form = ef i; first_start = e2 i; latest = e3 i; word = e4 i; details = e5 i }
@@ -75,8 +77,7 @@ counted_none : (info : StreamInfo) (w : List Event) → IsHonest info empty → 
 counted_none info w h e = record {
   num_scopes = h.counts.num_scopes ∙ ap num_begun (sym e);
   depth = h.counts.depth ∙ ap (most_open 0) (sym e);
-  least = h.counts.least_start ∙ ap least_open (sym e);
-  greatest = h.counts.greatest_stop ∙ ap greatest_close (sym e);
+  range = λ _ i. (h.counts.least_start i, h.counts.greatest_stop i);
 }
 
 pub none_in : (info : StreamInfo) → IsHonest info empty → events_in info.stream.form info.stream.bytes ≡ []
@@ -89,11 +90,16 @@ cleared_in r low h none spare =
       latest = low;
       scopes = ∣ nothing_held r.info.stream.form r.info.stream.bytes r.latest h.stream.whole ∣₁;
       counted = counted_none r.info (events_in r.info.stream.form r.info.stream.bytes) h word;
+      in_order = subst (λ (w : List Event). IsInOrder w r.latest) (sym word) (none_in_order r.latest low);
       offsets = ap reverse none ∙ sym (ap (open_offsets r.info.stream.form) word);
       room = omega (arith, ap length none);
       has_spare = λ _. none;
       spare = spare;
     }
+
+some_more : (w : List Event) (e : Event) → w ++ (e ∷ []) ≢ []
+some_more [] e is = cc is
+some_more (x ∷ w) e is = cc is
 
 -- a scope begins
 
@@ -110,8 +116,6 @@ pub record Begins (r next : Inside) (id : ℕ) (text : List ℕ) (at : ℤ) (off
   pub items : next.offsets.items ≡ r.offsets.items ++ (offset ∷ [])
   pub num_scopes : next.info.num_scopes ≡ r.info.num_scopes + 1
   pub depth : next.info.depth ≡ max r.info.depth (length next.offsets.items)
-  pub least : next.info.range_ns.0 ≡ int_min r.info.range_ns.0 at
-  pub greatest : next.info.range_ns.1 ≡ r.info.range_ns.1
   pub latest : next.latest ≡ at
   pub room : 9 * length next.offsets.items ≤ next.info.stream.room
   pub spare : spare_name next ≡ Some (string_bytes next.name)
@@ -146,9 +150,9 @@ begun_in r next id text at offset h b =
       counted = record {
         num_scopes = omega (arith, b.num_scopes, h.counted.num_scopes, num_begun-append w (Open id text at ∷ []), ap num_begun goes.word);
         depth = omega (arith, b.depth, h.counted.depth, deep, most_open-opened w id text at, ap (most_open 0) goes.word);
-        least = b.least ∙ ap (λ (t : ℤ). int_min t at) h.counted.least ∙ sym (least_open-opened w id text at b.fits) ∙ ap least_open (sym goes.word);
-        greatest = b.greatest ∙ h.counted.greatest ∙ sym (greatest_close-kept w id text at) ∙ ap greatest_close (sym goes.word);
+        range = λ none. absurd (some_more w (Open id text at) (sym goes.word ∙ none));
       };
+      in_order = subst (λ (v : List Event). IsInOrder v next.latest) (sym goes.word) (subst (λ (t : ℤ). IsInOrder more t) (sym b.latest) (opened_in_order w r.latest at id text b.later b.fits (λ none. absurd (omega (arith, none, length-open_offsets r.info.stream.form more, ap length (offsets_opened r.info.stream.form w id text at)))) h.in_order));
       offsets = ap reverse b.items ∙ reverse-append r.offsets.items (offset ∷ []) ∙ ap (λ (ns : List ℕ). offset ∷ ns) h.offsets
           ∙ ap (λ (n : ℕ). n ∷ open_offsets r.info.stream.form w) (offset_in r id text at offset h next.info.stream.bytes b.bytes b.offset_is) ∙ sym (offsets_opened r.info.stream.form w id text at) ∙ ap (open_offsets r.info.stream.form) (sym goes.word);
       room = b.room;
@@ -175,8 +179,6 @@ pub record Ends (r next : Inside) (at : ℤ) (offset : ℕ) : Type 0 where
   pub bytes : next.info.stream.bytes ≡ ended_bytes r.info.stream.bytes offset at
   pub num_scopes : next.info.num_scopes ≡ r.info.num_scopes
   pub depth : next.info.depth ≡ r.info.depth
-  pub least : next.info.range_ns.0 ≡ r.info.range_ns.0
-  pub greatest : next.info.range_ns.1 ≡ int_max r.info.range_ns.1 at
   pub latest : next.latest ≡ at
   pub room : r.info.stream.room ≤ next.info.stream.room + 9
   pub has_spare : spare_name next ≡ None → next.offsets.items ≡ []
@@ -205,9 +207,9 @@ ended_in r next at offset h e =
       counted = record {
         num_scopes = omega (arith, e.num_scopes, h.counted.num_scopes, num_begun-append w (Close at ∷ []), ap num_begun goes.word);
         depth = omega (arith, e.depth, h.counted.depth, most_open-closed w at, ap (most_open 0) goes.word);
-        least = e.least ∙ h.counted.least ∙ sym (least_open-kept w at) ∙ ap least_open (sym goes.word);
-        greatest = e.greatest ∙ ap (λ (t : ℤ). int_max t at) h.counted.greatest ∙ sym (greatest_close-closed w at e.fits) ∙ ap greatest_close (sym goes.word);
+        range = λ none. absurd (some_more w (Close at) (sym goes.word ∙ none));
       };
+      in_order = subst (λ (v : List Event). IsInOrder v next.latest) (sym goes.word) (subst (λ (t : ℤ). IsInOrder (w ++ (Close at ∷ [])) t) (sym e.latest) (closed_in_order w r.latest at e.later e.fits h.in_order));
       offsets = ap (drop 1) (sym (offsets_last r h next.offsets.items offset e.items)) ∙ sym (offsets_closed r.info.stream.form w at) ∙ ap (open_offsets r.info.stream.form) (sym goes.word);
       room = omega (arith, h.room, e.room, ap length e.items, length-append next.offsets.items (offset ∷ []));
       has_spare = e.has_spare;
@@ -216,11 +218,22 @@ ended_in r next at offset h e =
 
 -- all scopes are closed
 
-pub report_in : (r : Inside) → IsThreadState r → open_after 0 (events_in r.info.stream.form r.info.stream.bytes) ≡ 0 → IsReportOf (thread_in r) (facts_of r.info)
-report_in r h none =
+pub first_in : (r : Inside) → IsThreadState r → option_or r.first_start (start_in r.info.stream.bytes) ≡ (thread_in r).first_start
+first_in r h = ap (option_or r.first_start) (start_held r.info.stream.form r.info.stream.bytes r.latest (holds_in r h))
+
+pub told_first : (r : Inside) → IsThreadState r → option_or (option_or r.first_start (start_in r.info.stream.bytes)) (first_open (events_in r.info.stream.form r.info.stream.bytes)) ≡ (thread_in r).first_start
+told_first r h =
+    let word = events_in r.info.stream.form r.info.stream.bytes in
+    ap (λ (x : Option ℤ). option_or x (first_open word)) (first_in r h) ∙ or_again r.first_start (first_open word)
+
+pub report_in : (r : Inside) (info : StreamInfo) → IsThreadState r → open_after 0 (events_in r.info.stream.form r.info.stream.bytes) ≡ 0 → info ≡ completed r.info r.latest → IsReportOf (thread_in r) (facts_of info)
+report_in r info h none is =
     let closed = closed_held r.info.stream.form r.info.stream.bytes r.latest (holds_in r h) none in
     let f = (scopes_in (events_in r.info.stream.form r.info.stream.bytes)).1 in
-    record {
+    let range : range_until (start_in r.info.stream.bytes) r.latest r.info.range_ns ≡ (least_open (tour f), greatest_close (tour f)) =
+    ap (λ (o : Option ℤ). range_until o r.latest r.info.range_ns) (start_held r.info.stream.form r.info.stream.bytes r.latest (holds_in r h) ∙ ap first_open closed.word)
+    ∙ ended_range f r.latest r.info.range_ns (subst (λ (w : List Event). IsInOrder w r.latest) closed.word h.in_order) (sym (ap (open_after 0) closed.word) ∙ none) (λ e. h.counted.range (closed.word ∙ e)) in
+    subst (λ (i : StreamInfo). IsReportOf (thread_in r) (facts_of i)) (sym is) (record {
       forest = f;
       form = refl;
       word = closed.word;
@@ -229,8 +242,26 @@ report_in r h none =
         counts = record {
           num_scopes = h.counted.num_scopes ∙ ap num_begun closed.word ∙ num_begun-tour f;
           depth = omega (arith, h.counted.depth, ap (most_open 0) closed.word, most_open-tour 0 f);
-          least_start = h.counted.least ∙ ap least_open closed.word ∙ least_open-tour f;
-          greatest_stop = h.counted.greatest ∙ ap greatest_close closed.word ∙ greatest_close-tour f;
+          least_start = ap (λ (p : ℤ × ℤ). p.0) range ∙ least_open-tour f;
+          greatest_stop = ap (λ (p : ℤ × ℤ). p.1) range ∙ greatest_close-tour f;
         };
       };
-    }
+    })
+
+pub completed_in : (r : Inside) (info : StreamInfo) (first : Option ℤ) → IsThreadState r → info ≡ completed r.info r.latest → IsThreadState (record r { info = info; first_start = first })
+completed_in r info first h is =
+    let start = start_held r.info.stream.form r.info.stream.bytes r.latest (holds_in r h) in
+    subst (λ (i : StreamInfo). IsThreadState (record r { info = i; first_start = first })) (sym is) (record {
+      latest = h.latest;
+      scopes = h.scopes;
+      counted = record {
+        num_scopes = h.counted.num_scopes;
+        depth = h.counted.depth;
+        range = λ e. ap (λ (o : Option ℤ). range_until o r.latest r.info.range_ns) (start ∙ ap first_open e) ∙ h.counted.range e;
+      };
+      in_order = h.in_order;
+      offsets = h.offsets;
+      room = h.room;
+      has_spare = h.has_spare;
+      spare = h.spare;
+    })

@@ -1,3 +1,4 @@
 -- What only private functions and proofs cite.
 pub mod StoredThread
 pub mod HeldCollection
+pub mod FirstStart

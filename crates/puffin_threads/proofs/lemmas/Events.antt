@@ -1,5 +1,5 @@
 -- The bytes of a stream with open scopes spell the events of its word.
-use Rattle.std.proofs.Common.{◌≡◌, ◌≢◌, ℕ, zero, suc, ◌+◌, ◌-◌, ◌^◌, ◌<◌, ◌≤◌, ◌==◌, List, [], ◌∷◌, ◌++◌, length, get_or, slice_index, take, drop, refl, sym, ap, ◌∙◌, arith, append_assoc, w64, ℤ, FitsSigned, Bool, true, false, eqb, Result, Ok}
+use Rattle.std.proofs.Common.{◌≡◌, ◌≢◌, ℕ, zero, suc, ◌+◌, ◌-◌, ◌^◌, ◌<◌, ◌≤◌, ◌==◌, List, [], ◌∷◌, ◌++◌, length, get_or, slice_index, take, drop, refl, sym, ap, ◌∙◌, arith, append_assoc, w64, ℤ, FitsSigned, Bool, true, false, eqb, nat_lt, if◌then◌else◌, Option, Some, Result, Ok}
 use Rattle.std.specs.Int.{cast_signed, cast_unsigned}
 use Rattle.std.proofs.lemmas.Int.{to_z-of_z}
 use Rattle.std.proofs.lemmas.List.{length-append, take_at, drop_at, drop-drop, get_or-drop}
@@ -19,6 +19,7 @@ use Rattle.puffin_data.proofs.lemmas.Lengths.{length_again}
 use Rattle.puffin_data.specs.declared.error.Error.{Error}
 use Rattle.puffin_threads.specs.Thread.Events.{open_in, events_from, events_in}
 use Rattle.puffin_threads.specs.inner.StoredThread.{StartedBy}
+use Rattle.puffin_threads.specs.inner.FirstStart.{start_in}
 
 test_eq : (a b : ℕ) → a ≡ b → eqb a b ≡ true
 test_eq a b h = grind arith
@@ -51,19 +52,23 @@ second : (b : Bool) (x y : List Event) → b ≡ false → (elim b [ true ↦ x 
 second true x y e = cc
 second false x y e = refl
 
+unless : (b : Bool) (x y : Option ℤ) → b ≡ false → (if b then x else y) ≡ y
+unless true x y e = cc
+unless false x y e = refl
+
 same_open : (id id' : ℕ) (start start' : ℤ) (text text' : List ℕ) → id ≡ id' → start ≡ start' → text ≡ text' → Open id text start ≡ Open id' text' start'
 same_open id id' start start' text text' e1 e2 e3 = cc
 
 regroup : (id start len text size more : List ℕ) → (40 ∷ (id ++ (start ++ ((len ++ text) ++ size)))) ++ more ≡ 40 ∷ (id ++ (start ++ (len ++ (text ++ (size ++ more)))))
 regroup id start len text size more = simp append_assoc
 
-regroup_node : (begin inner end others more : List ℕ) → (begin ++ (inner ++ (end ++ others))) ++ more ≡ begin ++ (inner ++ (end ++ (others ++ more)))
+pub regroup_node : (begin inner end others more : List ℕ) → (begin ++ (inner ++ (end ++ others))) ++ more ≡ begin ++ (inner ++ (end ++ (others ++ more)))
 regroup_node begin inner end others more = simp append_assoc
 
 regroup_tour : (inner others rest : List Event) (e : Event) → inner ++ (e ∷ (others ++ rest)) ≡ (inner ++ (e ∷ others)) ++ rest
 regroup_tour inner others rest e = simp append_assoc
 
-regroup_opened : (outer before begin more : List ℕ) → (outer ++ (before ++ begin)) ++ more ≡ outer ++ (before ++ (begin ++ more))
+pub regroup_opened : (outer before begin more : List ℕ) → (outer ++ (before ++ begin)) ++ more ≡ outer ++ (before ++ (begin ++ more))
 regroup_opened outer before begin more = simp append_assoc
 
 regroup_word : (outer before rest : List Event) (e : Event) → outer ++ (before ++ (e ∷ rest)) ≡ (outer ++ (before ++ (e ∷ []))) ++ rest
@@ -73,7 +78,7 @@ append_nil : (w : List Event) → w ++ [] ≡ w
 append_nil [] = refl
 append_nil (e ∷ w) = ap (λ (x : List Event). e ∷ x) (append_nil w)
 
-append_none : (bytes : List ℕ) → bytes ++ [] ≡ bytes
+pub append_none : (bytes : List ℕ) → bytes ++ [] ≡ bytes
 append_none [] = refl
 append_none (b ∷ bytes) = ap (λ (x : List ℕ). b ∷ x) (append_none bytes)
 
@@ -111,6 +116,17 @@ module _ (form : Form) where
             ∙ ap (λ (x : Event). x ∷ events_from form n (drop (child_begin_in form region) region)) event
             ∙ ap (λ (xs : List ℕ). Open id text start ∷ events_from form n xs) rest;
       }
+
+  -- the start at the front of a scope's beginning
+  pub start_there : (id size : ℕ) (start : ℤ) (text more region : List ℕ) → FitsSigned w64 start → region ≡ begin_bytes form id start text size ++ more → start_in region ≡ Some start
+  unfolding begin_bytes
+  start_there id size start text more region fits e =
+      let len = length_layout form (length text) in
+      let d0 = e ∙ regroup (little_bytes 4 id) (time_bytes start) len text (little_bytes 8 size) more in
+      let d1 = follows 0 1 1 (40 ∷ []) _ region d0 refl refl in
+      let d5 = follows 1 4 5 (little_bytes 4 id) _ region d1 (length-bytes_low_first 0 4 id) refl in
+      let long : 13 ≤ length region = omega (arith, ap length d0, length-append (little_bytes 4 id) (time_bytes start ++ (len ++ (text ++ (little_bytes 8 size ++ more)))), length-append (time_bytes start) (len ++ (text ++ (little_bytes 8 size ++ more))), length-bytes_low_first 0 4 id, length-bytes_low_first 0 8 (cast_unsigned w64 start)) in
+      unless (nat_lt (length region) 13) _ _ (grind (arith, long)) ∙ ap Some (time_there 5 start _ region fits d5)
 
   closes : (stop : ℤ) (more region : List ℕ) → FitsSigned w64 stop → region ≡ end_bytes stop ++ more → Fronts region (Close stop) more
   unfolding events_from end_bytes

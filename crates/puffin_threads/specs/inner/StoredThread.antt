@@ -1,17 +1,18 @@
 -- How a thread stores its scopes, and the invariant of its state.
-use Rattle.std.specs.Prelude.{◌≡◌, ℕ, ◌*◌, ◌≤◌, ℤ, pos, ◌≤ℤ◌, List, [], ◌∷◌, length, reverse, fold, Option, Some, None, string_bytes}
-use Rattle.std.specs.Option.{option_map}
+use Rattle.std.specs.Prelude.{◌≡◌, ◌≢◌, ℕ, ◌*◌, ◌≤◌, ℤ, pos, ◌≤ℤ◌, List, [], ◌∷◌, length, reverse, fold, Option, Some, None, string_bytes}
+use Rattle.std.specs.Option.{option_map, option_or, IfSome}
 use Rattle.puffin_data.specs.declared.data.form.Form.{Form}
 use Rattle.puffin_data.specs.Forest.Spelling.{end_size}
 use Rattle.puffin_data.specs.declared.data.info.StreamInfo.{StreamInfo}
 use Rattle.puffin_data.specs.Forest.{Forest, IsForest, empty}
 use Rattle.puffin_data.specs.Forest.Tour.{Event, Open, Close}
 use Rattle.puffin_data.specs.Forest.Open.{Opened, IsOpened, open_spelling, size_place, with_ended}
-use Rattle.puffin_data.specs.Forest.Words.{num_begun, most_open, least_open, greatest_close}
+use Rattle.puffin_data.specs.Forest.Words.{num_begun, open_after, most_open, least_open, greatest_close}
 use Rattle.puffin_threads.specs.declared.thread_profiler.thread_state.ThreadState.TheInside.{Inside}
 use Rattle.puffin_threads.specs.Details.{details_seen}
 use Rattle.puffin_threads.specs.Thread.Events.{events_in}
 use Rattle.puffin_threads.specs.Thread.Calls.{Thread, open_offsets}
+use Rattle.puffin_threads.specs.inner.FirstStart.{first_open}
 
 -- the open scopes of a word, the innermost first, and the closed siblings of the next scope to begin
 abbrev pub scopes_closed : List Opened → Forest → ℤ → List Opened × Forest
@@ -46,18 +47,23 @@ pub record HoldsScopes (form : Form) (bytes : List ℕ) (latest : ℤ) : Type 0 
   pub places : open_offsets form (events_in form bytes)
       ≡ size_places form (scopes_in (events_in form bytes)).0
 
--- the counts of a stream's scopes, open ones included
+-- the counts of a stream's scopes, open ones included; without scopes, also their range
 pub record Counted (info : StreamInfo) (word : List Event) : Type 0 where
   pub num_scopes : info.num_scopes ≡ num_begun word
   pub depth : info.depth ≡ most_open 0 word
-  pub least : info.range_ns.0 ≡ least_open word
-  pub greatest : info.range_ns.1 ≡ greatest_close word
+  pub range : word ≡ [] → info.range_ns ≡ (least_open [], greatest_close [])
+
+-- The times of a word never fall: its first start is the least one, and once all scopes have ended its latest time is the greatest stop.
+pub record IsInOrder (word : List Event) (latest : ℤ) : Type 0 where
+  pub least : IfSome (first_open word) (λ start. (least_open word ≡ start) × (start ≤ℤ latest))
+  pub greatest : greatest_close word ≤ℤ latest
+  pub last : open_after 0 word ≡ 0 → word ≢ [] → greatest_close word ≡ latest
 
 abbrev pub thread_in : Inside → Thread
 thread_in r = record {
   name = string_bytes r.name;
   form = r.info.stream.form;
-  first_start = r.first_start;
+  first_start = option_or r.first_start (first_open (events_in r.info.stream.form r.info.stream.bytes));
   latest = r.latest;
   word = events_in r.info.stream.form r.info.stream.bytes;
   details = details_seen r.details.items;
@@ -72,6 +78,7 @@ pub record IsThreadStateIn (form : Form) (r : Inside) : Type 0 where
   pub latest : pos 0 ≤ℤ r.latest
   pub scopes : ∥ HoldsScopes form r.info.stream.bytes r.latest ∥₁
   pub counted : Counted r.info (events_in form r.info.stream.bytes)
+  pub in_order : IsInOrder (events_in form r.info.stream.bytes) r.latest
   pub offsets : reverse r.offsets.items ≡ open_offsets form (events_in form r.info.stream.bytes)
   -- each open scope can end without an allocation, and while one is open a copy of the name is ready for the report
   pub room : end_size * length r.offsets.items ≤ r.info.stream.room

@@ -1,21 +1,23 @@
 //! The records of one thread, apart from its clock.
 
 ghost use Rattle.std.specs.Prelude.{◌≡◌, ◌+◌, ◌-◌, ◌*◌, ◌^◌, ◌<◌, ◌≤◌, ◌++◌, ℤ, pos, ◌≤ℤ◌, ◌==◌, length, max, OnOk, OnErr, IfOk, IfErr, IfSome, IfNone, string_bytes, slice_get, unwrap_or, option_map, IsOkUnless};
-ghost use Rattle.std.specs.Int.{int_min};
 ghost use Rattle.std.specs.Option.{option_or};
 ghost use Rattle.puffin_data.specs.declared.error.Error.{Error};
 ghost use Rattle.puffin_data.specs.Forest.Spelling.{begin_bytes, size_offset, head_size};
 ghost use Rattle.puffin_data.specs.Text.{cut_text};
 ghost use Rattle.puffin_data.specs.Forest.Words.{word_size, open_after};
+ghost use Rattle.puffin_data.specs.Walk.Reading.{time_in};
 ghost use Rattle.puffin_threads.specs.Thread.Calls.{new_thread, after_begin, after_end, after_handing, RegistersScope, offsets_of, num_ended};
 ghost use Rattle.puffin_threads.specs.Thread.Closing.{GoesTo};
 ghost use Rattle.puffin_threads.specs.Thread.Discarding.{after_discarding};
 ghost use Rattle.puffin_threads.specs.Details.{details_of};
+ghost use Rattle.puffin_threads.specs.inner.FirstStart.{start_in, completed};
 
 use crate::scope_details::{ScopeDetails, ScopeIds};
 use crate::thread_profiler::clock::NsSource;
 use crate::thread_profiler::reporter::Reporter;
 use crate::thread_profiler::thread_info::ThreadInfo;
+use byteorder::{ByteOrder, LittleEndian};
 use puffin_data::data::{END_SIZE, Form, ScopeId, Stream, StreamInfo};
 use puffin_data::{Error, NanoSecond, Result};
 use std::alloc::Global;
@@ -28,6 +30,7 @@ pub struct ThreadState {
     // A copy of the name for the next report. It is made when a scope begins, so that ending one allocates nothing.
     spare: Option<String>,
     info: StreamInfo,
+    // The start of the first scope, once it was reported or discarded.
     first_start: Option<NanoSecond>,
     latest: NanoSecond,
     // The offsets of the open scopes' sizes, the innermost last.
@@ -105,12 +108,33 @@ fn raise(number: &mut usize, to: usize)
     *number = (*number).max(to);
 }
 
-/// Lowers `time` to `to` if it is greater. Always writes it, so that there is no branch.
-#[inline(always)]
-fn lower(time: &mut NanoSecond, to: NanoSecond)
-    ensures { time.new ≡ int_min time.old to }
+/// Reads the start of the scope at the front of the bytes.
+fn read_start(bytes: &[u8]) -> NanoSecond
+    requires { 13 ≤ length bytes.now }
+    ensures { result ≡ time_in bytes.now 5 }
 {
-    *time = (*time).min(to);
+    LittleEndian::read_i64(&bytes[5..])
+}
+
+/// Returns the start of the scope at the front of the bytes, if there is one.
+fn start_of(bytes: &[u8]) -> Option<NanoSecond>
+    ensures { result ≡ start_in bytes.now }
+{
+    if bytes.len() < 13 {
+        return None;
+    }
+    Some(read_start(bytes))
+}
+
+/// Completes what is known of scopes once all have ended: the first start, and the range, since times never fall.
+fn complete(info: &mut StreamInfo, first: &mut Option<NanoSecond>, latest: NanoSecond)
+    ensures info { info.new ≡ completed info.old latest }
+    ensures first { first.new ≡ option_or first.old (start_in info.old.stream.bytes) }
+{
+    if let Some(start) = start_of(info.stream.bytes()) {
+        keep_first(first, start);
+        info.range_ns = (start, latest);
+    }
 }
 
 /// Returns the number of bytes that the ends of the open scopes and of one more take.
@@ -220,11 +244,9 @@ impl ThreadState {
         let at = self.latest.max(clock.now_ns());
         let offset = write_begin(&mut self.info.stream, at, id, text);
         self.offsets.push_reserved(offset);
-        keep_first(&mut self.first_start, at);
         self.latest = at;
         self.info.num_scopes += 1;
         raise(&mut self.info.depth, self.offsets.len());
-        lower(&mut self.info.range_ns.0, at);
         Ok(offset)
     }
 
@@ -240,7 +262,6 @@ impl ThreadState {
         let at = self.latest.max(now_ns);
         self.info.stream.end_within(offset, at);
         self.latest = at;
-        self.info.range_ns.1 = self.info.range_ns.1.max(at);
         if self.offsets.is_empty() {
             self.spare.take()
         } else {
@@ -257,7 +278,6 @@ impl ThreadState {
         let stop = self.latest.max(now_ns);
         self.info.stream.end_within(offset, stop);
         self.latest = stop;
-        self.info.range_ns.1 = self.info.range_ns.1.max(stop);
     }
 
     /// Returns a copy of the name for a report. Fails only with `Memory`.
@@ -296,6 +316,7 @@ impl ThreadState {
             (self.new ≡ self.old)
             × GoesTo (λ b i d r a. R.refuses b i d r e a) self.old reporter.old reporter.new) }
     {
+        complete(&mut self.info, &mut self.first_start, self.latest);
         let info = ThreadInfo {
             start_time_ns: self.first_start,
             name,
@@ -311,6 +332,7 @@ impl ThreadState {
         requires { open_after 0 self.old.word ≡ 0 }
         ensures { self.new ≡ after_discarding self.old }
     {
+        complete(&mut self.info, &mut self.first_start, self.latest);
         self.info.clear();
     }
 }

@@ -1,4 +1,4 @@
-use Rattle.std.proofs.Common.{rules, ◌≡◌, ◌≤◌, ◌<◌, ◌+◌, ◌-◌, ◌^◌, ℕ, ℤ, pos, ◌≤ℤ◌, List, [], ◌∷◌, ◌++◌, length, Some, w64, FitsSigned, to_z, of_z, refl, sym, ap, subst, ◌∙◌, arith}
+use Rattle.std.proofs.Common.{rules, ◌≡◌, ◌≤◌, ◌<◌, ◌+◌, ◌-◌, ◌^◌, ℕ, ℤ, pos, ◌≤ℤ◌, List, [], ◌∷◌, ◌++◌, length, Option, Some, w64, FitsSigned, to_z, of_z, refl, sym, ap, subst, ◌∙◌, arith}
 use Rattle.std.specs.Option.{option_or}
 use Rattle.std.specs.Int.{int_max}
 use Rattle.std.proofs.lemmas.Int.{ints, to_z-of_z, clamps}
@@ -14,6 +14,8 @@ use Rattle.puffin_data.proofs.lemmas.Cuts.{cut_text-short, cut_text-bytes}
 use Rattle.puffin_data.proofs.lemmas.WordMeasures.{length-begin}
 use Rattle.puffin_threads.specs.Thread.Events.{events_in}
 use Rattle.puffin_threads.specs.Thread.Calls.{Thread, time_of}
+use Rattle.puffin_threads.specs.inner.FirstStart.{first_open}
+use Rattle.puffin_threads.proofs.FirstStarts.{opened_first}
 use Rattle.puffin_threads.proofs.ThreadStates.{begun_in, holds_in, offset_in, scopes_fit, same_thread}
 use Rattle.puffin_threads.proofs.RecordedScopes.{begins_held}
 use Rattle.puffin_threads.proofs.thread_profiler.thread_state.ThreadState.begin_scope.Goals as goal
@@ -65,8 +67,6 @@ invariant_of-self-2 g c =
       items = items;
       num_scopes = refl;
       depth = search rules;
-      least = grind (arith, ints, clamps, to_z-of_z);
-      greatest = refl;
       latest = refl;
       room = omega (arith, room, limit, c.in_ok-reserve-2.ensures.ok, c.size_of_ends-ends.ensures.size, ap length c.reserve.ensures.items, ap length c.deref.ensures.value, ap length items, length-append c.self.inside.offsets.items (c.write_begin-offset.result ∷ []));
       spare = search rules;
@@ -97,7 +97,8 @@ returns-clause-begun g c =
     let word : events_in c.write_begin-offset.new.stream.form c.write_begin-offset.new.stream.bytes ≡ now.word ++ (Open c.args.id (cut_text now.form c.args.text.now) (time_of now x) ∷ []) =
     ap (λ (y : Form). events_in y c.write_begin-offset.new.stream.bytes) form ∙ goes.word ∙ ap (λ (t : Thread). t.word ++ (Open c.args.id text at ∷ [])) c.self.view_is ∙ ap (λ (t : ℤ). now.word ++ (Open c.args.id text t ∷ [])) time
     ∙ ap (λ (y : Form). now.word ++ (Open c.args.id (cut_text y c.args.text.now) (time_of now x) ∷ [])) kept in
-    let first : c.keep_first.new.first ≡ option_or now.first_start (Some (time_of now x)) = c.keep_first.ensures ∙ ap (λ (t : Thread). option_or t.first_start (Some at)) c.self.view_is ∙ ap (λ (t : ℤ). option_or now.first_start (Some t)) time in
+    let first = opened_first inside.first_start _ now.word c.args.id (cut_text now.form c.args.text.now) (time_of now x) word
+    ∙ ap (λ (o : Option ℤ). option_or o (Some (time_of now x))) (ap (λ (t : Thread). option_or inside.first_start (first_open t.word)) (sym c.self.view_is) ∙ ap (λ (t : Thread). t.first_start) c.self.view_is) in
     (x, c.now_ns.ensures.answered, c.now_ns.ensures.never_negative, same_thread _ _ (ap (λ (t : Thread). t.name) c.self.view_is) (form ∙ kept) first time word (ap (λ (t : Thread). t.details) c.self.view_is))
 
 pub returns-clause-offset : goal.returns-clause-offset

@@ -1,5 +1,5 @@
 use Rattle.std.proofs.Common.{rules, ◌≡◌, ◌<◌, ℤ, ◌≤ℤ◌, [], ◌∷◌, ◌++◌, length, Option, Some, None, string_bytes, w64, FitsSigned, to_z, of_z, refl, sym, ap, subst, ◌∙◌, arith, option_map}
-use Rattle.std.specs.Option.{option_to_list, IfSome}
+use Rattle.std.specs.Option.{option_or, option_to_list, IfSome}
 use Rattle.std.specs.Int.{int_max}
 use Rattle.std.proofs.lemmas.Bool.Decides.{nat_tests}
 use Rattle.std.proofs.lemmas.Int.{ints, to_z-of_z, clamps}
@@ -9,6 +9,8 @@ use Rattle.puffin_data.specs.Forest.Tour.{Close}
 use Rattle.puffin_data.specs.Forest.Words.{open_after}
 use Rattle.puffin_threads.specs.Thread.Events.{events_in}
 use Rattle.puffin_threads.specs.Thread.Calls.{Thread, time_of}
+use Rattle.puffin_threads.specs.inner.FirstStart.{first_open}
+use Rattle.puffin_threads.proofs.FirstStarts.{closed_first}
 use Rattle.puffin_threads.proofs.ThreadStates.{ended_in, ended_goes, place_in, depth_in, nothing, same_thread}
 use Rattle.puffin_threads.proofs.thread_profiler.thread_state.ThreadState.close.Goals as goal
 
@@ -40,8 +42,6 @@ invariant_of-self c =
       bytes = search rules;
       num_scopes = refl;
       depth = refl;
-      least = refl;
-      greatest = grind (arith, ints, clamps, to_z-of_z);
       latest = refl;
       room = omega (arith, c.end_within.ensures.room);
       has_spare = λ _. nothing c.pop.new.self.items (grind (arith, nat_tests));
@@ -62,8 +62,6 @@ invariant_of-self-else-is_empty c =
       bytes = search rules;
       num_scopes = refl;
       depth = refl;
-      least = refl;
-      greatest = grind (arith, ints, clamps, to_z-of_z);
       latest = refl;
       room = omega (arith, c.end_within.ensures.room);
       has_spare = λ none. absurd (omega (arith, ap length (c.self.invariant.has_spare none), ap length items, length-append c.pop.new.self.items (c.unwrap-offset.result ∷ [])));
@@ -85,7 +83,7 @@ returns-then-is_empty-clause-closed c =
     let greatest : at ≡ int_max inside.latest c.args.now_ns = grind (arith, ints, clamps, to_z-of_z) in
     let time : at ≡ time_of now c.args.now_ns = greatest ∙ ap (λ (t : Thread). int_max t.latest c.args.now_ns) c.self.view_is in
     let word : events_in c.end_within.new.self.form c.end_within.new.self.bytes ≡ now.word ++ (Close (time_of now c.args.now_ns) ∷ []) = ap (λ (form : Form). events_in form c.end_within.new.self.bytes) c.end_within.ensures.form ∙ goes.word ∙ ap (λ (t : Thread). t.word ++ (Close at ∷ [])) c.self.view_is ∙ ap (λ (t : ℤ). now.word ++ (Close t ∷ [])) time in
-    same_thread _ _ (ap (λ (t : Thread). t.name) c.self.view_is) (c.end_within.ensures.form ∙ ap (λ (t : Thread). t.form) c.self.view_is) (ap (λ (t : Thread). t.first_start) c.self.view_is) time word (ap (λ (t : Thread). t.details) c.self.view_is)
+    same_thread _ _ (ap (λ (t : Thread). t.name) c.self.view_is) (c.end_within.ensures.form ∙ ap (λ (t : Thread). t.form) c.self.view_is) (closed_first inside.first_start _ now.word (time_of now c.args.now_ns) word ∙ ap (λ (t : Thread). option_or inside.first_start (first_open t.word)) (sym c.self.view_is) ∙ ap (λ (t : Thread). t.first_start) c.self.view_is) time word (ap (λ (t : Thread). t.details) c.self.view_is)
 
 -- what holds of the value, where there is one
 if_some : {S : Type 0} (o : Option S) (P : S → Type 0) → ((x : S) → o ≡ Some x → P x) → IfSome o P
@@ -117,7 +115,7 @@ returns-else-is_empty-clause-closed c =
     let greatest : at ≡ int_max inside.latest c.args.now_ns = grind (arith, ints, clamps, to_z-of_z) in
     let time : at ≡ time_of now c.args.now_ns = greatest ∙ ap (λ (t : Thread). int_max t.latest c.args.now_ns) c.self.view_is in
     let word : events_in c.end_within.new.self.form c.end_within.new.self.bytes ≡ now.word ++ (Close (time_of now c.args.now_ns) ∷ []) = ap (λ (form : Form). events_in form c.end_within.new.self.bytes) c.end_within.ensures.form ∙ goes.word ∙ ap (λ (t : Thread). t.word ++ (Close at ∷ [])) c.self.view_is ∙ ap (λ (t : ℤ). now.word ++ (Close t ∷ [])) time in
-    same_thread _ _ (ap (λ (t : Thread). t.name) c.self.view_is) (c.end_within.ensures.form ∙ ap (λ (t : Thread). t.form) c.self.view_is) (ap (λ (t : Thread). t.first_start) c.self.view_is) time word (ap (λ (t : Thread). t.details) c.self.view_is)
+    same_thread _ _ (ap (λ (t : Thread). t.name) c.self.view_is) (c.end_within.ensures.form ∙ ap (λ (t : Thread). t.form) c.self.view_is) (closed_first inside.first_start _ now.word (time_of now c.args.now_ns) word ∙ ap (λ (t : Thread). option_or inside.first_start (first_open t.word)) (sym c.self.view_is) ∙ ap (λ (t : Thread). t.first_start) c.self.view_is) time word (ap (λ (t : Thread). t.details) c.self.view_is)
 
 pub returns-else-is_empty-clause-inner : goal.returns-else-is_empty-clause-inner
 returns-else-is_empty-clause-inner c =

@@ -1,7 +1,11 @@
 use Rattle.std.proofs.Common.{◌∙◌, ap}
 use Rattle.puffin_data.specs.Forest.Words.{open_after}
 use Rattle.puffin_threads.specs.Thread.Calls.{Thread}
-use Rattle.puffin_threads.proofs.ThreadStates.{cleared_in, none_in, none_open_in, same_thread}
+use Rattle.std.specs.Option.{option_or}
+use Rattle.puffin_data.specs.declared.data.info.StreamInfo.{StreamInfo}
+use Rattle.puffin_threads.specs.inner.FirstStart.{first_open}
+use Rattle.puffin_threads.proofs.FirstStarts.{or_none}
+use Rattle.puffin_threads.proofs.ThreadStates.{first_in, cleared_in, none_in, none_open_in, same_thread}
 use Rattle.puffin_threads.proofs.thread_profiler.thread_state.ThreadState.discard.Goals as goal
 
 pub invariant_of-self : goal.invariant_of-self
@@ -12,4 +16,4 @@ invariant_of-self g =
 
 pub returns : goal.returns
 returns g =
-    same_thread _ _ (ap (λ (t : Thread). t.name) g.self.view_is) (g.clear.ensures.form ∙ ap (λ (t : Thread). t.form) g.self.view_is) (ap (λ (t : Thread). t.first_start) g.self.view_is) (ap (λ (t : Thread). t.latest) g.self.view_is) (none_in g.clear.new.self g.clear.ensures.honest) (ap (λ (t : Thread). t.details) g.self.view_is)
+    same_thread _ _ (ap (λ (t : Thread). t.name) g.self.view_is) (g.clear.ensures.form ∙ ap (λ (i : StreamInfo). i.stream.form) g.complete.ensures.info ∙ ap (λ (t : Thread). t.form) g.self.view_is) (ap (option_or g.complete.new.first) (ap first_open (none_in g.clear.new.self g.clear.ensures.honest)) ∙ or_none g.complete.new.first ∙ g.complete.ensures.first ∙ first_in g.self.inside g.self.invariant ∙ ap (λ (t : Thread). t.first_start) g.self.view_is) (ap (λ (t : Thread). t.latest) g.self.view_is) (none_in g.clear.new.self g.clear.ensures.honest) (ap (λ (t : Thread). t.details) g.self.view_is)

@@ -11,6 +11,7 @@ invariant_of-self-2 c =
       latest = h.latest;
       scopes = h.scopes;
       counted = h.counted;
+      in_order = h.in_order;
       offsets = h.offsets;
       room = h.room;
       has_spare = λ _. none_open_in c.self.inside h (ap (λ (t : Thread). open_after 0 t.word) c.self.view_is ∙ c.requires);
