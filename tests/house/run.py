@@ -5,8 +5,9 @@
 Clauses have at most 100 columns; crates cite of those below them no proofs but `lemmas`; each wrong body, and each edit that a
 runner has to notice, can be applied; each wrong body stands in docs/PROOFS.md, in italics where it is one of the long run, and
 the gate tries at most twelve of a crate; what the rows there cite is there, and leads to the functions that their wrong bodies
-change; each spec file begins with a line that says what it defines, and docs/SPECS.md has these lines as they are; each program
-has a file with what it prints; the listings of docs/C.md are parts of the programs of tests/c; links in the documents lead somewhere. The last line is 'N passed, M failed'.
+change; each spec file begins with a line that says what it defines; each program has a file with what it prints; the listings
+of docs/C.md are parts of the programs of tests/c; links in the documents lead somewhere. The last line is
+'N passed, M failed'.
 """
 
 import re
@@ -133,11 +134,6 @@ def spec_files_without_a_summary():
         yield f"{short(path)}: its first line isn't a comment of one line that says what the file defines"
 
 
-def spec_files_that_are_not_listed():
-    if not spec_files.is_current():
-        yield "docs/SPECS.md: its tables of spec files are old; run: python3 -m tests.house.spec_files --write"
-
-
 def crates_that_are_not_drawn():
     for name in drawing.without_words():
         yield f"tests/house/drawing.py: its WORDS and crates.txt differ in {name}"
@@ -184,7 +180,6 @@ RULES = (
     promises.bodies_that_are_not_there,
     promises.bodies_in_another_row,
     spec_files_without_a_summary,
-    spec_files_that_are_not_listed,
     crates_that_are_not_drawn,
     programs_without_what_they_print,
     broken_links,
