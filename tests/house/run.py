@@ -6,8 +6,8 @@ Clauses have at most 100 columns; crates cite of those below them no proofs but 
 runner has to notice, can be applied, and the gate tries at most twelve of a crate; what the rows of docs/PROOFS.md cite is there;
 each wrong body is one of a promise's, each promise has one or a reason why not, and its contract leads to the functions that its
 wrong bodies change; each spec file begins with a line that says what it defines; each program has a file with what it prints;
-the listings of docs/C.md are parts of the programs of tests/c; links in the documents lead somewhere. The last line is
-'N passed, M failed'.
+the listings of docs/C.md are parts of the programs of tests/c, and those of other pages stand in sources that they link; links
+in the documents lead somewhere. The last line is 'N passed, M failed'.
 """
 
 import re
@@ -158,6 +158,7 @@ def broken_links():
 
 RULES = (
     listings.listings_that_are_old,
+    listings.listings_that_no_source_has,
     wide_clauses,
     proofs_cited_from_above,
     edits_that_do_not_apply,
