@@ -4,6 +4,7 @@ the last line.
 Runners are modules of the package `tests`, and run at the top of the repository, as by `python3 -m tests.house.run`.
 """
 
+import functools
 import pathlib
 import shutil
 import subprocess
@@ -48,6 +49,7 @@ def crate(name, root=ROOT):
     return crates(root)[name]
 
 
+@functools.cache
 def below(name):
     """The names of the repository's own crates that a crate uses, and of those that they use."""
     own = crates()

@@ -6,7 +6,7 @@
 #include <stdio.h>
 #include <stdlib.h>
 
-/* listing: frames */
+/* listing: scopes */
 static void *room_for(uint64_t number, size_t size) {
     return calloc(number ? (size_t)number : 1, size);
 }
@@ -30,6 +30,7 @@ static uint32_t print_scopes(const uint8_t *stream, uint64_t size, bool long_tex
     free(texts);
     return fault;
 }
+/* end of listing */
 
 /* Prints the frame at an offset, and sets *next to the offset of the next one. */
 static uint32_t print_frame(const uint8_t *file, size_t size, uint64_t offset, PuffinFrame *frame, uint64_t *next) {
@@ -67,7 +68,6 @@ static uint32_t print_frames(const uint8_t *file, size_t size) {
     } while (fault == PUFFIN_OK && frame.is_some);
     return fault;
 }
-/* end of listing */
 
 static uint32_t print_threads(const uint8_t *file, size_t size) {
     PuffinLists sizes;

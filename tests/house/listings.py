@@ -1,4 +1,5 @@
-"""The listings of docs/C.md: each is a part of a program that tests/c compiles and runs.
+"""The listings of the pages: those of docs/C.md are parts of programs that tests/c compiles and runs, and those of other pages
+stand in a source that the page links, but for comments, blanks and blank lines, where something may be left out.
 
     python3 -m tests.house.listings --write
 
@@ -13,6 +14,8 @@ import textwrap
 from .. import common
 
 PAGE = common.ROOT / "docs" / "C.md"
+# The pages whose listings stand in sources that they link.
+GUIDES = "README.md", "docs/GUIDE.md", "docs/PROVE_YOUR_PROFILE.md", "docs/THREADS.md"
 LISTING = re.compile(r"^(?:<!-- (?P<file>\S+): (?P<name>\S+) -->\n)?```(?P<language>c|cpp|rust)\n(?P<text>.*?)^```$", re.M | re.S)
 LINE = r"^ *(?:/\* {} \*/|// {})\n"
 
@@ -42,6 +45,28 @@ def listings_that_are_old():
             yield f"docs/C.md: a listing is old: {it['file']}: {it['name']}; run: python3 -m tests.house.listings --write"
         elif it["file"].rsplit("/", 1)[1].partition(".")[0] not in runner:
             yield f"docs/C.md: tests/c doesn't run {it['file']}"
+
+
+def bare(text):
+    """Code without comments, blanks, and commas at the end of a list, by which formatting differs."""
+    return re.sub(r",(?=[)}\]>])", "", re.sub(r"\s", "", re.sub(r"(?m)//.*$", "", text)))
+
+
+def sources_of(page):
+    """The sources that a page links."""
+    links = re.findall(r"\]\(([^)#\s]+\.rt)\)", page.read_text())
+    return [bare(path.read_text()) for path in {(page.parent / link).resolve() for link in links} if path.is_file()]
+
+
+def listings_that_no_source_has():
+    """Each piece of a listing in Rust, up to a blank line, stands in a source that its page links."""
+    for name in GUIDES:
+        page = common.ROOT / name
+        texts = sources_of(page)
+        for listing in re.findall(r"^```rust\n(.*?)^```$", page.read_text(), re.M | re.S):
+            for piece in listing.split("\n\n"):
+                if not any(bare(piece) in text for text in texts):
+                    yield f"{name}: no source that it links has: {piece.strip().partition(chr(10))[0]}"
 
 
 def write():

@@ -1,38 +1,59 @@
-"""The rules on the tables of docs/PROOFS.md: what their rows cite is there, and each wrong body stands in a row of its own
-function.
+"""The promises of docs/PROOFS.md and the wrong bodies that show that they are kept: the house rules on both, and lists.
 
-A row is `| promise | contract | wrong bodies |`. Its contract links functions, types and definitions, as in
-[`Reader::walk`][reader], and behind a colon stand the labels of their clauses; names without a link are of the same crates.
+    python3 -m tests.house.promises           prints how many promises, wrong bodies, clauses and tests there are
+    python3 -m tests.house.promises --list    prints each promise with its wrong bodies, and each of these with its promises
+
+A row of the page's tables is `promise | contract | definition`, and begins with its name, `<a id="NAME"></a>`. Its contract links
+functions, types and traits, as in [`Reader::walk`][reader], and behind a colon stand the labels of their clauses; names without a
+link are of the same crates. tests/wrong-bodies/promises.txt names the wrong bodies of each promise, and tests/must-fail/README.md
+says what those do that tests refuse.
 """
 
 import functools
 import re
+import sys
 from dataclasses import dataclass
 
 from .. import common
 from . import sources
 
 PAGE = common.ROOT / "docs/PROOFS.md"
+TIES = common.ROOT / "tests/wrong-bodies/promises.txt"
+TESTED = common.ROOT / "tests/must-fail/README.md"
+HEAD = "promise | contract | definition"
 LINK = re.compile(r"\[([^\]]*)\]\(\.\./([^)#\s]+)\)")
 NAME = re.compile(r"`([\w:]+)`")
+DEFINED = re.compile(r"`([\w:./-]+)`")
 
 
 @dataclass(frozen=True)
 class Row:
-    """A row: its place, its contract with the targets of links, and the text on wrong bodies. `above` is the row before it in
-    the same table."""
+    """A row: its place, its name, what it promises, and its contract and definitions with the targets of links."""
 
     line: int
+    name: str
+    promise: str
     contract: str
-    bodies: str
-    above: object
+    definitions: str
 
     def links(self):
         """The files of the repository that the row links, and the names in each link."""
-        return [(common.ROOT / file, NAME.findall(text)) for text, file in LINK.findall(f"{self.contract} {self.bodies}")]
+        return [(common.ROOT / file, NAME.findall(text)) for text, file in LINK.findall(f"{self.contract} {self.definitions}")]
 
     def crates(self):
         return {sources.crate_of(path) for path, _ in self.links() if path.is_relative_to(common.ROOT / "crates")}
+
+    def place(self):
+        return f"docs/PROOFS.md:{self.line}"
+
+
+@dataclass(frozen=True)
+class Tie:
+    """What shows that a promise is kept: edits, the promises whose edits try it too, or why there is none."""
+
+    edits: tuple
+    others: tuple
+    why: str
 
 
 def with_targets(text):
@@ -43,17 +64,44 @@ def with_targets(text):
 
 @functools.cache
 def rows():
-    """The rows of the tables with three columns."""
-    found, above = [], None
+    """The rows of the tables of promises."""
+    found, is_within = [], False
     for number, line in enumerate(with_targets(PAGE.read_text()).split("\n"), 1):
-        cells = line.strip("| ").split(" | ") if line.startswith("|") else []
-        cells += [""] * (len(cells) == 2 and line.endswith("| |"))
-        if len(cells) != 3:
-            above = None
-        elif cells != ["promise", "contract", "wrong bodies"]:
-            above = Row(number, cells[1], cells[2], above)
-            found.append(above)
+        is_within = line == HEAD or is_within and bool(line)
+        if is_within and line != HEAD and not line.startswith("---"):
+            promise, contract, definitions, *_ = [*line.split(" | "), "", ""]
+            anchor = re.match(r'<a id="([\w-]+)"></a>', promise)
+            found.append(Row(number, anchor[1] if anchor else "", promise[anchor.end() if anchor else 0 :], contract, definitions))
     return tuple(found)
+
+
+@functools.cache
+def ties():
+    """What shows that each promise is kept, by the promises' names."""
+    found = {}
+    for line in TIES.read_text().split("\n"):
+        if line and not line.startswith(("#", " ")):
+            found[line] = listed = []
+        elif line.strip() and not line.startswith("#"):
+            listed.append(line.strip())
+    return {name: tie(lines) for name, lines in found.items()}
+
+
+def tie(lines):
+    edits = [it for it in lines if not it.startswith(("as ", "none: "))]
+    others = [it.removeprefix("as ") for it in lines if it.startswith("as ")]
+    return Tie(tuple(edits), tuple(others), "".join(it for it in lines if it.startswith("none: ")))
+
+
+@functools.cache
+def tested():
+    """What each wrong body of tests/must-fail does, by the tables of its README: rows of it and the names of edits."""
+    found = {}
+    for line in TESTED.read_text().split("\n"):
+        cells = line.strip("| ").split(" | ")
+        if line.startswith("| ") and len(cells) == 2:
+            found |= {name: cells[0] for name in re.findall(r"`([a-z0-9_]+)`", cells[1])}
+    return found
 
 
 @functools.cache
@@ -61,6 +109,10 @@ def edits():
     """The wrong bodies of crates and of tests, by their names."""
     found = [*common.ROOT.glob("crates/*/must-fail/*.edit"), *common.ROOT.glob("crates/*/wrong/*.edit")]
     return {it.stem: it for it in [*found, *common.ROOT.glob("tests/must-fail/*.edit")]}
+
+
+def is_of_crate(path):
+    return path.is_relative_to(common.ROOT / "crates")
 
 
 def all_of(owner, pieces):
@@ -79,11 +131,6 @@ def named(name, pieces):
     if name == "laws":
         return list(pieces)
     return all_of(last, pieces) or [it for it in pieces if it.has_clause(last)]
-
-
-def without_definitions(contract):
-    """The contract without what stands in brackets, which are definitions."""
-    return re.sub(r"(?<!\])\((?:[^()]|\([^()]*\))*\)", "", contract)
 
 
 def plain(text):
@@ -109,7 +156,7 @@ def cited(row, text):
 
 def parts(row):
     """The parts of a row's contract: what each cites, and the text with its labels."""
-    for part in without_definitions(row.contract).split("; "):
+    for part in row.contract.split("; "):
         heads, _, labels = part.partition(": ")
         yield cited(row, heads), labels
 
@@ -118,8 +165,16 @@ def rows_without_a_contract():
     if not rows():
         yield "docs/PROOFS.md: it has no rows"
     for row in rows():
-        if not any(path.is_relative_to(common.ROOT / "crates") for _, file in LINK.findall(row.contract) for path in [common.ROOT / file]):
-            yield f"docs/PROOFS.md:{row.line}: the contract has no link"
+        if not any(is_of_crate(common.ROOT / file) for _, file in LINK.findall(row.contract)):
+            yield f"{row.place()}: the contract has no link"
+
+
+def rows_without_a_name():
+    """Each row has a name, and no two have the same."""
+    names = [row.name for row in rows()]
+    for row in rows():
+        if not row.name or names.count(row.name) > 1:
+            yield f"{row.place()}: no name of its own: {row.promise:.60}"
 
 
 def contracts_that_are_not_there():
@@ -128,12 +183,31 @@ def contracts_that_are_not_there():
         for heads, _ in parts(row):
             for (name, file), pieces in heads.items():
                 if not pieces:
-                    yield f"docs/PROOFS.md:{row.line}: no {name} in {file or ' or '.join(sorted(row.crates()))}"
+                    yield f"{row.place()}: no {name} in {file or ' or '.join(sorted(row.crates()))}"
         for path, names in row.links():
             text = path.read_text() if path.suffix == ".antt" and path.is_file() else None
             for name in names:
-                if text is not None and not re.search(rf"(?<![\w-]){re.escape(name.split('::')[-1])}(?![\w-])", text):
-                    yield f"docs/PROOFS.md:{row.line}: no {name} in {path.relative_to(common.ROOT)}"
+                if text is not None and not is_in(name.split("::")[-1], text):
+                    yield f"{row.place()}: no {name} in {path.relative_to(common.ROOT)}"
+
+
+def is_in(name, text):
+    return re.search(rf"(?<![\w-]){re.escape(name)}(?![\w-])", text)
+
+
+@functools.cache
+def text_of_specs(crate):
+    """All spec files that a crate's contracts can cite: its own, and those of the crates below."""
+    found = [path for name in [crate, *sorted(common.below(crate))] for path in (common.crate(name).folder() / "specs").rglob("*.antt")]
+    return "\n".join(path.read_text() for path in found)
+
+
+def definitions_that_are_not_there():
+    """A name in the column of definitions stands in a spec file of the row's crates, or of those below."""
+    for row in rows():
+        for name in DEFINED.findall(LINK.sub("", row.definitions)):
+            if not any(is_in(name.split(".")[-1], text_of_specs(crate)) for crate in row.crates()):
+                yield f"{row.place()}: no definition {name} for {' or '.join(sorted(row.crates()))}"
 
 
 def has_clause(piece, label, heads):
@@ -149,24 +223,54 @@ def clauses_that_are_not_there():
             pieces = [it for found in heads.values() for it in found]
             for label in re.findall(r"`([a-z0-9_]+)`", LINK.sub("", labels)):
                 if not any(has_clause(it, label, heads) for it in pieces):
-                    yield f"docs/PROOFS.md:{row.line}: no clause {label} of {', '.join(name for name, _ in heads)}"
+                    yield f"{row.place()}: no clause {label} of {', '.join(name for name, _ in heads)}"
             for label, function in re.findall(r"`([a-z0-9_]+)` of `([a-z0-9_]+)`", labels):
                 if not any(it.name == function and it.has_clause(label) for it in pieces):
-                    yield f"docs/PROOFS.md:{row.line}: no clause {label} of {function}"
+                    yield f"{row.place()}: no clause {label} of {function}"
 
 
 def bodies_that_are_not_there():
-    """A name in a column of wrong bodies is that of an edit, or of a function or a clause."""
+    """What promises.txt and the README of tests/must-fail name is an edit."""
     if not edits():
         yield "there are no wrong bodies"
-    pieces = pieces_of_crates(common.crates())
-    tables = [(row.line, row.bodies) for row in rows()]
-    page = PAGE.read_text().split("### Bodies that tests refuse")[-1].partition("\n## ")[0]
-    tables += [("tests", line.split(" | ")[-1]) for line in page.split("\n") if line.startswith("| ")]
-    for place, bodies in tables:
-        for name in re.findall(r"`([a-z0-9_]+)`", bodies):
-            if name not in edits() and not any(it.name == name or it.has_clause(name) for it in pieces):
-                yield f"docs/PROOFS.md:{place}: no wrong body {name}"
+    for name in (it for tie in ties().values() for it in tie.edits):
+        if name not in edits():
+            yield f"tests/wrong-bodies/promises.txt: no wrong body {name}"
+    for name in tested():
+        if name not in edits() or is_of_crate(edits()[name]):
+            yield f"tests/must-fail/README.md: no wrong body {name}"
+
+
+def edits_without_a_promise():
+    """Each wrong body of a crate is one of a promise's, and of each that tests refuse the README says what it does."""
+    of_promises = {it for tie in ties().values() for it in tie.edits}
+    for name, path in edits().items():
+        if is_of_crate(path) and name not in of_promises:
+            yield f"{path.relative_to(common.ROOT)}: tests/wrong-bodies/promises.txt has no promise with it"
+        if not is_of_crate(path) and name not in tested():
+            yield f"{path.relative_to(common.ROOT)}: tests/must-fail/README.md doesn't name it"
+
+
+def is_of_laws(row):
+    """Whether a row's contract is of laws alone, which have no code."""
+    found = [piece for heads, _ in parts(row) for pieces in heads.values() for piece in pieces]
+    return all(piece.path.name == "laws.rt" for piece in found)
+
+
+def promises_without_a_wrong_body():
+    """Each promise but those of laws alone has an edit, is tried by those of another, or has a reason why not."""
+    names = {row.name: row for row in rows()}
+    for name in ties():
+        if name not in names:
+            yield f"tests/wrong-bodies/promises.txt: no promise {name}"
+    for name, tie in ties().items():
+        for other in tie.others:
+            if other not in ties() or not ties()[other].edits:
+                yield f"tests/wrong-bodies/promises.txt: {name}: no edits of a promise {other}"
+    for name, row in names.items():
+        tie = ties().get(name)
+        if not is_of_laws(row) and not (tie and (tie.edits or tie.others or tie.why)):
+            yield f"{row.place()}: no wrong body of {name}, and no reason why not"
 
 
 @functools.cache
@@ -189,23 +293,55 @@ def changed_by(path):
 
 @functools.cache
 def reached(row):
-    """What the functions that a row cites may call, or the text on its wrong bodies; with what the rows above reach, where it
-    cites these."""
-    bodies = NAME.sub(lambda it: "" if it[1] in edits() else it[0], row.bodies)
-    heads = [*(heads for heads, _ in parts(row)), cited(row, bodies)]
-    found = sources.reached([it for found in heads for pieces in found.values() for it in pieces])
-    if "the rows above" in row.contract:
-        while row.above:
-            row = row.above
-            found |= reached(row)
-    return found
+    """What the functions that a row cites may call."""
+    return sources.reached([it for heads, _ in parts(row) for pieces in heads.values() for it in pieces])
 
 
-def bodies_in_another_row():
-    """A wrong body changes a function that is cited in its row, or one that such a function may call, as far as names tell."""
+def bodies_of_another_promise():
+    """A wrong body changes a function that its promise's contract cites, or one that such a function may call, as far as names
+    tell."""
     for row in rows():
-        for name in re.findall(r"`([a-z0-9_]+)`", row.bodies):
+        for name in ties()[row.name].edits if row.name in ties() else ():
             path = edits().get(name)
-            if path and path.is_relative_to(common.ROOT / "crates") and not changed_by(path) & reached(row):
-                changed = sorted({it.name for it in changed_by(path)})
-                yield f"docs/PROOFS.md:{row.line}: {name} changes {', '.join(changed)}, which no contract of its row leads to"
+            if path and is_of_crate(path) and not changed_by(path) & reached(row):
+                changed = ", ".join(sorted({it.name for it in changed_by(path)}))
+                yield f"tests/wrong-bodies/promises.txt: {row.name}: {name} changes {changed}, to which its contract doesn't lead"
+
+
+def text_alone(promise):
+    """A promise without the targets of its links."""
+    return re.sub(r"\[([^\]]*)\]\([^)]*\)", r"\1", promise)
+
+
+def print_lists():
+    for row in rows():
+        tie = ties().get(row.name, Tie((), (), "none: it is a law"))
+        print(f"{row.name}: {text_alone(row.promise)}")
+        for it in [*tie.edits, *(f"as {other}" for other in tie.others), *([tie.why] if tie.why else [])]:
+            print(f"    {it}")
+    print()
+    for name, path in edits().items():
+        promises = [it for it, tie in ties().items() if name in tie.edits]
+        print(f"{path.relative_to(common.ROOT)}: {', '.join(promises) or tested().get(name, 'NO PROMISE')}")
+
+
+def print_numbers():
+    def number(pattern, words):
+        texts = [path.read_text() for path in common.ROOT.glob("crates/*/src/**/*.rt")]
+        print(f"{sum(len(re.findall(pattern, text, re.M)) for text in texts)} {words}")
+
+    print(f"{len(rows())} promises")
+    for folder in ("crates/*/must-fail", "crates/*/wrong", "tests/must-fail"):
+        print(f"{len(list(common.ROOT.glob(f'{folder}/*.edit')))} wrong bodies in {folder}")
+    number(r"^ *ensures", "clauses")
+    number(r"#\[test\]", "tests")
+    print(f"{len(list(common.ROOT.glob('tests/cli/cases/*')))} cases of the command line")
+
+
+if __name__ == "__main__":
+    if sys.argv[1:] == ["--list"]:
+        print_lists()
+    elif sys.argv[1:]:
+        sys.exit(__doc__)
+    else:
+        print_numbers()

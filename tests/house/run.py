@@ -3,10 +3,11 @@
     python3 -m tests.house.run
 
 Clauses have at most 100 columns; crates cite of those below them no proofs but `lemmas`; each wrong body, and each edit that a
-runner has to notice, can be applied; each wrong body stands in docs/PROOFS.md, in italics where it is one of the long run, and
-the gate tries at most twelve of a crate; what the rows there cite is there, and leads to the functions that their wrong bodies
-change; each spec file begins with a line that says what it defines, and docs/SPECS.md has these lines as they are; each program
-has a file with what it prints; the listings of docs/C.md are parts of the programs of tests/c; links in the documents lead somewhere. The last line is 'N passed, M failed'.
+runner has to notice, can be applied, and the gate tries at most twelve of a crate; what the rows of docs/PROOFS.md cite is there;
+each wrong body is one of a promise's, each promise has one or a reason why not, and its contract leads to the functions that its
+wrong bodies change; each spec file begins with a line that says what it defines; each program has a file with what it prints;
+the listings of docs/C.md are parts of the programs of tests/c, and those of other pages stand in sources that they link; links
+in the documents lead somewhere. The last line is 'N passed, M failed'.
 """
 
 import re
@@ -110,17 +111,6 @@ def edits_that_do_not_apply():
             yield f"{short(path)}: {fault}"
 
 
-def edits_without_a_promise():
-    """Names in italics are of the long run."""
-    text = (TOP / "docs/PROOFS.md").read_text()
-    of_long_run = set(re.findall(r"\*`([a-z0-9_]+)`\*", text))
-    of_gate = set(re.findall(r"(?<!\*)`([a-z0-9_]+)`(?!\*)", text))
-    for path in edits():
-        here, there = (of_long_run, of_gate) if path.parent.name == "wrong" else (of_gate, of_long_run)
-        if path.stem not in here or path.stem in there:
-            yield f"{short(path)}: docs/PROOFS.md doesn't name it, or not as one of its tier"
-
-
 def crates_with_too_many_edits():
     for folder in sorted(TOP.glob("crates/*/must-fail")):
         number = len(list(folder.glob("*.edit")))
@@ -131,11 +121,6 @@ def crates_with_too_many_edits():
 def spec_files_without_a_summary():
     for path in spec_files.without_summary():
         yield f"{short(path)}: its first line isn't a comment of one line that says what the file defines"
-
-
-def spec_files_that_are_not_listed():
-    if not spec_files.is_current():
-        yield "docs/SPECS.md: its tables of spec files are old; run: python3 -m tests.house.spec_files --write"
 
 
 def crates_that_are_not_drawn():
@@ -173,18 +158,21 @@ def broken_links():
 
 RULES = (
     listings.listings_that_are_old,
+    listings.listings_that_no_source_has,
     wide_clauses,
     proofs_cited_from_above,
     edits_that_do_not_apply,
-    edits_without_a_promise,
     crates_with_too_many_edits,
     promises.rows_without_a_contract,
+    promises.rows_without_a_name,
     promises.contracts_that_are_not_there,
     promises.clauses_that_are_not_there,
+    promises.definitions_that_are_not_there,
     promises.bodies_that_are_not_there,
-    promises.bodies_in_another_row,
+    promises.edits_without_a_promise,
+    promises.promises_without_a_wrong_body,
+    promises.bodies_of_another_promise,
     spec_files_without_a_summary,
-    spec_files_that_are_not_listed,
     crates_that_are_not_drawn,
     programs_without_what_they_print,
     broken_links,

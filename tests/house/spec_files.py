@@ -1,7 +1,6 @@
-"""Prints the tables of docs/SPECS.md that list the spec files, made from the first line of each file.
+"""Prints the spec files of each crate, or of the crates that are named, each with what it defines.
 
-    python3 -m tests.house.spec_files            prints the tables
-    python3 -m tests.house.spec_files --write    writes them into docs/SPECS.md, between the two markers
+    python3 -m tests.house.spec_files [CRATE..]
 
 The first line of a spec file is a comment that says what the file defines. Left out are `Lib.antt`, which only lists a
 crate's folders, and files that define nothing themselves, as the pages of some folders.
@@ -13,9 +12,6 @@ import sys
 from .. import common
 
 TOP = common.ROOT
-PAGE = TOP / "docs/SPECS.md"
-BEGIN = "<!-- made by tests/house/spec_files.py --write -->"
-END = "<!-- the end of what spec_files.py made -->"
 DEFINITION = re.compile(r"^ *(?:abbrev |unfoldable )?pub (?!mod |use )", re.M)
 
 
@@ -36,40 +32,11 @@ def without_summary():
     return [path for crate in common.crates() for path in spec_files(crate) if not summary(path)]
 
 
-def tables():
-    """The tables, a heading and a table for each crate that defines something."""
-    made = []
-    for crate in common.crates():
-        rows = []
+def main():
+    for crate in sys.argv[1:] or common.crates():
         for path in spec_files(crate):
             if DEFINITION.search(path.read_text()):
-                name = path.relative_to(TOP / "crates" / crate / "specs").with_suffix("").as_posix()
-                rows.append(f"| [{name}](../{path.relative_to(TOP).as_posix()}) | {summary(path)} |")
-        if rows:
-            made += [f"### `{crate}`", "", "| file | defines |", "|---|---|", *rows, ""]
-    return "\n".join(made)
-
-
-def written(page):
-    """The page with the tables between its markers."""
-    before, begin, rest = page.partition(BEGIN)
-    _, end, after = rest.partition(END)
-    if not begin or not end:
-        sys.exit(f"{PAGE.relative_to(TOP)} has no markers")
-    return f"{before}{BEGIN}\n\n{tables()}\n{END}{after}"
-
-
-def is_current():
-    return written(PAGE.read_text()) == PAGE.read_text()
-
-
-def main():
-    if sys.argv[1:] == ["--write"]:
-        PAGE.write_text(written(PAGE.read_text()))
-    elif sys.argv[1:]:
-        sys.exit(__doc__)
-    else:
-        print(tables())
+                print(f"{path.relative_to(TOP)}: {summary(path)}")
 
 
 if __name__ == "__main__":
