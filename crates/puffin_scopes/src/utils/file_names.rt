@@ -40,7 +40,11 @@ fn parts(alloc: Global, path: &str) -> Result<Vec<&str>>
         map (λ part. part.now) parts.items ≡ slice_split (λ b. b == 47) path.now) }
     ensures err { IsOkUnless result Error.Memory }
 {
-    Ok(path.split('/').collect(alloc)?)
+    let mut parts = Vec::with_capacity(alloc, 16)?;
+    for part in path.split('/') {
+        parts.push(part)?;
+    }
+    Ok(parts)
 }
 
 /// Returns the position of the last part that is `src`.
