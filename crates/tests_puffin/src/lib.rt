@@ -6,6 +6,8 @@ mod calls;
 #[cfg(test)]
 mod details;
 #[cfg(test)]
+mod ends;
+#[cfg(test)]
 mod equal;
 #[cfg(test)]
 mod global_profiler;
