@@ -5,14 +5,15 @@ use puffin::light::{Frames, Place, Pool, Records, Scopes, Settings, pooled, save
 use puffin::{place, profile};
 use std::alloc::Global;
 use std::io;
+use std::sync::Wait;
 use std::sync::atomic::{AtomicU64, AtomicUsize, Ordering};
-use std::sync::{Barrier, Wait};
+use std::time::Duration;
 
 const THREADS: usize = 4;
 
 const REQUESTS: u64 = 100;
 
-/// The places of the program, the number of requests that were taken, and where all threads and the leader meet in the end.
+/// The places of the program, and the number of requests that were taken.
 #[derive(Drop)]
 struct Server {
     alloc: Global,
@@ -20,7 +21,6 @@ struct Server {
     count: Place,
     taken: AtomicU64,
     steps: AtomicUsize,
-    end: Barrier,
 }
 
 /// Counts the steps from a number down to 1, where an even number is halved, and an odd one is tripled and raised by one.
@@ -42,10 +42,9 @@ fn steps(number: u64) -> usize {
 impl Pool for Server {
     type Job = u64;
 
-    fn next<R: Wait>(&self, rt: &R) -> io::Result<Option<(String, u64)>> {
+    fn next<R: Wait>(&self, _rt: &R) -> io::Result<Option<(String, u64)>> {
         let number = self.taken.fetch_add(1, Ordering::SeqCst);
         if number >= REQUESTS {
-            self.end.wait(rt);
             return Ok(None);
         }
         Ok(Some((format!(in self.alloc; "request {number}")?, number)))
@@ -59,8 +58,7 @@ impl Pool for Server {
     }
 
     fn lead<R: Wait, T: Records, F: Frames>(&self, rt: &R, _thread: &mut T, frames: &mut F) {
-        self.end.wait(rt);
-        let _emitted = frames.new_frame();
+        let _last = frames.take_until_ended(rt, Duration::from_millis(16));
     }
 }
 
@@ -72,7 +70,6 @@ fn main(rt: HostRuntime) -> anyhow::Result<()> {
         count: place!(scopes, "answer", "count")?,
         taken: AtomicU64::new(0),
         steps: AtomicUsize::new(0),
-        end: Barrier::new(THREADS + 1),
     };
     let outcome = pooled(rt, THREADS, &scopes, &Settings::default(), &server)?;
     let steps = server.steps.load(Ordering::SeqCst);

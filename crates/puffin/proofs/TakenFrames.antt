@@ -3,10 +3,12 @@ use Rattle.std.proofs.Common.{◌≡◌, ℕ, ◌+◌, ◌<◌, ◌^◌, List, [
 use Rattle.std.specs.Arc.{arc_value}
 use Rattle.std.specs.FinMap as map
 use Rattle.std.specs.declared.sync.Arc.{Arc}
-use Rattle.std.proofs.lemmas.List.{length-append}
+use Rattle.std.specs.Prelude.{All, IfOk, OnErr, Result, Ok, Err}
+use Rattle.std.proofs.lemmas.List.{length-append, append-nil}
+use Rattle.std.proofs.lemmas.List.Elements.{All-nil, All-push}
 use Rattle.std.proofs.lemmas.List.Sums.{sum_by-append}
 use Rattle.puffin_frames.specs.declared.frame_data.frame.FrameData.{FrameData}
-use Rattle.puffin_frames.specs.Frame.Contents.{Streams, holding_of, frame_meta}
+use Rattle.puffin_frames.specs.Frame.Contents.{Streams, AreHonest, holding_of, frame_meta}
 use Rattle.puffin_frames.specs.Frame.Holding.{Holding}
 use Rattle.puffin_frames.specs.Frame.Sums.{total_scopes}
 use Rattle.puffin_threads.specs.Thread.ThreadKey.{ThreadKey}
@@ -14,7 +16,7 @@ use Rattle.puffin_data.specs.Honesty.{StreamFacts}
 use Rattle.puffin.specs.Happenings.{Happening, framed, reports_under, report_under, frames_in, frame_of}
 use Rattle.puffin.specs.Members.{Member, IsNewMember, TakesFrame}
 use Rattle.puffin.specs.Shares.{CountsFrame, SpellsItsScopes}
-use Rattle.puffin.specs.Taking.{CountsTaken, IsTaken, num_scopes_in, TookAll}
+use Rattle.puffin.specs.Taking.{CountsTaken, IsTaken, TakesMore, TakesLast, num_scopes_in, TookAll}
 use Rattle.puffin.proofs.TellingShares.{nothing_told}
 
 no_report : (i : ThreadKey) (own : List Happening) (streams : Streams) → reports_under i (own ++ framed streams ∷ []) ≡ reports_under i own
@@ -61,3 +63,35 @@ took_more old new (Some frame) refused frames missed after missed_after is count
       as_many = λ few. let before : length (frames_in old.own) < 2 ^ 64 = omega (arith, few, longer) in let so_far = took.as_many before in counted.0 ∙ omega (arith, few, longer, so_far);
       handed = let sum : new.counts.handed ≡ old.counts.handed + (frame_meta (arc_value frame)).num_scopes = ap (λ c. c.handed) counts in omega (arith, sum, one, whole, took.handed);
     }
+
+-- ---- any number of frames
+
+-- no frame yet
+pub takes_none : (old : List Streams) → TakesMore old old
+takes_none old = record { more = []; behind = sym (append-nil old); honest = All-nil (λ s. AreHonest s × (0 < total_scopes (map.values s))) }
+
+takes_one : {A : Type 0} (old before new : List Streams) (f : Option (Arc FrameData A)) → TakesMore old before → SpellsItsScopes f → IsTaken before f new → TakesMore old new
+takes_one old before new None takes spells is = subst (TakesMore old) (sym is) takes
+takes_one old before new (Some frame) takes spells is =
+    let streams = is.0 in
+    let same : spells.0 ≡ streams = same_streams (holding_of (arc_value frame)) spells.0 streams spells.1 is.1 in
+    let some : 0 < total_scopes (map.values spells.0) = subst (λ (n : ℕ). 0 < n) spells.3 spells.4 in
+    let its = subst (λ (s : Streams). AreHonest s × (0 < total_scopes (map.values s))) same (spells.2, some) in
+    record {
+      more = takes.more ++ streams ∷ [];
+      behind = is.2 ∙ ap (λ (fs : List Streams). fs ++ streams ∷ []) takes.behind ∙ sym (assoc old takes.more (streams ∷ []));
+      honest = All-push (λ s. AreHonest s × (0 < total_scopes (map.values s))) takes.more streams takes.honest its;
+    }
+
+-- and after one call more, whatever it answers
+pub takes_next : {A E X : Type 0} (r : Result X E) (frame : X → Option (Arc FrameData A)) (old before new : List Streams) → TakesMore old before → IfOk r (λ x. SpellsItsScopes (frame x)) → IfOk r (λ x. IsTaken before (frame x) new) → OnErr r (new ≡ before) → TakesMore old new
+takes_next (Ok x) frame old before new takes spells is same = takes_one old before new (frame x) takes spells is
+takes_next (Err e) frame old before new takes spells is same = subst (TakesMore old) (sym same) takes
+
+pub takes_last : {A E X : Type 0} (r : Result X E) (frame : X → Option (Arc FrameData A)) (old before new : List Streams) → TakesMore old before → IfOk r (λ x. IsTaken before (frame x) new) → IfOk r (λ x. TakesLast old (frame x) new)
+takes_last (Ok x) frame old before new takes is = (before, takes, is)
+takes_last (Err e) frame old before new takes is = tt
+
+pub takes_refused : {E X : Type 0} (r : Result X E) (old before new : List Streams) → TakesMore old before → OnErr r (new ≡ before) → OnErr r (TakesMore old new)
+takes_refused (Ok x) old before new takes same = tt
+takes_refused (Err e) old before new takes same = subst (TakesMore old) (sym same) takes

@@ -1,10 +1,10 @@
 -- How a program's leader counts the frames that it takes.
-use Rattle.std.specs.Prelude.{ℕ, ◌+◌, ◌-◌, ◌^◌, ◌<◌, ◌≡◌, List, [], ◌∷◌, ◌++◌, length, sum_by, Option, Some, None, min}
+use Rattle.std.specs.Prelude.{ℕ, ◌+◌, ◌-◌, ◌^◌, ◌<◌, ◌≡◌, List, [], ◌∷◌, ◌++◌, length, sum_by, All, Option, Some, None, min}
 use Rattle.std.specs.Arc.{arc_value}
 use Rattle.std.specs.FinMap as map
 use Rattle.std.specs.declared.sync.Arc.{Arc}
 use Rattle.puffin_frames.specs.declared.frame_data.frame.FrameData.{FrameData}
-use Rattle.puffin_frames.specs.Frame.Contents.{Streams, holding_of}
+use Rattle.puffin_frames.specs.Frame.Contents.{Streams, AreHonest, holding_of}
 use Rattle.puffin_frames.specs.Frame.Sums.{total_scopes}
 use Rattle.puffin.specs.Happenings.{frames_in}
 use Rattle.puffin.specs.Members.{Member}
@@ -29,6 +29,16 @@ IsTaken old None new = new ≡ old
 IsTaken old (Some frame) new = (streams : Streams)
     × (holding_of (arc_value frame) ≡ record { packed = None; unpacked = Some streams })
     × (new ≡ old ++ streams ∷ [])
+
+-- Any number of frames were taken. They come behind those before, and each has honest streams with a scope.
+pub record TakesMore (old new : List Streams) : Type 0 where
+  pub more : List Streams
+  pub behind : new ≡ old ++ more
+  pub honest : All (λ streams. AreHonest streams × (0 < total_scopes (map.values streams))) more
+
+-- first any number of frames, and then this one
+abbrev pub TakesLast : {A : Type 0} → List Streams → Option (Arc FrameData A) → List Streams → Type 0
+TakesLast old frame new = (before : List Streams) × TakesMore old before × IsTaken before frame new
 
 -- the number of scopes in all of these frames
 abbrev pub num_scopes_in : List Streams → ℕ

@@ -14,6 +14,7 @@
 //! | write each frame as it comes, to files that replace each other | [`Rotation`] |
 //! | profile several threads that work in rounds, with a frame for each round | [`Rounds`], [`in_rounds`] |
 //! | profile several threads, and take frames when you choose | [`Program`], [`profiled`] |
+//! | take frames until all threads have ended | [`Frames::take_until_ended`], [`Frames::wait`] |
 //! | profile a server or a pool, each of whose jobs has a name of its own | [`Pool`], [`pooled`] |
 //! | name the leader of several threads, limit what their scopes may take, or set what their view keeps | [`Settings`] |
 

@@ -9,8 +9,9 @@ use puffin::light::{
 use puffin::{Result, place, profile};
 use std::alloc::Global;
 use std::io;
+use std::sync::Wait;
 use std::sync::atomic::{AtomicUsize, Ordering};
-use std::sync::{Barrier, Wait};
+use std::time::Duration;
 
 /// A function of the leader, one of the threads, and a place of other scopes.
 #[derive(Drop)]
@@ -116,23 +117,19 @@ fn the_leader_s_part_of_a_round_is_in_its_frame(rt: HostRuntime) {
 #[derive(Drop)]
 struct Watch {
     places: Places,
-    done: Barrier,
 }
 
 impl Program for Watch {
-    fn work<R: Wait, T: Records>(&self, rt: &R, _number: usize, thread: &mut T) -> io::Result<()> {
-        {
-            profile!(_row, thread, self.places.row);
-        }
-        self.done.wait(rt);
+    fn work<R: Wait, T: Records>(&self, _rt: &R, _number: usize, thread: &mut T) -> io::Result<()> {
+        profile!(_row, thread, self.places.row);
         Ok(())
     }
 
-    fn lead<R: Wait, T: Records, F: Frames>(&self, rt: &R, thread: &mut T, frames: &mut F) {
+    fn lead<R: Wait, T: Records, F: Frames>(&self, _rt: &R, thread: &mut T, frames: &mut F) {
         {
             profile!(steer, thread, self.places.steer, "until all are done");
             profile!(_foreign, steer, self.places.foreign);
-            self.done.wait(rt);
+            let _works = frames.wait(Duration::from_secs(3_600));
         }
         let _emitted = frames.new_frame();
         profile!(_steer, thread, self.places.steer);
@@ -143,10 +140,7 @@ impl Program for Watch {
 #[test]
 fn a_leader_s_scopes_are_counted_apart_from_the_threads(rt: HostRuntime) {
     let (scopes, places) = registered(rt.alloc()).expect(&rt, "the places");
-    let watch = Watch {
-        places,
-        done: Barrier::new(3),
-    };
+    let watch = Watch { places };
     let outcome = profiled(rt, &["a", "b"], &scopes, &Settings::default(), &watch).expect(
         &rt,
         "the threads",

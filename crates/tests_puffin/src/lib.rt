@@ -6,6 +6,8 @@ mod calls;
 #[cfg(test)]
 mod details;
 #[cfg(test)]
+mod ends;
+#[cfg(test)]
 mod equal;
 mod files;
 #[cfg(test)]

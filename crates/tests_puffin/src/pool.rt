@@ -8,8 +8,21 @@ use puffin::{place, profile};
 use std::alloc::Global;
 use std::io;
 use std::process::Abort;
+use std::rt::Clock;
+use std::sync::Wait;
 use std::sync::atomic::{AtomicUsize, Ordering};
-use std::sync::{Barrier, Wait};
+use std::thread::Threads;
+use std::time::Duration;
+
+/// Which call fails.
+#[derive(Clone, Copy, PartialEq, Eq)]
+enum Fails {
+    Nothing,
+    /// The work of the job with this number.
+    Work(usize),
+    /// The call that would take the job with this number.
+    Next(usize),
+}
 
 /// A number of jobs, of which one may fail. Job `n`, counted from 0, makes one scope, and one more if `n` is even.
 #[derive(Drop)]
@@ -18,19 +31,13 @@ struct Jobs {
     answer: Place,
     foreign: Place,
     all: usize,
-    failing: Option<usize>,
+    fails: Fails,
     taken: AtomicUsize,
-    done: Barrier,
 }
 
 impl Jobs {
-    /// Makes this number of jobs for this number of threads, with the scopes that the threads know.
-    fn new(
-        alloc: Global,
-        all: usize,
-        threads: usize,
-        failing: Option<usize>,
-    ) -> puffin::Result<(Scopes, Jobs)> {
+    /// Makes this number of jobs, with the scopes that the threads know.
+    fn new(alloc: Global, all: usize, fails: Fails) -> puffin::Result<(Scopes, Jobs)> {
         let mut others = Scopes::new(alloc)?;
         let _first = place!(others, "first")?;
         let foreign = place!(others, "second")?;
@@ -40,9 +47,8 @@ impl Jobs {
             answer: place!(scopes, "answer")?,
             foreign,
             all,
-            failing,
+            fails,
             taken: AtomicUsize::new(0),
-            done: Barrier::new(threads.saturating_add(1)),
         };
         Ok((scopes, jobs))
     }
@@ -51,17 +57,18 @@ impl Jobs {
 impl Pool for Jobs {
     type Job = usize;
 
-    /// Lets a thread that finds no other job wait until the others have found none either.
-    fn next<R: Wait>(&self, rt: &R) -> io::Result<Option<(String, usize)>> {
+    fn next<R: Wait>(&self, _rt: &R) -> io::Result<Option<(String, usize)>> {
         let number = self.taken.fetch_add(1, Ordering::SeqCst);
         if number >= self.all {
-            self.done.wait(rt);
             return Ok(None);
+        }
+        if self.fails == Fails::Next(number) {
+            return Err(io::Error::from(io::ErrorKind::TimedOut));
         }
         Ok(Some((format!(in self.alloc; "job {number}")?, number)))
     }
 
-    fn work<R: Wait, T: Records>(&self, rt: &R, job: usize, thread: &mut T) -> io::Result<()> {
+    fn work<R: Wait, T: Records>(&self, _rt: &R, job: usize, thread: &mut T) -> io::Result<()> {
         {
             profile!(_answer, thread, self.answer);
         }
@@ -69,17 +76,15 @@ impl Pool for Jobs {
             profile!(answer, thread, self.answer, "again");
             profile!(_foreign, answer, self.foreign);
         }
-        if self.failing == Some(job) {
-            self.done.wait(rt);
+        if self.fails == Fails::Work(job) {
             return Err(io::Error::from(io::ErrorKind::TimedOut));
         }
         Ok(())
     }
 
-    /// Takes a frame after all jobs.
+    /// Takes one frame, after all threads have ended.
     fn lead<R: Wait, T: Records, F: Frames>(&self, rt: &R, _thread: &mut T, frames: &mut F) {
-        self.done.wait(rt);
-        let _emitted = frames.new_frame();
+        let _last = frames.take_until_ended(rt, Duration::from_secs(3_600));
     }
 }
 
@@ -117,7 +122,7 @@ fn has_a_hundred<R: AllocGlobal + Wait + Abort>(rt: &R, view: &GlobalFrameView) 
 
 #[test]
 fn a_hundred_jobs_of_four_threads_have_their_own_names(rt: HostRuntime) {
-    let (scopes, jobs) = Jobs::new(rt.alloc(), 100, 4, None).expect(&rt, "the jobs");
+    let (scopes, jobs) = Jobs::new(rt.alloc(), 100, Fails::Nothing).expect(&rt, "the jobs");
     let outcome = pooled(rt, 4, &scopes, &Settings::default(), &jobs).expect(&rt, "the threads");
     equal(&rt, outcome.threads.len(), 4);
     equal(&rt, sum(&outcome.threads), (150, 0, 50));
@@ -131,19 +136,40 @@ fn a_hundred_jobs_of_four_threads_have_their_own_names(rt: HostRuntime) {
     has_a_hundred(&rt, &outcome.view);
 }
 
-#[test]
-fn a_job_that_fails_ends_its_thread(rt: HostRuntime) {
-    let (scopes, jobs) = Jobs::new(rt.alloc(), 10, 2, Some(0)).expect(&rt, "the jobs");
+/// Runs ten jobs on two threads. Checks that one thread failed, that all threads together reported this number of scopes and had
+/// this number refused, and that each reported scope is in the frame.
+fn one_fails<R: AllocGlobal + Clock + Threads + Wait + Abort + Copy + Send + Sync + Drop>(
+    rt: R,
+    fails: Fails,
+    reported: u64,
+    refused: u64,
+) {
+    let (scopes, jobs) = Jobs::new(rt.alloc(), 10, fails).expect(&rt, "the jobs");
     let outcome = pooled(rt, 2, &scopes, &Settings::default(), &jobs).expect(&rt, "the threads");
     let failed = outcome.failed.expect(&rt, "a failure");
     equal(&rt, failed.error.kind(), io::ErrorKind::TimedOut);
-    equal(&rt, sum(&outcome.threads), (15, 0, 5));
-    equal(&rt, outcome.settled.handed, 15);
+    equal(&rt, sum(&outcome.threads), (reported, 0, refused));
+    let settled = Settled {
+        reported,
+        handed: reported,
+        pending: 0,
+    };
+    equal(&rt, outcome.settled, settled);
+}
+
+#[test]
+fn a_job_that_fails_ends_its_thread(rt: HostRuntime) {
+    one_fails(rt, Fails::Work(0), 15, 5);
+}
+
+#[test]
+fn a_job_that_can_t_be_taken_ends_its_thread(rt: HostRuntime) {
+    one_fails(rt, Fails::Next(0), 13, 4);
 }
 
 #[test]
 fn a_worker_without_room_begins_no_scope(rt: HostRuntime) {
-    let (scopes, jobs) = Jobs::new(rt.alloc(), 10, 2, None).expect(&rt, "the jobs");
+    let (scopes, jobs) = Jobs::new(rt.alloc(), 10, Fails::Nothing).expect(&rt, "the jobs");
     let settings = Settings {
         max_thread_bytes: 0,
         ..Settings::default()

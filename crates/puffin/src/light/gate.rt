@@ -1,13 +1,15 @@
-//! Threads that begin together, or not at all.
+//! Threads that begin together or not at all, and that tell when they end.
 ghost use Rattle.std.specs.Prelude.{◌≡◌};
 
 use crate::light::guard::Records;
 use crate::light::pool::Pool;
 use crate::light::program::{Frames, Program};
 use std::io;
+use std::rt::Clock;
 use std::sync::{Condvar, Mutex, Wait};
+use std::time::Duration;
 
-/// The state of a gate.
+/// What the threads at a gate do.
 #[derive(Clone, Copy, Debug, PartialEq, Eq)]
 enum Signal {
     /// Threads wait.
@@ -18,21 +20,33 @@ enum Signal {
     Leave,
 }
 
-/// Holds back a program's threads until all are started. If one can't be started, the others end without having begun.
+/// The state of a gate.
+#[derive(Clone, Copy, Debug, PartialEq, Eq)]
+struct GateState {
+    signal: Signal,
+    /// How many threads haven't ended.
+    working: usize,
+}
+
+/// Holds back a program's threads until all are started. If one can't be started, the others end without having begun. Counts the
+/// threads that haven't ended.
 pub(crate) struct Gate<'p, W> {
     program: &'p W,
-    signal: Mutex<Signal>,
+    state: Mutex<GateState>,
     changed: Condvar,
 }
 
 impl<'p, W> Gate<'p, W> {
-    /// Makes a closed gate for a program.
-    pub(crate) fn new(program: &'p W) -> Gate<'p, W>
+    /// Makes a closed gate for a program with this number of threads.
+    pub(crate) fn new(program: &'p W, threads: usize) -> Gate<'p, W>
         ensures { result.program.now ≡ program.now }
     {
         Gate {
             program,
-            signal: Mutex::new(Signal::Wait),
+            state: Mutex::new(GateState {
+                signal: Signal::Wait,
+                working: threads,
+            }),
             changed: Condvar::new(),
         }
     }
@@ -41,17 +55,17 @@ impl<'p, W> Gate<'p, W> {
     pub(crate) fn end(self) {
         let Gate {
             program: _,
-            signal: _,
+            state: _,
             changed: _,
         } = self;
     }
 
     /// Waits until the gate is opened. Returns whether the thread may begin.
     fn may_begin(&self, rt: &impl Wait) -> bool {
-        let mut signal = self.signal.lock(rt);
+        let mut state = self.state.lock(rt);
         for _ in rt.forever() {
-            match *signal {
-                Signal::Wait => signal = self.changed.wait(rt, signal),
+            match state.signal {
+                Signal::Wait => state = self.changed.wait(rt, state),
                 Signal::Begin => return true,
                 Signal::Leave => return false,
             }
@@ -64,14 +78,42 @@ impl<'p, W> Gate<'p, W> {
 pub(crate) trait Gated {
     /// Lets all threads begin or, if `begins` is false, end without having begun.
     fn open(&self, rt: &impl Wait, begins: bool);
+
+    /// Tells that a thread has ended.
+    fn leave(&self, rt: &impl Wait);
+
+    /// Returns how many threads haven't ended.
+    fn num_working(&self, rt: &impl Wait) -> usize;
+
+    /// Waits until all threads have ended, but no longer than this. Returns whether one hasn't.
+    fn wait<R: Wait + Clock>(&self, rt: &R, limit: Duration) -> bool;
 }
 
 impl<W> Gated for Gate<'_, W> {
     fn open(&self, rt: &impl Wait, begins: bool) {
-        let mut signal = self.signal.lock(rt);
-        *signal = if begins { Signal::Begin } else { Signal::Leave };
-        drop(signal);
+        let mut state = self.state.lock(rt);
+        state.signal = if begins { Signal::Begin } else { Signal::Leave };
+        drop(state);
         self.changed.notify_all();
+    }
+
+    fn leave(&self, rt: &impl Wait) {
+        let mut state = self.state.lock(rt);
+        state.working = state.working.saturating_sub(1);
+        drop(state);
+        self.changed.notify_all();
+    }
+
+    fn num_working(&self, rt: &impl Wait) -> usize {
+        self.state.lock(rt).working
+    }
+
+    fn wait<R: Wait + Clock>(&self, rt: &R, limit: Duration) -> bool {
+        let state = self.state.lock(rt);
+        let (_state, waited) = self
+            .changed
+            .wait_timeout_while(rt, state, limit, |state| { state.working > 0 });
+        waited.timed_out()
     }
 }
 

@@ -5,9 +5,11 @@ ghost use Rattle.puffin.specs.Happenings.{frames_in};
 
 use crate::global_profiler::{Share, SharedProfiler, SharedReporter};
 use crate::light::counted::{CountedShare, Counting};
+use crate::light::gate::Gated;
 use crate::light::ready::AnyLeader;
 use crate::light::taker::{Taken, Taker};
 use history::History;
+use std::rt::Clock;
 use std::sync::Wait;
 use std::sync::ledger::Ledger;
 
@@ -32,12 +34,13 @@ pub(crate) struct Led<L: Ledger + History, M: Ledger> {
 }
 
 /// Runs a program's leader on this thread, with what its seat holds.
-pub(crate) fn lead<L: Ledger + History, M: Ledger, R: Wait + Copy, D: AnyLeader<W>, W>(
-    rt: R,
-    seat: Seat<L, M>,
-    leader: D,
-    program: &W,
-) -> Led<L, M>
+pub(crate) fn lead<
+    L: Ledger + History,
+    M: Ledger,
+    R: Wait + Clock + Copy,
+    D: AnyLeader<W>,
+    W: Gated,
+>(rt: R, seat: Seat<L, M>, leader: D, program: &W) -> Led<L, M>
     ensures tells { D.tells leader program.now result.counted.counts.unreported []
         result.counted.share.own }
     ensures takes { D.takes leader program.now (frames_in result.taken.share.own) }
@@ -52,6 +55,7 @@ pub(crate) fn lead<L: Ledger + History, M: Ledger, R: Wait + Copy, D: AnyLeader<
         rt,
         profiler: frames,
         taken: Taken::new(taking),
+        program,
     };
     let reporter = Counting::new(SharedReporter::new(rt, reports, reporting));
     let (left, reporter) = leader.lead(&rt, reporter, &mut taker, program);
@@ -59,6 +63,7 @@ pub(crate) fn lead<L: Ledger + History, M: Ledger, R: Wait + Copy, D: AnyLeader<
         rt: _,
         profiler: _,
         taken,
+        program: _,
     } = taker;
     Led {
         taken,

@@ -47,8 +47,7 @@ use std::thread::Threads;
 ///     }
 ///
 ///     fn lead<R: Wait, T: Records, F: Frames>(&self, rt: &R, _thread: &mut T, frames: &mut F) {
-///         self.closed.wait(rt);
-///         let _emitted = frames.new_frame();
+///         let _last = frames.take_until_ended(rt, Duration::from_millis(16));
 ///     }
 /// }
 /// ```
@@ -120,7 +119,7 @@ pub fn pooled<R: AllocGlobal + Threads + Wait + Clock + Copy + Send + Sync, W: P
 {
     let crew = all_ready(rt, settings, workers, scopes)?;
     let parts = crew.threads.len() + 2;
-    let gate = Gate::new(pool);
+    let gate = Gate::new(pool, workers);
     let outcome = run::<Brand, Brand, R, Head<R>, Worker<R>, Gate<W>>(
         rt,
         scopes,

@@ -24,12 +24,13 @@ use std::rt::Clock;
 use std::sync::Wait;
 use std::sync::ledger::Blank;
 use std::thread::Threads;
+use std::time::Duration;
 
 /// Takes frames of what all threads of a program report.
 pub trait Frames {
     ghost use Rattle.std.specs.Prelude.{◌≡◌, List, IfOk, OnErr};
     ghost use Rattle.puffin_frames.specs.Frame.Contents.{Streams};
-    ghost use Rattle.puffin.specs.Taking.{IsTaken};
+    ghost use Rattle.puffin.specs.Taking.{IsTaken, TakesMore, TakesLast};
 
     /// The streams of each frame that was handed out, in order.
     ghost taken: { Self → List Streams };
@@ -48,6 +49,54 @@ pub trait Frames {
     /// all names. Allocates nothing.
     fn emit_scope_snapshot(&mut self)
         ensures { taken self.new ≡ taken self.old };
+
+    /// Returns how many of the program's threads haven't ended. The leader isn't one of them.
+    fn num_working(&self) -> usize;
+
+    /// Waits until all threads have ended, whatever they returned, but no longer than this. Returns whether one still works. Once
+    /// it has returned false, the next frame has everything that was reported and that no earlier frame has. If the clock can't be
+    /// read, it returns at once.
+    ///
+    /// ```
+    /// for _ in rt.forever() {
+    ///     let is_last = !frames.wait(Duration::from_millis(16));
+    ///     if let Ok(emitted) = frames.new_frame()
+    ///         && let Some(frame) = emitted.frame
+    ///     {
+    ///         let _written = self.writer.lock(rt).write(&frame);
+    ///     }
+    ///     if is_last {
+    ///         break;
+    ///     }
+    /// }
+    /// ```
+    fn wait(&self, limit: Duration) -> bool;
+
+    /// Takes a frame each time that this much time has passed, until all threads have ended, whatever they returned, and one more
+    /// frame after that, whose result it returns.
+    ///
+    /// A frame that can't be taken leaves its scopes to the next one. If the last one fails, they wait for another call; if there
+    /// is none, [`Outcome::settled`] counts them as pending.
+    ///
+    /// ```
+    /// let _last = frames.take_until_ended(rt, Duration::from_millis(16));
+    /// ```
+    final fn take_until_ended<R: Wait>(&mut self, rt: &R, every: Duration) -> Result<Emitted>
+        ensures spells { IfOk result (λ emitted. SpellsItsScopes emitted.frame) }
+        ensures cause { IfErr result IsFrameCause }
+        ensures last { IfOk result (λ emitted.
+            TakesLast (taken self.old) emitted.frame (taken self.new)) }
+        ensures refused { OnErr result (TakesMore (taken self.old) (taken self.new)) }
+    {
+        for _ in rt.forever() {
+            let works = self.wait(every);
+            let taken = self.new_frame();
+            if !works {
+                return taken;
+            }
+        }
+        unreachable!()
+    }
 }
 
 /// A program whose threads are profiled. All threads share it by `&`; a thread's own state is kept in local variables of
@@ -57,7 +106,7 @@ pub trait Frames {
 /// impl Program for Game {
 ///     fn work<R: Wait, T: Records>(
 ///         &self,
-///         rt: &R,
+///         _rt: &R,
 ///         _number: usize,
 ///         thread: &mut T,
 ///     ) -> io::Result<()> {
@@ -66,22 +115,18 @@ pub trait Frames {
 ///             profile!(_whole, thread, self.update, if loaded { "warm" } else { "cold" });
 ///             loaded = true;
 ///         }
-///         self.done.wait(rt);
 ///         Ok(())
 ///     }
 ///
-///     fn lead<R: Wait, T: Records, F: Frames>(&self, rt: &R, thread: &mut T, frames: &mut F) {
-///         {
-///             profile!(_waits, thread, self.waits);
-///             self.done.wait(rt);
-///         }
-///         let _emitted = frames.new_frame();
+///     fn lead<R: Wait, T: Records, F: Frames>(&self, rt: &R, _thread: &mut T, frames: &mut F) {
+///         let _last = frames.take_until_ended(rt, Duration::from_millis(16));
 ///     }
 /// }
 /// ```
 ///
-/// Here `done` is a `Barrier` of all threads and the leader. What is reported after the last frame is in no frame;
-/// `Outcome::settled` counts it as pending.
+/// What is reported after the last frame is in no frame; `Outcome::settled` counts it as pending. Threads and the leader may wait
+/// for each other, for example at a `Barrier`, but a thread that fails before it gets there leaves the others waiting forever:
+/// [`Frames::wait`] doesn't wait for such a thread.
 pub trait Program {
     ghost use Rattle.std.specs.Prelude.{◌≡◌, ℕ, Bool, false, List, []};
     ghost use Rattle.puffin_frames.specs.Frame.Contents.{Streams};
@@ -191,7 +236,7 @@ pub fn profiled<R: AllocGlobal + Threads + Wait + Clock + Copy + Send + Sync, W:
 {
     let crew = all_ready(rt, settings, names, scopes)?;
     let parts = names.len() + 2;
-    let gate = Gate::new(program);
+    let gate = Gate::new(program, names.len());
     let outcome = run::<Brand, Brand, R, Ready<SystemClock<R>>, Ready<SystemClock<R>>, Gate<W>>(
         rt,
         scopes,

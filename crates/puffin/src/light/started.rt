@@ -22,6 +22,7 @@ use crate::light::ready::{AnyLeader, AnyReady, Crew, Ended};
 use crate::light::scopes::Scopes;
 use crate::light::settings::Settings;
 use history::{History, NewLog};
+use std::rt::Clock;
 use std::snapshot::Snapshot;
 use std::sync::Wait;
 use std::sync::ledger::{Blank, Ledger};
@@ -52,8 +53,8 @@ impl<L: Ledger + History, M: Ledger, T: AnyReady<W>, W> Promise<Worked<L, M>> fo
         × (worked.counted.counts.unreported ≡ worked.ended.left.unreported) };
 }
 
-/// Does a thread's work, and returns its share.
-fn work<L: Ledger + History, M: Ledger, R: Wait + Copy, T: AnyReady<W>, W>(
+/// Does a thread's work, tells the gate that the thread has ended, and returns its share.
+fn work<L: Ledger + History, M: Ledger, R: Wait + Copy, T: AnyReady<W>, W: Gated>(
     rt: R,
     number: usize,
     profiler: SharedProfiler<L, M>,
@@ -68,6 +69,7 @@ fn work<L: Ledger + History, M: Ledger, R: Wait + Copy, T: AnyReady<W>, W>(
 {
     let reporter = Counting::new(SharedReporter::new(rt, profiler, share));
     let (ended, reporter) = thread.run(&rt, number, reporter, program);
+    program.leave(&rt);
     Worked {
         counted: reporter.into_share(ended.left),
         ended,
@@ -82,7 +84,7 @@ fn start<
     M: Ledger + Send + 's,
     R: Wait + Copy + Send + 's,
     T: AnyReady<W> + Drop + Send + 's,
-    W: Sync,
+    W: Gated + Sync,
 >(
     rt: R,
     scope: &Scope<'s, E>,
@@ -127,7 +129,7 @@ fn start_all<
     M: Ledger + Send + 's,
     R: AllocGlobal + Threads + Wait + Copy + Send + 's,
     T: AnyReady<W> + Drop + Send + 's,
-    W: Sync,
+    W: Gated + Sync,
 >(
     rt: R,
     scope: &Scope<'s, E>,
@@ -164,7 +166,7 @@ fn run_all<
     E,
     L: Ledger + History + Send + 's,
     M: Ledger + Send + 's,
-    R: AllocGlobal + Threads + Wait + Copy + Send + 's,
+    R: AllocGlobal + Threads + Wait + Clock + Copy + Send + 's,
     D: AnyLeader<W> + Drop,
     T: AnyReady<W> + Drop + Send + 's,
     W: Gated + Sync,
@@ -196,7 +198,7 @@ fn run_all<
 fn scoped<
     L: Ledger + History + Send + Sync,
     M: Ledger + Send + Sync,
-    R: AllocGlobal + Threads + Wait + Copy + Send + Sync,
+    R: AllocGlobal + Threads + Wait + Clock + Copy + Send + Sync,
     D: AnyLeader<W> + Drop + Send,
     T: AnyReady<W> + Drop + Send,
     W: Gated + Sync,
@@ -342,7 +344,7 @@ fn settled<L: Ledger + History, M: Ledger, R: Wait>(
 pub(crate) fn run<
     L: Ledger + History + Send + Sync,
     M: Ledger + Send + Sync,
-    R: AllocGlobal + Threads + Wait + Copy + Send + Sync,
+    R: AllocGlobal + Threads + Wait + Clock + Copy + Send + Sync,
     D: AnyLeader<W> + Drop + Send,
     T: AnyReady<W> + Drop + Send,
     W: Gated + Sync,

@@ -3,11 +3,14 @@ ghost use Rattle.std.specs.Prelude.{◌≡◌, ◌≤◌, ◌<◌, ◌^◌};
 ghost use Rattle.puffin.specs.Taking.{CountsTaken, TookAll};
 
 use crate::global_profiler::{Emitted, Share, SharedProfiler};
+use crate::light::gate::Gated;
 use crate::light::program::Frames;
 use history::History;
 use puffin_data::Result;
+use std::rt::Clock;
 use std::sync::Wait;
 use std::sync::ledger::Ledger;
+use std::time::Duration;
 
 /// The leader's share, the number of frames that were handed out to it, and the number of these that the view didn't take.
 #[derive(Drop)]
@@ -53,14 +56,15 @@ fn counted(emitted: &Emitted, frames: u64, missed: u64) -> (u64, u64)
     (frames.saturating_add(1), missed.saturating_add(1))
 }
 
-/// Takes frames of a shared profiler, whose only sink is a view.
-pub(crate) struct Taker<L: Ledger + History, M: Ledger, R: Wait> {
+/// Takes frames of a shared profiler, whose only sink is a view, while the threads of a program work.
+pub(crate) struct Taker<'p, L: Ledger + History, M: Ledger, R: Wait, W> {
     pub(crate) rt: R,
     pub(crate) profiler: SharedProfiler<L, M>,
     pub(crate) taken: Taken<L, M>,
+    pub(crate) program: &'p W,
 }
 
-impl<L: Ledger + History, M: Ledger, R: Wait> Frames for Taker<L, M, R> {
+impl<L: Ledger + History, M: Ledger, R: Wait + Clock, W: Gated> Frames for Taker<'_, L, M, R, W> {
     ghost use Rattle.std.specs.Prelude.{◌≡◌, IfOk, IfErr, OnErr};
     ghost use Rattle.puffin.specs.SharedCauses.{IsFrameCause};
     ghost use Rattle.puffin.specs.Shares.{SpellsItsScopes, CountsFrame};
@@ -102,5 +106,13 @@ impl<L: Ledger + History, M: Ledger, R: Wait> Frames for Taker<L, M, R> {
         ensures { self.new.taken ≡ self.old.taken }
     {
         self.profiler.emit_scope_snapshot(&self.rt);
+    }
+
+    fn num_working(&self) -> usize {
+        self.program.num_working(&self.rt)
+    }
+
+    fn wait(&self, limit: Duration) -> bool {
+        self.program.wait(&self.rt, limit)
     }
 }
