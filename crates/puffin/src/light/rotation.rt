@@ -5,7 +5,7 @@ use crate::global_profiler::Emitted;
 use crate::light::files::{SaveCause, SaveError, cause_of, no_memory};
 use crate::profile_view::FrameWriter;
 use puffin_data::Result;
-use puffin_data::data::{Counted, Drain};
+use puffin_data::data::Counted;
 use std::fs::{File, OpenFile};
 use std::io::ErrorKind;
 use std::rt::Files;
@@ -55,10 +55,7 @@ impl Default for RotationLimits {
 ///
 /// No contract states what the files hold, since contracts can't express that; tests read them again.
 #[derive(Drop)]
-pub struct Rotation<R: Files>
-where
-    Counted<R::File>: Drain,
-{
+pub struct Rotation<R> {
     rt: R,
     prefix: String,
     limits: RotationLimits,
@@ -68,7 +65,7 @@ where
     frames: usize,
     /// The name of the file that is written or, after a failure, of the one that failed.
     path: String,
-    writer: Option<FrameWriter<Counted<R::File>>>,
+    writer: Option<FrameWriter<Counted<File>>>,
     failure: Option<SaveCause>,
 }
 
@@ -100,10 +97,7 @@ fn next_number<R: Files + AllocGlobal + Copy + Drop>(rt: &R, prefix: &str) -> io
     Ok(next)
 }
 
-impl<R: Files + AllocGlobal + Copy + Drop> Rotation<R>
-where
-    Counted<R::File>: Drain,
-{
+impl<R: Files<File = File> + AllocGlobal + Copy + Drop> Rotation<R> {
     /// Prepares to write files with this prefix, which may begin with folders: they have to exist. The numbers go on from those
     /// of the files that are there. The first file begins with the first frame.
     ///
