@@ -91,7 +91,7 @@ fn the_longest_name_is_saved(rt: HostRuntime) {
 }
 
 /// Writes so many frames to the files of a rotation. Returns how it ended.
-fn rotate<R: AllocGlobal + Clock + Files + Wait + Abort + Copy + Drop>(
+fn rotate<R: AllocGlobal + Clock + Files<File = File> + Wait + Abort + Copy + Drop>(
     rt: R,
     prefix: &str,
     frames: usize,
