@@ -210,6 +210,27 @@ def definitions_that_are_not_there():
                 yield f"{row.place()}: no definition {name} for {' or '.join(sorted(row.crates()))}"
 
 
+def fields_in(record, text):
+    """The fields of a record of a spec file."""
+    found = re.search(rf"^( *)pub record {re.escape(record)}\b.*(?:\n(?:\1 .*|))*", text, re.M)
+    return re.findall(r"^ *pub ([\w-]+) :", found[0], re.M) if found else []
+
+
+def is_defined(name, text):
+    return re.search(rf"\b(?:(?:abbrev|unfoldable) pub|pub (?:record|data)) {re.escape(name)}(?![\w-])", text)
+
+
+def fields_that_are_not_there():
+    """A name behind a colon in the column of definitions is a field of a record before the colon, or a definition of its own."""
+    for row in rows():
+        for heads, _, labels in (part.partition(": ") for part in row.definitions.split("; ")):
+            records = [(name, (common.ROOT / file).read_text()) for names, file in LINK.findall(heads) for name in NAME.findall(names)]
+            fields = {field for name, text in records for field in fields_in(name, text)}
+            for label in DEFINED.findall(LINK.sub("", labels)):
+                if label not in fields and not any(is_defined(label, text_of_specs(crate)) for crate in row.crates()):
+                    yield f"{row.place()}: no field {label} of {', '.join(name for name, _ in records)}"
+
+
 def has_clause(piece, label, heads):
     """Whether a label is of a piece: a clause of its contract; or the name of a function, where all of a type is cited."""
     is_cited_alone = any(name.split("::")[-1] == piece.name for name, _ in heads)

@@ -168,6 +168,7 @@ RULES = (
     promises.contracts_that_are_not_there,
     promises.clauses_that_are_not_there,
     promises.definitions_that_are_not_there,
+    promises.fields_that_are_not_there,
     promises.bodies_that_are_not_there,
     promises.edits_without_a_promise,
     promises.promises_without_a_wrong_body,
