@@ -2,18 +2,12 @@
 
 use crate::equal::equal;
 use puffin::data::Counted;
-use puffin::global_profiler::GlobalProfiler;
-use puffin::light::{
-    Place, Records, Rotation, RotationLimits, SaveCause, SaveError, Scopes, Thread, save,
-};
-use puffin::profile_view::FrameView;
-use puffin::thread_profiler::SystemClock;
-use puffin::{place, profile};
+use puffin::light::{Rotation, RotationLimits, SaveCause, SaveError, save};
+use puffin::profile_view::{FrameReader, FrameView};
 use std::fs::{File, Files};
 use std::process::Abort;
-use std::rt::Clock;
-use std::sync::Wait;
 use std::{fs, io};
+use tests_support::samples::FILE;
 
 /// Reads a file of frames.
 fn read_view(rt: &(impl Files + AllocGlobal + Abort), name: &str) -> FrameView {
@@ -21,30 +15,26 @@ fn read_view(rt: &(impl Files + AllocGlobal + Abort), name: &str) -> FrameView {
     FrameView::read(rt.alloc(), &mut Counted::new(file)).expect(rt, "a view")
 }
 
-/// A thread whose first frame lists one place.
-fn started<R: AllocGlobal + Clock + Abort + Copy>(
-    rt: R,
-) -> (Thread<SystemClock<R>, GlobalProfiler>, Place) {
-    let mut scopes = Scopes::new(rt.alloc()).expect(&rt, "scopes");
-    let step = place!(scopes, "step").expect(&rt, "a place");
-    let profiler = GlobalProfiler::new(rt.alloc());
-    let thread = Thread::start(rt, "main", profiler, &scopes).expect(&rt, "a thread");
-    (thread, step)
+/// The details of a packet: one scope, with an id.
+const DETAILS: [u8; 12] = *b"\x08\0\0\0\x01\x01\x07\0\x01f\0\0";
+
+/// Two frames, of which the first lists a scope.
+fn two_frames(rt: &(impl AllocGlobal + Abort)) -> FrameView {
+    let mut bytes = Vec::new(rt.alloc());
+    for part in &[&FILE[..74], &DETAILS, &FILE[79..]] {
+        bytes.extend_from_slice(part).expect(rt, "memory");
+    }
+    FrameView::read(rt.alloc(), &mut Counted::new(bytes.as_slice())).expect(rt, "a view")
 }
 
-/// A view of the last of two frames, of which the first listed a scope.
-fn last_of_two<R: AllocGlobal + Clock + Wait + Abort + Copy + Drop>(rt: R) -> FrameView {
-    let (mut thread, step) = started(rt);
+/// A view of the second of them, which knows the scope of the first.
+fn last_of_two(rt: &(impl AllocGlobal + Abort)) -> FrameView {
     let mut view = FrameView::new(rt.alloc());
     view.set_max_recent(1);
     view.set_max_slow(0);
-    for _ in 0..2 {
-        {
-            profile!(_step, thread, step);
-        }
-        let frame = thread.new_frame(&rt).expect(&rt, "a frame");
-        view.add_frame(frame.expect(&rt, "scopes"))
-            .expect(&rt, "a frame");
+    for frame in two_frames(rt).recent_frames() {
+        let frame = frame.clone().expect(rt, "memory");
+        view.add_frame(frame).expect(rt, "a frame");
     }
     view
 }
@@ -52,7 +42,7 @@ fn last_of_two<R: AllocGlobal + Clock + Wait + Abort + Copy + Drop>(rt: R) -> Fr
 #[test]
 fn a_saved_file_has_its_names(rt: HostRuntime) {
     let name = "names.puffin";
-    save(&rt, name, &last_of_two(rt)).expect(&rt, "a saved view");
+    save(&rt, name, &last_of_two(&rt)).expect(&rt, "a saved view");
     let found = read_view(&rt, name);
     equal(&rt, found.stats().frames(), 1);
     equal(&rt, found.scope_collection().scopes_by_id().len(), 1);
@@ -90,25 +80,25 @@ fn the_longest_name_is_saved(rt: HostRuntime) {
     fs::remove_file(&rt, name.as_str()).expect(&rt, "a file");
 }
 
-/// Writes so many frames to the files of a rotation. Returns how it ended.
-fn rotate<R: AllocGlobal + Clock + Files<File = File> + Wait + Abort + Copy + Drop>(
+/// Writes so many frames to the files of a rotation, the first of which lists a scope. Returns how it ended.
+fn rotate<R: AllocGlobal + Files<File = File> + Abort + Copy + Drop>(
     rt: R,
     prefix: &str,
     frames: usize,
 ) -> Option<io::ErrorKind> {
-    let (mut thread, step) = started(rt);
+    let view = two_frames(&rt);
     let limits = RotationLimits {
         max_frames: 2,
         max_files: 2,
         ..RotationLimits::default()
     };
     let mut files = Rotation::new(rt, prefix, limits).expect(&rt, "a folder");
-    for _ in 0..frames {
-        {
-            profile!(_step, thread, step);
-        }
-        let frame = thread.new_frame(&rt).expect(&rt, "a frame");
-        if !files.write(&frame.expect(&rt, "scopes")) {
+    for number in 0..frames {
+        let frame = view
+            .recent_frames()
+            .nth(number.min(1))
+            .expect(&rt, "a frame");
+        if !files.write(frame) {
             break;
         }
     }
@@ -123,16 +113,19 @@ fn refusal(saved: std::result::Result<(), SaveError<'_>>) -> Option<io::ErrorKin
     }
 }
 
-/// Whether there is a file with this name, and how many frames and names it has.
+/// How many frames a file has, and how many names they list, or `None` if there is none.
 fn holds(rt: &(impl Files + AllocGlobal + Abort), name: &str) -> Option<(usize, usize)> {
-    if !fs::exists(rt, name).expect(rt, "a folder") {
-        return None;
+    let file = File::open(rt, name).ok()?;
+    let mut reader = FrameReader::new(rt.alloc(), Counted::new(file)).expect(rt, "a file");
+    let (mut frames, mut names) = (0_usize, 0_usize);
+    for _ in 0..10 {
+        let Some(frame) = reader.next().expect(rt, "a frame") else {
+            break;
+        };
+        frames = frames.saturating_add(1);
+        names = names.saturating_add(frame.scope_delta.len());
     }
-    let view = read_view(rt, name);
-    Some((
-        view.stats().frames(),
-        view.scope_collection().scopes_by_id().len(),
-    ))
+    Some((frames, names))
 }
 
 #[test]

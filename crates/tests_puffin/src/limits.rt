@@ -6,7 +6,6 @@ use puffin::global_profiler::{Collector, GlobalProfiler};
 use puffin::light::{
     Frames, Outcome, Place, Program, Records, Scopes, Settings, Thread, ThreadCounts, profiled,
 };
-use puffin::thread_profiler::NsSource;
 use puffin::{Error, place, profile};
 use std::alloc::Global;
 use std::io;
@@ -89,20 +88,11 @@ fn a_scope_above_a_thread_s_limit_is_counted(rt: HostRuntime) {
     equal(&rt, thread.reporter().totals().reported, 2);
 }
 
-/// Opens so many scopes, one after the other, and takes a frame. Returns how many scopes it has, how many wait, and how many were
-/// refused so far.
-fn round<C: NsSource>(
-    rt: &(impl Wait + Abort),
-    thread: &mut Thread<C, GlobalProfiler>,
-    step: Place,
-    times: usize,
-) -> (usize, usize, u64) {
+/// Opens so many scopes, one after the other.
+fn steps<T: Records>(thread: &mut T, step: Place, times: usize) {
     for _ in 0..times {
         profile!(_step, thread, step);
     }
-    let frame = thread.new_frame(rt).expect(rt, "a frame");
-    let scopes = frame.map_or(0, |frame| frame.meta().num_scopes);
-    (scopes, thread.num_closed(), thread.num_refused())
 }
 
 #[test]
@@ -114,11 +104,14 @@ fn a_thread_that_has_met_a_limit_records_again(rt: HostRuntime) {
     thread.set_max_bytes(20 * 31);
     thread.reporter().set_max_pending(100);
     // Three are pending, 15 wait, and the others are refused.
-    equal(&rt, round(&rt, &mut thread, step, 100), (3, 15, 82));
-    // What waits is reported before the scope begins, which then waits itself.
-    equal(&rt, round(&rt, &mut thread, step, 1), (15, 1, 82));
-    equal(&rt, round(&rt, &mut thread, step, 1), (2, 0, 82));
-    equal(&rt, thread.num_open(), 0);
+    for (times, pending, waiting) in &[(100, 3, 15), (1, 15, 1), (1, 2, 0)] {
+        steps(&mut thread, step, *times);
+        equal(&rt, thread.reporter().totals().pending, *pending);
+        equal(&rt, thread.num_closed(), *waiting);
+        let frame = thread.new_frame(&rt).expect(&rt, "a frame");
+        equal(&rt, frame.is_some(), true);
+    }
+    equal(&rt, (thread.num_refused(), thread.num_open()), (82, 0));
 }
 
 /// A thread that begins a thousand scopes, one after the other, and a leader that takes no frame.

@@ -323,16 +323,28 @@ fn each_file_has_the_details_of_all_frames_so_far(rt: HostRuntime) {
     assert!(rt; files.get(1) == Some(&second));
 }
 
+/// Writes a frame to a file of its own. Returns why it is refused, and the file.
+fn written_alone(
+    alloc: Global,
+    frame: &FrameData,
+) -> std::result::Result<(Option<FileError>, Vec<u8>), FileError> {
+    let mut writer = FrameWriter::new(alloc, Counted::new(Vec::new(alloc)))?;
+    let refused = writer.write(frame).err();
+    Ok((refused, writer.into_drain().into_inner()))
+}
+
+/// The frame of a packet whose details have no id.
+fn without_ids(rt: &(impl AllocGlobal + Abort)) -> FrameData {
+    let no_id = b"\x07\0\0\0\x01\0\0\x01f\0\0";
+    let packet = bytes_of(rt.alloc(), &[&FILE[4..74], no_id]).expect(rt, "memory");
+    let frame = FrameData::read_next(rt.alloc(), &mut Counted::new(packet.as_slice())).ok();
+    frame.flatten().expect(rt, "a frame")
+}
+
 #[test]
 fn a_frame_whose_details_have_no_id_is_not_written(rt: HostRuntime) {
-    let packet = bytes_of(rt.alloc(), &[&FILE[4..74], b"\x07\0\0\0\x01\0\0\x01f\0\0"]).expect(
-        &rt, "memory",
-    );
-    let frame = FrameData::read_next(rt.alloc(), &mut Counted::new(packet.as_slice())).ok();
-    let frame = frame.flatten().expect(&rt, "a frame");
-    let mut bytes = Vec::new(rt.alloc());
-    let mut writer = FrameWriter::new(rt.alloc(), Counted::new(&mut bytes)).expect(&rt, "a file");
-    let refused = writer.write(&frame).err();
+    let frame = without_ids(&rt);
+    let (refused, bytes) = written_alone(rt.alloc(), &frame).expect(&rt, "a file");
     assert!(rt; refused == Some(FileError::Refused(Error::MissingId)));
     assert!(rt; bytes.as_slice() == b"PUF0".as_slice());
 }
