@@ -9,6 +9,7 @@ mod details;
 mod ends;
 #[cfg(test)]
 mod equal;
+#[cfg(test)]
 mod files;
 #[cfg(test)]
 mod global_profiler;
