@@ -136,7 +136,8 @@ static void shared_places(puffin::Session &session) {
     is("zones of shared places", scopes_of_frame(session), 80);
     CALL(session.save(folder + "/zones.puffin"));
     read_file(folder + "/zones.puffin");
-    is("shared places", count_of("shared place"), 20);
+    /* in their own frame, and in the file's first, which lists all */
+    is("shared places", count_of("shared place"), 2 * 20);
 }
 
 static int evaluated;
