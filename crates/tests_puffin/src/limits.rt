@@ -6,6 +6,7 @@ use puffin::global_profiler::{Collector, GlobalProfiler};
 use puffin::light::{
     Frames, Outcome, Place, Program, Records, Scopes, Settings, Thread, ThreadCounts, profiled,
 };
+use puffin::thread_profiler::NsSource;
 use puffin::{Error, place, profile};
 use std::alloc::Global;
 use std::io;
@@ -95,6 +96,11 @@ fn steps<T: Records>(thread: &mut T, step: Place, times: usize) {
     }
 }
 
+/// How many scopes of a thread are pending, and how many wait with it.
+fn held<C: NsSource>(thread: &mut Thread<C, GlobalProfiler>) -> (u64, usize) {
+    (thread.reporter().totals().pending, thread.num_closed())
+}
+
 #[test]
 fn a_thread_that_has_met_a_limit_records_again(rt: HostRuntime) {
     let (scopes, step) = registered(rt.alloc()).expect(&rt, "a place");
@@ -102,16 +108,18 @@ fn a_thread_that_has_met_a_limit_records_again(rt: HostRuntime) {
         &rt, "a thread",
     );
     thread.set_max_bytes(20 * 31);
-    thread.reporter().set_max_pending(100);
-    // Three are pending, 15 wait, and the others are refused.
-    for (times, pending, waiting) in &[(100, 3, 15), (1, 15, 1), (1, 2, 0)] {
-        steps(&mut thread, step, *times);
-        equal(&rt, thread.reporter().totals().pending, *pending);
-        equal(&rt, thread.num_closed(), *waiting);
-        let frame = thread.new_frame(&rt).expect(&rt, "a frame");
-        equal(&rt, frame.is_some(), true);
-    }
-    equal(&rt, (thread.num_refused(), thread.num_open()), (82, 0));
+    thread.reporter().set_max_pending(500);
+    // 16 are pending, 15 wait, and the others are refused.
+    steps(&mut thread, step, 100);
+    equal(&rt, held(&mut thread), (16, 15));
+    equal(&rt, thread.num_refused(), 69);
+    let first = thread.new_frame(&rt).expect(&rt, "a frame").is_some();
+    // What waits is reported before the next scope begins.
+    steps(&mut thread, step, 1);
+    equal(&rt, held(&mut thread), (16, 0));
+    let second = thread.new_frame(&rt).expect(&rt, "a frame").is_some();
+    equal(&rt, (first, second), (true, true));
+    equal(&rt, (thread.num_refused(), thread.num_open()), (69, 0));
 }
 
 /// A thread that begins a thousand scopes, one after the other, and a leader that takes no frame.
