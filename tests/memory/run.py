@@ -60,15 +60,16 @@ def faults(refusing, words, given, ways):
 
 
 def thread_faults(refusing, words):
-    """The same of three threads: each run has all parts done, or none. Some run lost a scope, and some a frame in the view."""
+    """The same of three threads: each run has all parts done, or none. None lost a scope, since a beginning that is refused is tried
+    once more; some lost a frame in the view."""
     usual = refusing.run(words)
     if not ends.is_all_done(usual):
         return 0, [f"with memory: {usual}"]
     runs = refusing.each(words, b"", usual)
     found = [f"at {number}: {it}" for number, it in runs.items() if not ends.is_all_reported(it) and not ends.is_not_begun(it)]
-    for lost in ("refused", "missed"):
-        if not any(ends.numbers(it).get(lost) for it in runs.values()):
-            found.append(f"whichever allocation was refused, nothing was {lost}")
+    found += [f"at {number}: a scope is lost" for number, it in runs.items() if ends.numbers(it).get("refused")]
+    if not any(ends.numbers(it).get("missed") for it in runs.values()):
+        found.append("whichever allocation was refused, no frame was missed")
     return usual.allocations, found
 
 
