@@ -90,9 +90,9 @@ fn a_scope_above_a_thread_s_limit_is_counted(rt: HostRuntime) {
 }
 
 /// Opens so many scopes, one after the other.
-fn steps<T: Records>(thread: &mut T, step: Place, times: usize) {
+fn steps<T: Records>(thread: &mut T, step: &Place, times: usize) {
     for _ in 0..times {
-        profile!(_step, thread, step);
+        profile!(_step, thread, *step);
     }
 }
 
@@ -110,12 +110,12 @@ fn a_thread_that_has_met_a_limit_records_again(rt: HostRuntime) {
     thread.set_max_bytes(20 * 31);
     thread.reporter().set_max_pending(500);
     // 16 are pending, 15 wait, and the others are refused.
-    steps(&mut thread, step, 100);
+    steps(&mut thread, &step, 100);
     equal(&rt, held(&mut thread), (16, 15));
     equal(&rt, thread.num_refused(), 69);
     let first = thread.new_frame(&rt).expect(&rt, "a frame").is_some();
     // What waits is reported before the next scope begins.
-    steps(&mut thread, step, 1);
+    steps(&mut thread, &step, 1);
     equal(&rt, held(&mut thread), (16, 0));
     let second = thread.new_frame(&rt).expect(&rt, "a frame").is_some();
     equal(&rt, (first, second), (true, true));
