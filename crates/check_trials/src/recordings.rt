@@ -3,7 +3,7 @@
 use crate::again;
 use crate::refusal::Refusal;
 use puffin::profile_view::FrameView;
-use puffin_data::FileError;
+use puffin_data::{Error, FileError};
 use puffin_data::data::{Counted, ScopeId};
 use puffin_replay::replay::{Command, Reply, record};
 use puffin_threads::thread_profiler::Closed;
@@ -51,7 +51,19 @@ fn is_whole(reply: &Reply) -> bool {
     }
 }
 
-/// Records the commands once. Returns whether all of them succeeded.
+/// Returns whether a command has one of the replies that it can have if memory is refused: the refusal itself, a report that is
+/// kept for it, or what follows from one of these, an end without a begin and a frame without scopes.
+fn is_without_memory(reply: &Reply) -> bool {
+    match reply {
+        Reply::Refused(cause) => matches!(cause, Error::Memory | Error::MismatchedEnd),
+        Reply::Ended(closed) => *closed == Closed::Kept(Error::Memory),
+        Reply::Frame(emitted) => emitted.frame.is_none(),
+        _ => false,
+    }
+}
+
+/// Records the commands once. Returns whether all of them succeeded. Fails with `BadScopes` if one was refused for another cause
+/// than memory.
 fn record_into(
     alloc: Global,
     commands: &[Command],
@@ -61,6 +73,9 @@ fn record_into(
     names.push(String::from_str(alloc, "main")?)?;
     let mut view = FrameView::new(alloc);
     let replies = record(alloc, names, commands, &mut view, &mut Counted::new(bytes))?;
+    if !replies.iter().all(|it| is_whole(it) || is_without_memory(it)) {
+        return Err(FileError::BadScopes);
+    }
     Ok(replies.len() == 3 && replies.iter().all(is_whole))
 }
 

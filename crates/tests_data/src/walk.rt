@@ -185,3 +185,24 @@ fn other_bytes_are_refused(rt: HostRuntime) {
         refuses(&rt, rt.alloc(), what, bytes, *fault).expect(&rt, "memory");
     }
 }
+
+/// Checks that a walk of `bytes` makes this number of readings, and how many it may make: one for each 31 bytes, and one.
+fn stays_within(rt: &impl Abort, alloc: Global, bytes: &[u8], (made, most): (u64, u64)) {
+    let stream = stream_of(alloc, bytes).expect(rt, "memory");
+    let (_counts, tries) = walked(alloc, &stream);
+    equal(rt, (tries, bytes.len() as u64 / 31 + 1), (made, most));
+    assert!(rt; tries <= most);
+}
+
+#[test]
+fn readings_stay_within_their_bound(rt: HostRuntime) {
+    for (what, bytes, _fault) in &FAULTY {
+        match *what {
+            "past its parent" => stays_within(&rt, rt.alloc(), bytes, (2, 3)),
+            "a scope and a beginning" => stays_within(&rt, rt.alloc(), bytes, (2, 2)),
+            _ => {}
+        }
+    }
+    let deep = nest(rt.alloc(), 100_000).expect(&rt, "memory");
+    stays_within(&rt, rt.alloc(), &deep, (100_000, 100_001));
+}

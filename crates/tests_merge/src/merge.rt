@@ -10,7 +10,8 @@ use std::alloc::Global;
 use std::process::Abort;
 use std::sync::Arc;
 use tests_support::frames::{one_stream, packet_thread};
-use tests_support::streams::{end, id};
+use tests_support::samples::ONE_SCOPE;
+use tests_support::streams::{end, id, stream_of};
 use tests_support::threads::thread_info;
 
 pub(crate) type Frames = Vec<Arc<UnpackedFrameData>>;
@@ -275,13 +276,22 @@ fn texts_and_ids_tell_siblings_apart(rt: HostRuntime) {
     are_apart(&rt, &merged(alloc, &frames).expect(&rt, "scopes"));
 }
 
-/// Three frames of one scope each.
+/// Three frames of the same scope with a text.
 fn three(alloc: Global) -> Result<Frames> {
     let mut frames = Vec::new(alloc);
     for _ in 0..3 {
-        frames.push(one_scope(alloc, 1, 100, 300)?)?;
+        frames.push(frame(alloc, stream_of(alloc, &ONE_SCOPE)?)?)?;
     }
     Ok(frames)
+}
+
+/// How many readings merging these frames may make: for each stream one for each 31 bytes, and one.
+fn most_tries(frames: &Frames) -> u128 {
+    let mut most = 0u128;
+    for frame in frames {
+        most += frame.meta.num_bytes as u128 / 31 + 1;
+    }
+    most
 }
 
 #[test]
@@ -293,7 +303,7 @@ fn tries_are_counted(rt: HostRuntime) {
     let mut tries = 0;
     let merged = merge_scopes_counted(alloc, &collection, &frames, &thread, &mut tries);
     equal(&rt, merged.expect(&rt, "scopes").len(), 1);
-    equal(&rt, tries, 3);
+    equal(&rt, (tries, most_tries(&frames)), (3, 6));
 }
 
 /// A scope's copy is equal to it, and so is what it owns of its texts.

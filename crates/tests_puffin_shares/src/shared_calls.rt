@@ -12,7 +12,7 @@ use puffin::global_profiler::{
     Event, GlobalFrameView, GlobalProfiler, History, NewLog, Share, SharedProfiler, SharedReporter,
 };
 use puffin::scope_details::{ScopeDetails, ScopeIds};
-use puffin::thread_profiler::{ScriptClock, ThreadProfiler};
+use puffin::thread_profiler::{Closed, ScriptClock, ThreadProfiler};
 use puffin::{ProfilerScope, Result};
 use std::alloc::Global;
 use std::borrow::CowStr;
@@ -20,7 +20,7 @@ use std::marker::Brand;
 use std::process::Abort;
 use std::sync::ledger::{Blank, Ledger};
 use std::sync::{Arc, Wait};
-use tests_support::frames::lists;
+use tests_support::frames::{lists, packet_frame};
 use tests_support::samples::PACKET;
 use tests_support::streams::{bytes_of, id};
 use tests_support::threads::main_thread;
@@ -36,6 +36,8 @@ enum Call {
     Snapshot,
     /// A frame is added for a view.
     AddFrame,
+    /// A scope ends within another one.
+    InnerEnd,
 }
 
 /// Registers a function, whose scope closes as its guard goes.
@@ -113,13 +115,14 @@ fn packed(rt: &impl Abort, alloc: Global) -> FrameData {
     read.expect(rt, "no fault").expect(rt, "a frame")
 }
 
-/// The packet's frame is added, and no sink refuses it.
+/// A frame is added, and no sink refuses it.
 fn is_added<L: Ledger + History, M: Ledger, R: Wait + Abort>(
     rt: &R,
     alloc: Global,
     profiler: &SharedProfiler<L, M>,
+    frame: FrameData,
 ) {
-    let frame = Arc::new(alloc, packed(rt, alloc)).expect(rt, "memory");
+    let frame = Arc::new(alloc, frame).expect(rt, "memory");
     equal(rt, profiler.add_frame(rt, frame).expect(rt, "a frame"), 0);
 }
 
@@ -142,9 +145,9 @@ fn added_is_handed_on<
     M: Ledger + Send + Sync + 'static,
     R: Wait + Abort + Copy + Drop,
 >(rt: R, alloc: Global, profiler: &SharedProfiler<L, M>, share: Share<L, M>) {
-    is_added(&rt, alloc, profiler);
+    is_added(&rt, alloc, profiler, packet_frame(alloc, 0).expect(&rt, "a frame"));
     let view = GlobalFrameView::attach(&rt, alloc, profiler).expect(&rt, "a view");
-    is_added(&rt, alloc, profiler);
+    is_added(&rt, alloc, profiler, packed(&rt, alloc));
     is_viewed(&rt, &view);
     profiler.emit_scope_snapshot(&rt);
     let mut share = shares::reported(
@@ -158,6 +161,26 @@ fn added_is_handed_on<
     );
     let frame = next_frame(&rt, profiler, &mut share);
     assert!(rt; lists(&frame, &[(1, "my-scope")]));
+}
+
+/// Ends a scope within another one while this thread holds the lock, and then the other one.
+fn inner_ends_alone<L: Ledger + History, M: Ledger, R: Wait + Abort + Copy + Drop>(
+    rt: R,
+    alloc: Global,
+    profiler: &SharedProfiler<L, M>,
+    share: Share<L, M>,
+) {
+    let mut reporter = SharedReporter::new(rt, profiler.clone().expect(&rt, "memory"), share);
+    let mut thread = main_thread(alloc, 5).expect(&rt, "memory");
+    let id = id(1).expect(&rt, "an id");
+    let outer = thread.begin_scope(id, "").expect(&rt, "a scope");
+    let inner = thread.begin_scope(id, "").expect(&rt, "a scope");
+    let held = profiler.lock(&rt);
+    let ended = reporter.end_scope(&mut thread, inner);
+    drop(held);
+    equal(&rt, ended, Ok(Closed::Inner));
+    let ended = reporter.end_scope(&mut thread, outer);
+    equal(&rt, ended, Ok(Closed::Reported));
 }
 
 /// A new profiler is called so.
@@ -178,6 +201,7 @@ fn called<
         Call::ReportClosed => closed_is_reported(rt, alloc, &profiler, share),
         Call::Snapshot => snapshot_tells_all(rt, alloc, &profiler, share),
         Call::AddFrame => added_is_handed_on(rt, alloc, &profiler, share),
+        Call::InnerEnd => inner_ends_alone(rt, alloc, &profiler, share),
     }
 }
 
@@ -214,6 +238,19 @@ fn an_added_frame_is_handed_on(rt: HostRuntime) {
         rt,
         rt.alloc(),
         Call::AddFrame,
+        reported,
+        handed,
+        NewLog::new(),
+    );
+}
+
+#[test]
+fn an_inner_scope_ends_while_the_lock_is_held(rt: HostRuntime) {
+    let (reported, handed) = (Blank::new(1), Blank::new(1));
+    called::<Brand, Brand, HostRuntime>(
+        rt,
+        rt.alloc(),
+        Call::InnerEnd,
         reported,
         handed,
         NewLog::new(),

@@ -15,15 +15,17 @@ fn registered(reply: Option<&Reply>) -> Option<u32> {
     }
 }
 
-/// A reply is a frame with these numbers of scopes and bytes that lists scopes with exactly these names.
+/// A reply is a frame with this index and these numbers of scopes and bytes that lists scopes with exactly these names.
 fn tells_of(
     rt: &impl Abort,
     reply: Option<&Reply>,
+    index: u64,
     counts: (usize, usize),
     names: &[&str],
     full_delta: bool,
 ) {
     let frame = frame_in(reply).expect(rt, "a frame");
+    equal(rt, frame.frame_index(), index);
     equal(
         rt,
         (frame.meta().num_scopes, frame.meta().num_bytes),
@@ -79,7 +81,7 @@ fn a_function_comes_with_the_first_frame_after_its_report(rt: HostRuntime) {
     let replies = replies_to_each(&rt, &["a"], ONE_FUNCTION);
     equal(&rt, registered(replies.get(0)), Some(1));
     equal(&rt, is_no_frame(replies.get(1)), true);
-    tells_of(&rt, replies.get(4), (1, 31), &["f"], false);
+    tells_of(&rt, replies.get(4), 1, (1, 31), &["f"], false);
 }
 
 /// A function whose scopes are in frames before and after a snapshot.
@@ -104,9 +106,9 @@ const SNAPSHOTS: &[Step] = &[
 fn a_snapshot_tells_of_what_was_known_before(rt: HostRuntime) {
     let replies = replies_to_each(&rt, &["a"], SNAPSHOTS);
     equal(&rt, matches!(replies.get(4), Some(Reply::Snapshot)), true);
-    tells_of(&rt, replies.get(5), (1, 31), &["f"], true);
-    tells_of(&rt, replies.get(9), (1, 31), &["f"], true);
-    tells_of(&rt, replies.get(12), (1, 31), &[], false);
+    tells_of(&rt, replies.get(5), 1, (1, 31), &["f"], true);
+    tells_of(&rt, replies.get(9), 2, (1, 31), &["f"], true);
+    tells_of(&rt, replies.get(12), 3, (1, 31), &[], false);
 }
 
 /// A function and a scope in it, which are both in each of two frames.
@@ -129,8 +131,8 @@ const SCOPE_IN_FUNCTION: &[Step] = &[
 fn a_scope_in_a_function_twice(rt: HostRuntime) {
     let replies = replies_to_each(&rt, &["a"], SCOPE_IN_FUNCTION);
     equal(&rt, registered(replies.get(1)), Some(2));
-    tells_of(&rt, replies.get(6), (2, 62), &["f", "part"], false);
-    tells_of(&rt, replies.get(11), (2, 62), &[], false);
+    tells_of(&rt, replies.get(6), 0, (2, 62), &["f", "part"], false);
+    tells_of(&rt, replies.get(11), 1, (2, 62), &[], false);
 }
 
 /// A function of a thread that isn't there, and a frame of one that is.
@@ -145,5 +147,5 @@ const NO_THREAD: &[Step] = &[
 fn a_thread_that_is_not_there_registers_nothing(rt: HostRuntime) {
     let replies = replies_to_each(&rt, &["a"], NO_THREAD);
     equal(&rt, refused(replies.get(0)), Some(Error::NoThread));
-    tells_of(&rt, replies.get(3), (1, 31), &[], false);
+    tells_of(&rt, replies.get(3), 0, (1, 31), &[], false);
 }

@@ -48,6 +48,12 @@ fn is_frame(
     equal(rt, (info.stream.len(), info.range_ns), (bytes, range));
 }
 
+/// A reply is a frame of this duration.
+fn lasts(rt: &impl Abort, reply: Option<&Reply>, duration: NanoSecond) {
+    let frame = frame_in(reply).expect(rt, "a frame");
+    equal(rt, frame.duration_ns(), duration);
+}
+
 /// A reply is a frame whose only stream has these bytes.
 fn holds(rt: &impl Abort, reply: Option<&Reply>, bytes: &[u8]) {
     let (_, info) = only_stream(frame_in(reply).expect(rt, "a frame")).expect(rt, "one stream");
@@ -160,6 +166,7 @@ fn is_kept_and_reported(rt: &impl Abort, replies: &[Reply]) {
 fn are_frames_of_one_and_both(rt: &impl Abort, replies: &[Reply]) {
     let earliest = (NanoSecond::MIN, NanoSecond::MIN);
     is_frame(rt, replies.get(3), 0, (None, "u"), 31, earliest);
+    lasts(rt, replies.get(3), 0);
     holds(rt, replies.get(3), EARLIEST);
     is_frame(rt, replies.get(6), 1, (Some(100), "a"), 62, (100, 400));
     holds(rt, replies.get(6), BOTH);
@@ -180,6 +187,7 @@ fn a_frame_without_scopes_has_a_number(rt: HostRuntime) {
     let replies = replies_to_each(&rt, &["a"], NO_SCOPE_AND_ONE);
     equal(&rt, is_no_frame(replies.get(0)), true);
     is_frame(&rt, replies.get(3), 1, (Some(5), "a"), 31, (5, 5));
+    lasts(&rt, replies.get(3), 0);
 }
 
 /// A scope that is ended before the one in it.
