@@ -110,7 +110,8 @@ module _ (o : Opening) (done : List Action) where
       SpellsFrame (arc_value f) (index_after o done) (due o done)
       × TellsScopes (arc_value f) (known_after o done) (due_details o done) (is_wanted o done))
 
-  -- After these actions a command may get this reply, with these details becoming known; no other pair is possible. `Memory` means that memory was really refused.
+  -- After these actions a command may get this reply, with these details becoming known; no other pair is possible. A session sets no
+  -- limits of bytes, so `Memory` means that memory ran out.
   abbrev pub MayReply : Command → Reply → List Details → Type 0
   MayReply (Begin t at id text) (reply.Began offset) learnt =
       HasThread t
