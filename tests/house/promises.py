@@ -21,6 +21,8 @@ PAGE = common.ROOT / "docs/PROOFS.md"
 TIES = common.ROOT / "tests/wrong-bodies/promises.txt"
 TESTED = common.ROOT / "tests/must-fail/README.md"
 HEAD = "promise | contract | definition"
+# The words before the changes of an edit of crates/*/wrong.
+HEADS = "function", "proved", "gate"
 LINK = re.compile(r"\[([^\]]*)\]\(\.\./([^)#\s]+)\)")
 NAME = re.compile(r"`([\w:]+)`")
 DEFINED = re.compile(r"`([\w:./-]+)`")
@@ -298,7 +300,7 @@ def promises_without_a_wrong_body():
 def changed_by(path):
     """The functions that an edit names, and those in which it changes something; or the constants and types, if it changes
     none. One that changes definitions alone has its function in its name."""
-    edit, folder = common.parsed(path, ("function", "proved")), path.parents[1]
+    edit, folder = common.parsed(path, HEADS), path.parents[1]
     own = pieces_of_crates([folder.name])
     found = {it for name in edit.head("function") for it in named(name, own)}
     for file, old, _ in edit.changes:

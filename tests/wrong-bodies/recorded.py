@@ -1,6 +1,9 @@
-"""Reads the verdicts from outputs of checks that are kept in `recorded`, and compares them with those that they must give.
+"""Looks at the runner of wrong bodies without a prover.
 
     python3 -m tests.wrong-bodies.recorded
+
+It reads the verdicts from outputs of checks that are kept in `recorded`, and compares them with those that they must give; it
+looks whether a refusal is forgotten once a file changes that it was read from, and whether the gate tries what it should.
 
 NAME.edit is a wrong body of the crate `heaps`, of which `recorded` has a source file, a definition and a proof, each with `.txt`
 after its name, since `rt ci` wants no source outside of crates; NAME.said is what a check of the body prints. A line `ends` in
@@ -13,7 +16,8 @@ import sys
 import tempfile
 
 from .. import common
-from .run import parsed, texts_of
+from .kept import sum_of_crate
+from .run import parsed, texts_of, wrong_bodies
 from .verdicts import is_judged, judged
 
 FOLDER = pathlib.Path(__file__).resolve().parent / "recorded"
@@ -28,6 +32,23 @@ def copy_sources(to):
         shutil.copy(path, copy)
 
 
+def not_read_again(crate):
+    """The files of a crate that change no sum under which a refusal is kept."""
+    known = sum_of_crate(crate, "")
+    for path in sorted(it for it in crate.rglob("*") if it.is_file()):
+        text = path.read_text()
+        path.write_text(f"{text} ")
+        if sum_of_crate(crate, "") == known:
+            yield str(path.relative_to(crate))
+        path.write_text(text)
+
+
+def not_in_the_gate():
+    """The wrong bodies with a line `gate` that the gate leaves out, or that it tries without one."""
+    with_line = {it.stem for it in common.ROOT.glob("crates/*/wrong/*.edit") if "\ngate: " in it.read_text()}
+    return sorted(with_line ^ {body.name for _, bodies in wrong_bodies(["--gate"]) for body in bodies})
+
+
 def main():
     count = common.Count()
     with tempfile.TemporaryDirectory() as name:
@@ -38,6 +59,8 @@ def main():
             verdict = judged(body, CRATE, said, texts_of(crate)) if is_judged(said) else "no end of a check"
             is_well = count.add(verdict == body.ends)
             print(f"recorded {path.stem} ... {'ok' if is_well else f'{verdict} in place of {body.ends}'}")
+        for what, wrong in ("forgets", list(not_read_again(crate))), ("gate", not_in_the_gate()):
+            print(f"recorded {what} ... {'ok' if count.add(not wrong) else f'wrong: {chr(32).join(wrong)}'}")
     return count.end()
 
 

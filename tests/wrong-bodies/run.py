@@ -1,12 +1,13 @@
 """Tries the wrong bodies of crates/*/wrong: of each, the prover must refuse the function that it changes.
 
     python3 -m tests.wrong-bodies.run [CRATE[/WORD]..]
+    python3 -m tests.wrong-bodies.run --gate [CRATE[/WORD]..]
     python3 -m tests.wrong-bodies.run --shown
 
-With a word it tries those of the crate whose names have it.
+With a word it tries those of the crate whose names have it, and with --gate only those with a line `gate`.
 
-README.md says what a wrong body looks like, how several are tried at once, and what --shown tries. The last line is
-'N passed, M failed'.
+README.md says what a wrong body looks like, how several are tried at once, what is kept of a run, and what --shown tries. The
+last line is 'N passed, M failed'.
 """
 
 import concurrent.futures
@@ -20,6 +21,7 @@ import tempfile
 import time
 
 from .. import common
+from .kept import Kept
 from .verdicts import BAD, NOT_LOOKED_AT, REFUSED, UNKNOWN, UNSURE
 from .verdicts import WrongBody, changes_a_shape, is_judged, judged, wrong_below
 
@@ -37,7 +39,7 @@ def texts_of(folder):
 def parsed(path, folder):
     """The wrong body that a file spells, of the crate in a folder. Raises a ValueError if it names no function, or if it changes
     code with a definition, and names no function that stays proved."""
-    edit = common.parsed(path, ("function", "proved", "ends"))
+    edit = common.parsed(path, ("function", "proved", "gate", "ends"))
     functions, proved, ends = map(edit.head, ("function", "proved", "ends"))
     if not functions or not edit.changes:
         raise ValueError(f"{path.name}: it names no function, or changes nothing")
@@ -49,7 +51,7 @@ def parsed(path, folder):
         # (it will be told as a bad edit)
         made = ()
     is_of_shape = any(file.endswith(".rt") and changes_a_shape((folder / file).read_text(), text) for file, text in made)
-    return WrongBody(edit.name, functions, edit.changes, is_of_shape, *(ends or (REFUSED,)), proved)
+    return WrongBody(edit.name, functions, edit.changes, is_of_shape, *(ends or (REFUSED,)), proved, bool(edit.head("gate")))
 
 
 class Copy:
@@ -167,12 +169,18 @@ def has_libraries(crates, folder):
 def tried(crate, bodies, below):
     """The lines on a crate's wrong bodies, and of each whether it ended as it must."""
     begun = time.monotonic()
+    earlier = Kept(crate, below)
+    ended = {body: (REFUSED, "") for body in bodies if earlier.was_refused(body)}
+    left = [body for body in bodies if body not in ended]
     with tempfile.TemporaryDirectory() as folder:
-        ended = Tries(Copy(crate, folder, below), bodies).run()
+        ended |= Tries(Copy(crate, folder, below), left).run()
+    for body in left:
+        if ended[body] == (REFUSED, ""):
+            earlier.keep(body)
     lines = [f"{crate}/{body.name}: {verdict}{': ' if why else ''}{why}" for body, (verdict, why) in ended.items()]
     took = time.monotonic() - begun
     are_well = [verdict == body.ends for body, (verdict, _) in ended.items()]
-    return [*sorted(lines), f"{crate}: {len(bodies)} tried in {took:.0f} seconds"], are_well
+    return [*sorted(lines), f"{crate}: {len(left)} tried in {took:.0f} seconds, and {len(bodies) - len(left)} earlier"], are_well
 
 
 def wrong_of(crate):
@@ -185,15 +193,19 @@ def bodies_of(crate, paths):
 
 
 def wrong_bodies(words):
-    """Crates with their wrong bodies, the most first: those that are named, or all with those that are shown."""
+    """Crates with their wrong bodies, the most first: those that are named, or all; with those that are shown, or, behind --gate,
+    only those that the gate tries."""
     shown = [("puffin_data", bodies_of("puffin_data", sorted(HERE.glob("shown/*.edit"))))]
     if words == ["--shown"]:
         return shown
+    of_gate, words = words[:1] == ["--gate"], [it for it in words if it != "--gate"]
     found = []
     for word in words or [it for it in common.crates() if any(wrong_of(it))]:
         crate, _, part = word.partition("/")
-        found.append((crate, bodies_of(crate, [it for it in wrong_of(crate) if part in it.name])))
-    return sorted(found, key=lambda it: -len(it[1])) + ([] if words else shown)
+        bodies = bodies_of(crate, [it for it in wrong_of(crate) if part in it.name])
+        found.append((crate, [it for it in bodies if it.is_of_gate or not of_gate]))
+    named = [it for it in found if it[1] or words]
+    return sorted(named, key=lambda it: -len(it[1])) + ([] if words or of_gate else shown)
 
 
 def commit():

@@ -28,7 +28,7 @@ TYPE = re.compile(r"^\s*(?:pub(?:\(\w+\))? )?(?:struct|enum|union|type) (\w+)", 
 @dataclass(frozen=True)
 class WrongBody:
     """An edit, the functions of which one has to be refused, its changes (file, old and new text), whether these give a type
-    another shape, the result that it must have, and the functions that have to stay proved."""
+    another shape, the result that it must have, the functions that have to stay proved, and whether the gate tries it."""
 
     name: str
     functions: tuple
@@ -36,6 +36,7 @@ class WrongBody:
     is_of_shape: bool = False
     ends: str = REFUSED
     proved: tuple = ()
+    is_of_gate: bool = False
 
     def is_of_definitions(self):
         return any(file.startswith("specs/") for file, _, _ in self.changes)
