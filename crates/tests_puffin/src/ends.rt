@@ -24,7 +24,7 @@ impl Program for Failing {
             return Err(io::Error::from(io::ErrorKind::TimedOut));
         }
         profile!(whole, thread, self.step);
-        for _ in 0..300_000 {
+        for _ in 0..20_000 {
             profile!(_step, whole, self.step);
         }
         Ok(())
@@ -57,7 +57,7 @@ fn fails_at_once<R: AllocGlobal + Clock + Threads + Wait + Abort + Copy + Send +
     equal(
         &rt,
         (settled.reported, settled.handed, settled.pending),
-        (300_001, 300_001, 0),
+        (20_001, 20_001, 0),
     );
 }
 
