@@ -160,6 +160,7 @@ fn run_untaken<R: AllocGlobal + Clock + Print + Threads + Wait + Copy + Send + S
         reported,
         unreported,
         refused,
+        ..
     } = *outcome.threads.first().context("a thread")?;
     println!(rt; "{title}")?;
     println!(rt; "  reported {reported} unreported {unreported} refused {refused}")?;

@@ -41,7 +41,7 @@ fn main(rt: HostRuntime) -> anyhow::Result<()> {
     let mut thread = Thread::start(rt, "main", GlobalProfiler::new(rt.alloc()), &scopes)?;
     let mut heights = [1, 2, 3];
     let fallen = update(&mut thread, &places, &mut heights);
-    if let Some(frame) = thread.new_frame(&rt)? {
+    if let Some(frame) = thread.new_frame(&rt)?.frame {
         print(&rt, &frame)?;
         println!(rt; "fallen {fallen} scopes {}", frame.meta().num_scopes)?;
     }

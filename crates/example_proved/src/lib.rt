@@ -109,7 +109,7 @@ pub fn first_frame(
     let recorder = ThreadProfiler::new(alloc, name, clock);
     let mut thread = Thread::new(recorder, profiler, scopes.for_thread()?);
     turn(&mut thread, &places);
-    let frame = thread.new_frame(rt)?;
+    let frame = thread.new_frame(rt)?.frame;
     Ok((frame, thread.num_closed()))
 }
 
@@ -133,7 +133,7 @@ pub fn frames(
     let mut frames = Vec::new(alloc);
     for round in 0..turns {
         turn(&mut thread, &places);
-        frames.push(thread.new_frame(rt)?)?;
+        frames.push(thread.new_frame(rt)?.frame)?;
     }
     Ok((frames, thread.num_closed()))
 }

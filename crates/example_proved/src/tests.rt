@@ -65,7 +65,7 @@ fn each_step_is_a_scope(rt: HostRuntime) -> Tested {
     let profiler = GlobalProfiler::new(rt.alloc());
     let mut thread = Thread::new(recorder, profiler, scopes.for_thread()?);
     steps(&mut thread, &places, 4);
-    let frame = thread.new_frame(&rt)?;
+    let frame = thread.new_frame(&rt)?.frame;
     assert!(rt; frame.is_some_and(|frame| frame.meta().num_scopes == 4));
     Ok(())
 }

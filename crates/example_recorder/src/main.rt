@@ -78,7 +78,7 @@ fn record<R: AllocGlobal + Clock + Files + Print + Wait + Copy>(
     let mut thread = Thread::start(rt, "main", GlobalProfiler::new(rt.alloc()), &scopes)?;
     for _ in 0..frames {
         places.update(&mut thread);
-        if let Some(frame) = thread.new_frame(&rt)? {
+        if let Some(frame) = thread.new_frame(&rt)?.frame {
             writer.write(&frame)?;
         }
     }

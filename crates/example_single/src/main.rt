@@ -17,7 +17,7 @@ fn main(rt: HostRuntime) -> anyhow::Result<()> {
             profile!(whole, thread, update);
             profile!(_physics, whole, physics, "all bodies");
         }
-        if let Some(frame) = thread.new_frame(&rt)? {
+        if let Some(frame) = thread.new_frame(&rt)?.frame {
             let (index, scopes) = (frame.frame_index(), frame.meta().num_scopes);
             println!(rt; "frame {index} scopes {scopes}")?;
             view.add_frame(frame)?;

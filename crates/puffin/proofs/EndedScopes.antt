@@ -9,7 +9,7 @@ use Rattle.puffin_threads.specs.declared.thread_profiler.reporter.Closed.TheVari
 use Rattle.puffin_threads.specs.Thread.ThreadProfiler.{thread_of}
 use Rattle.puffin_threads.specs.Thread.ThreadKey.{ThreadKey}
 use Rattle.puffin_threads.specs.Thread.Calls as calls
-use Rattle.puffin_threads.specs.Thread.Calls.{num_ended, after_begin, after_end, after_handing}
+use Rattle.puffin_threads.specs.Thread.Calls.{num_ended, after_begin, after_end}
 use Rattle.puffin_threads.specs.Thread.Closing.{IsReportOf, GoesTo, Closes, Reports}
 use Rattle.puffin_threads.specs.Details.{Details}
 use Rattle.puffin_scopes.specs.declared.guard_state.GuardState.{GuardState}
@@ -18,7 +18,7 @@ use Rattle.puffin_scopes.specs.Guards.Ending.{innermost_of}
 use Rattle.puffin.specs.declared.light.place.Place.{Place}
 use Rattle.puffin.specs.declared.light.thread.Thread.{Thread}
 use Rattle.puffin.specs.LightThread.{profiler_of, reporter_of}
-use Rattle.puffin.specs.Guards.{BeginsThere, MakesRoom, BeginsAt, EndsIn}
+use Rattle.puffin.specs.Guards.{BeginsThere, BeginsAt, EndsIn}
 use Rattle.puffin.specs.Ended.{CountsReports, counted_by}
 use Rattle.puffin.proofs.lemmas.Waiting.{num_ended-append, num_ended-tour}
 

@@ -4,7 +4,6 @@ use mathlib.Core.Logic.{∥∥₁_elim, ∥∥₁_map, ∥∥₁_prop}
 use Rattle.std.specs.FinMap as fm
 use Rattle.std.specs.FinMap.{get-empty, get-insert}
 use Rattle.std.specs.Option.{unwrap_or}
-use Rattle.std.specs.List.{All, Contains}
 use Rattle.std.proofs.lemmas.Grind.{merely}
 use Rattle.std.proofs.lemmas.List.Elements.{All-contains}
 use Rattle.puffin_data.specs.Forest.{Forest, empty, node, append}

@@ -24,6 +24,7 @@ use Rattle.puffin.specs.Happenings.{Happening, reported}
 use Rattle.puffin.specs.Telling.{AllFit}
 use Rattle.puffin.specs.Recounted.{SpellInTurn}
 use Rattle.puffin.proofs.lemmas.Offsets.{offsets-open, offsets-tour, depth-tour}
+use Rattle.puffin.proofs.lemmas.StartedThreads.{HasStarted, stays_started}
 
 -- a thread at one time: how many places it knows, what it has recorded, and what its reporter has told
 pub record Stage : Type 0 where
@@ -287,30 +288,13 @@ reports_stay old new before after (Ok false) h = (ap (λ (t : calls.Thread). t.n
 reports_stay old new before after (Ok true) h = (ap (λ (t : calls.Thread). t.name) h.1, ap (λ (t : calls.Thread). t.first_start) h.1)
 reports_stay old new before after (Err e) h = (ap (λ (t : calls.Thread). t.name) h.0, ap (λ (t : calls.Thread). t.first_start) h.0)
 
--- what waits has begun
-abbrev pub Started : Stage → Type 0
-Started m = m.thread.first_start ≡ None → m.thread.word ≡ []
-
-none_behind : {A : Type 0} (xs ys : List A) → xs ++ ys ≡ [] → ys ≡ []
-none_behind [] ys is = is
-none_behind (x ∷ xs) ys is = absurd (let h : x ∷ (xs ++ ys) ≡ [] = is in cc)
-
 -- after code, what waits has begun, if it had before
-pub stays_started : (o m : Stage) (f : Forest) → Started o → Adds o m f → Started m
-stays_started o m f started adds none = at_depth (num_open o) refl
-  where
-    first : o.thread.first_start ≡ None
-    first = not_yet o m adds.started none
-
-    whole : o.thread.word ++ tour f ≡ []
-    whole = ap (λ (w : List Event). w ++ tour f) (started first) ∙ adds.none none
-
-    at_depth : (k : ℕ) → num_open o ≡ k → m.thread.word ≡ []
-    at_depth zero is = let p = adds.passed is in none_behind p.reported m.thread.word (p.kept ∙ whole)
-    at_depth (suc k) is = adds.word (omega (arith, is)) ∙ whole
+pub adds_started : (o m : Stage) (f : Forest) → HasStarted o.thread → Adds o m f → HasStarted m.thread
+adds_started o m f started adds =
+    stays_started o.thread m.thread (tour f) started (λ none. (not_yet o m adds.started none, adds.none none)) adds.word (λ shut. let p = adds.passed shut in (p.reported, p.kept))
 
 -- a report of what waits adds nothing
-pub adds_report : (m n : Stage) (result : Result Bool Error) → Started m → n.known ≡ m.known → Reports Accepts Refuses m.thread n.thread m.told n.told result → Adds m n empty
+pub adds_report : (m n : Stage) (result : Result Bool Error) → HasStarted m.thread → n.known ≡ m.known → Reports Accepts Refuses m.thread n.thread m.told n.told result → Adds m n empty
 adds_report m n result started known h = record {
   name = stay.0;
   form = form_stays m.thread n.thread m.told n.told result h;

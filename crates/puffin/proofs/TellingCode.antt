@@ -26,7 +26,8 @@ use Rattle.puffin.specs.Code.{Code, nothing, scope, Runs, AreScopesOf, MayBe, sc
 use Rattle.puffin.specs.Happenings.{Happening}
 use Rattle.puffin.specs.Telling.{KeepsReports, HasRun, RunsAs, HasRunAs, LeadsAs, HasLedAs}
 use Rattle.puffin.proofs.lemmas.Waiting.{num_ended-tour}
-use Rattle.puffin.proofs.Telling.{Stage, Adds, Accepts, Refuses, Started, some_first, stays_started, adds_report, adds_nothing, adds_both, innermost, around, told_all}
+use Rattle.puffin.proofs.lemmas.StartedThreads.{HasStarted}
+use Rattle.puffin.proofs.Telling.{Stage, Adds, Accepts, Refuses, some_first, adds_started, adds_report, adds_nothing, adds_both, innermost, around, told_all}
 
 begins_form : {C R : Type 0} (answers : C → ℤ → C → Type 0) (old new : Thread C R) (place : Place) (text : List ℕ) (state : GuardState) → BeginsThere answers old place text state new → (thread_of (profiler_of new)).form ≡ (thread_of (profiler_of old)).form
 begins_form answers old new place text (On offset) begins = ap (λ (t : calls.Thread). t.form) begins.begins.1.begun
@@ -97,27 +98,27 @@ module _ {C R : Type 0} (answers : C → ℤ → C → Type 0) (accepts : R → 
       )
 
   -- what waits was reported, or not, before a scope began
-  adds_room : (a b : Thread C R) → Started (stage a) → (b ≡ a) ⊎ MakesRoom accepts refuses a b → Adds (stage a) (stage b) empty
+  adds_room : (a b : Thread C R) → HasStarted (stage a).thread → (b ≡ a) ⊎ MakesRoom accepts refuses a b → Adds (stage a) (stage b) empty
   adds_room a b started (inl same) = subst (λ t. Adds (stage a) (stage t) empty) (sym same) (adds_nothing (stage a))
   adds_room a b started (inr room) =
       adds_report (stage a) (stage b) room.answer started (ap num_known room.scopes) (reports_by (thread_of (profiler_of a)) (thread_of (profiler_of b)) (reporter_of a) (reporter_of b) room.answer room.reports)
 
-  begun_started : (a b : Thread C R) (place : Place) (text : List ℕ) (state : GuardState) → BeginsThere answers a place text state b → Started (stage a) → Started (stage b)
+  begun_started : (a b : Thread C R) (place : Place) (text : List ℕ) (state : GuardState) → BeginsThere answers a place text state b → HasStarted (stage a).thread → HasStarted (stage b).thread
   begun_started a b place text (On offset) begins started none =
       absurd (let first = some_first (thread_of (profiler_of a)).first_start (time_of (thread_of (profiler_of a)) begins.begins.1.at) in
       let is = ap (λ (t : calls.Thread). t.first_start) begins.begins.1.begun in cc)
   begun_started a b place text Off begins started none = ap (λ p. (thread_of p).word) begins.begins ∙ started (sym (ap (λ p. (thread_of p).first_start) begins.begins) ∙ none)
   begun_started a b place text (Refused e) begins started none = ap (λ p. (thread_of p).word) begins.begins.0 ∙ started (sym (ap (λ p. (thread_of p).first_start) begins.begins.0) ∙ none)
 
-  adds_code : (code : Code) (old new : Thread C R) → Started (stage old) → Runs (BeginsAt answers accepts refuses) (EndsIn answers accepts refuses) code old new → (f : Forest) × AreScopesOf (num_known (scopes_of old)) (thread_of (profiler_of old)).form code f × Adds (stage old) (stage new) f
+  adds_code : (code : Code) (old new : Thread C R) → HasStarted (stage old).thread → Runs (BeginsAt answers accepts refuses) (EndsIn answers accepts refuses) code old new → (f : Forest) × AreScopesOf (num_known (scopes_of old)) (thread_of (profiler_of old)).form code f × Adds (stage old) (stage new) f
   adds_code nothing old new started runs = (empty, refl, subst (λ t. Adds (stage old) (stage t) empty) (sym runs) (adds_nothing (stage old)))
   adds_code (scope place text within after) old new started (state, begun, left, ended, (ready, room, begins), inner, leaves, later) =
       let made = adds_room old ready started room in
-      let ready_started = stays_started (stage old) (stage ready) empty started made in
+      let ready_started = adds_started (stage old) (stage ready) empty started made in
       let i = adds_code within begun left (begun_started ready begun place text state begins ready_started) inner in
       let w = adds_scope ready begun left ended place text state i.0 begins i.2 leaves in
       let span = span_at place (cut_text (thread_of (profiler_of ready)).form text) w.0 w.1 in
-      let l = adds_code after ended new (stays_started (stage ready) (stage ended) (scope_if state span i.0) ready_started w.2) later in
+      let l = adds_code after ended new (adds_started (stage ready) (stage ended) (scope_if state span i.0) ready_started w.2) later in
       let whole = adds_both (stage old) (stage ready) (stage ended) empty (scope_if state span i.0) made w.2 in
       let form = begins_form answers ready begun place text state begins ∙ made.form in
       let known = ap num_known begins.scopes ∙ made.known in

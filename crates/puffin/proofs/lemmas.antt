@@ -3,4 +3,5 @@
 pub mod Sending
 pub mod Waiting
 pub mod Offsets
+pub mod StartedThreads
 pub mod CodeRuns

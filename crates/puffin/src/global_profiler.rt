@@ -28,4 +28,3 @@ pub use share::Share;
 pub use shared_profiler::SharedProfiler;
 pub use shared_reporter::SharedReporter;
 pub use sink::{FrameSink, FrameSinkId, Sink};
-pub use sinks::SinkEntry;

@@ -1,7 +1,7 @@
 //! How a leader learns that the threads of its program have ended.
 
 use crate::equal::equal;
-use puffin::light::{Frames, Place, Program, Records, Scopes, Settings, ThreadCounts, profiled};
+use puffin::light::{Frames, Place, Program, Records, Scopes, Settings, profiled};
 use puffin::{place, profile};
 use std::io;
 use std::process::Abort;

@@ -42,6 +42,7 @@ fn reported(reported: u64) -> ThreadCounts {
         reported,
         unreported: 0,
         refused: 0,
+        left_open: 0,
     }
 }
 
@@ -149,6 +150,7 @@ fn a_leader_s_scopes_are_counted_apart_from_the_threads(rt: HostRuntime) {
         reported: 2,
         unreported: 0,
         refused: 1,
+        left_open: 0,
     };
     equal(&rt, outcome.leader, counts);
     equal(&rt, outcome.threads.first().copied(), Some(reported(1)));

@@ -16,6 +16,8 @@ mod global_profiler;
 #[cfg(test)]
 mod leader;
 #[cfg(test)]
+mod left_open;
+#[cfg(test)]
 mod light;
 #[cfg(test)]
 mod limits;

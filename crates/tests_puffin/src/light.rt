@@ -62,8 +62,8 @@ fn an_inner_scope_is_reported_with_the_outermost(rt: HostRuntime) {
     );
     nested(&rt, &mut thread, places);
     equal(&rt, thread.reporter().totals().reported, 2);
-    let first = thread.new_frame(&rt).expect(&rt, "a frame").is_some();
-    let second = thread.new_frame(&rt).expect(&rt, "a frame").is_some();
+    let first = thread.new_frame(&rt).expect(&rt, "a frame").frame.is_some();
+    let second = thread.new_frame(&rt).expect(&rt, "a frame").frame.is_some();
     equal(&rt, (first, second), (true, false));
     equal(&rt, thread.report_closed(), Ok(false));
     equal(&rt, thread.into_reporter().totals().emitted, 2);

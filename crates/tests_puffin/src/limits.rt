@@ -113,11 +113,11 @@ fn a_thread_that_has_met_a_limit_records_again(rt: HostRuntime) {
     steps(&mut thread, &step, 100);
     equal(&rt, held(&mut thread), (16, 15));
     equal(&rt, thread.num_refused(), 69);
-    let first = thread.new_frame(&rt).expect(&rt, "a frame").is_some();
+    let first = thread.new_frame(&rt).expect(&rt, "a frame").frame.is_some();
     // What waits is reported before the next scope begins.
     steps(&mut thread, &step, 1);
     equal(&rt, held(&mut thread), (16, 0));
-    let second = thread.new_frame(&rt).expect(&rt, "a frame").is_some();
+    let second = thread.new_frame(&rt).expect(&rt, "a frame").frame.is_some();
     equal(&rt, (first, second), (true, true));
     equal(&rt, (thread.num_refused(), thread.num_open()), (69, 0));
 }
@@ -158,6 +158,7 @@ fn a_run_whose_frames_nobody_takes_stays_below_its_limits(rt: HostRuntime) {
             reported: 100,
             unreported: 15,
             refused: 885,
+            left_open: 0,
         }),
     );
 }

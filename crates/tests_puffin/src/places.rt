@@ -62,6 +62,7 @@ fn a_first_frame_lists_the_places_by_number_and_name(rt: HostRuntime) {
     let frame = thread
         .new_frame(&rt)
         .expect(&rt, "memory")
+        .frame
         .expect(&rt, "a frame");
     equal(&rt, lists(&frame, &[(1, "load"), (2, "pixels")]), true);
 }
@@ -151,11 +152,13 @@ fn a_program_counts_the_scopes_that_are_refused(rt: HostRuntime) {
         reported: 0,
         unreported: 0,
         refused: 3,
+        left_open: 0,
     };
     let reported = ThreadCounts {
         reported: 3,
         unreported: 0,
         refused: 0,
+        left_open: 0,
     };
     equal(
         &rt,
@@ -226,6 +229,7 @@ fn a_thread_s_frame_reaches_the_profiler_s_sinks(rt: HostRuntime) {
     let frame = thread
         .new_frame(&rt)
         .expect(&rt, "memory")
+        .frame
         .expect(&rt, "a frame");
     has_latest(&rt, &view, frame.frame_index());
 }

@@ -2,9 +2,10 @@ use crate::equal::equal;
 use crate::global_profiler::{report, scope, thread};
 use puffin::frame_data::{FrameData, FrameIndex};
 use puffin::global_profiler::{FrameSink, FrameSinkId, GlobalProfiler, Sink, Totals};
+use puffin::light::{Records, Scopes, Thread};
 use puffin::profile_view::FrameView;
 use puffin::scope_details::ScopeDetails;
-use puffin::{Error, Result};
+use puffin::{Error, Result, place, profile};
 use std::borrow::CowStr;
 use std::process::Abort;
 use std::sync::{Arc, Mutex, Wait};
@@ -125,6 +126,24 @@ fn a_sink_that_refuses_is_counted_and_the_next_is_called(rt: HostRuntime) {
     remove_second(&rt, &mut profiler, &ids);
     one_refuses(&rt, &mut profiler, &handed);
     none_is_called(&rt, &mut profiler, &handed);
+}
+
+#[test]
+fn a_thread_tells_how_many_sinks_refused_its_frame(rt: HostRuntime) {
+    let handed = nothing_handed(&rt);
+    let sinks = sinks_named!(rt, &handed, 2u64, 1u64);
+    let mut profiler = GlobalProfiler::new(rt.alloc());
+    let _ids = all_added(&rt, &mut profiler, sinks);
+    let mut scopes = Scopes::new(rt.alloc()).expect(&rt, "scopes");
+    let load = place!(scopes, "load").expect(&rt, "a place");
+    let mut thread = Thread::start(rt, "main", profiler, &scopes).expect(&rt, "a thread");
+    {
+        profile!(_load, thread, load);
+    }
+    let emitted = thread.new_frame(&rt).expect(&rt, "a frame");
+    equal(&rt, (emitted.frame.is_some(), emitted.refused), (true, 1));
+    let emitted = thread.new_frame(&rt).expect(&rt, "no frame");
+    equal(&rt, (emitted.frame.is_some(), emitted.refused), (false, 0));
 }
 
 /// Makes a frame of one scope, with this index.

@@ -16,7 +16,7 @@ returns-clause-shown g c =
     (ap thread_of thread.profiler ∙ c.new-recorder.ensures.thread)
     (ap collected_of thread.reporter ∙ c.in_ok-add_scopes.ensures.ok)
     c.new-profiler.ensures.collected in
-    let turn = runs_round c.turn.new.thread (ap turn_code c.in_ok-scopes.ensures.places) c.turn.ensures frame.collected.ok frame.thread in
+    let turn = runs_round c.turn.new.thread (ap turn_code c.in_ok-scopes.ensures.places) c.turn.ensures frame.handed_out.collected.ok frame.thread in
     shows_rounds the_details _ c.new-thread.result c.new_frame.new.self new (c.new_frame.new.self, turn, refl) c.num_closed.ensures
 
 pub returns-clause-update : goal.returns-clause-update

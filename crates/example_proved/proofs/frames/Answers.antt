@@ -12,7 +12,7 @@ loop-round-preserved g c =
     record {
       number = search rules;
       rounds = runs_more turn_round _ _ c.loop-round.thread _ c.in_ok-push.ensures.items c.loop-round.invariant.rounds
-          (runs_round c.turn.new.thread (ap turn_code c.in_ok-scopes.ensures.places) c.turn.ensures frame.collected.ok frame.thread);
+          (runs_round c.turn.new.thread (ap turn_code c.in_ok-scopes.ensures.places) c.turn.ensures frame.handed_out.collected.ok frame.thread);
     }
 
 pub returns-clause-shown : goal.returns-clause-shown

@@ -12,7 +12,7 @@ ghost use Rattle.puffin.specs.Profiler.{collected_of, sinks_of, SameSinks, IsNew
 ghost use Rattle.puffin.specs.SharedCauses.{IsDetailsCause};
 
 use crate::global_profiler::sink::{FrameSink, FrameSinkId, Sink};
-use crate::global_profiler::sinks::{SinkEntry, Sinks};
+use crate::global_profiler::sinks::Sinks;
 use puffin_collector::{Collector, Emitted, Totals};
 use puffin_data::data::{ScopeId, StreamInfoRef};
 use puffin_data::{Error, Result};
@@ -47,22 +47,9 @@ impl GlobalProfiler {
     pub fn with_frame_index(alloc: Global, frame_index: FrameIndex) -> GlobalProfiler
         ensures { IsNewProfiler frame_index result }
     {
-        GlobalProfiler::with_sinks(alloc, frame_index, Vec::new(alloc))
-    }
-
-    /// Like [`GlobalProfiler::with_frame_index`], but takes the list of sinks, which must be empty, from the caller. A crate
-    /// that keeps a profiler in a type of its own has to make that list itself, and call this.
-    pub fn with_sinks(
-        alloc: Global,
-        frame_index: FrameIndex,
-        no_sinks: Vec<SinkEntry>,
-    ) -> GlobalProfiler
-        requires { no_sinks.items ≡ [] }
-        ensures { IsNewProfiler frame_index result }
-    {
         GlobalProfiler {
             collector: Collector::new(alloc, frame_index),
-            sinks: Sinks::from_empty(no_sinks),
+            sinks: Sinks::new(alloc),
         }
     }
 

@@ -9,11 +9,12 @@ use crate::global_profiler::handing::hand_all;
 use crate::global_profiler::sink::{FrameSink, FrameSinkId, Sink};
 use puffin_data::Error;
 use puffin_frames::frame_data::FrameData;
+use std::alloc::Global;
 use std::sync::{Arc, Wait};
 
 /// A sink with its number.
 #[derive(Drop)]
-pub struct SinkEntry {
+pub(crate) struct SinkEntry {
     pub(crate) id: u64,
     pub(crate) sink: Sink,
 }
@@ -27,14 +28,13 @@ pub(crate) struct Sinks {
 }
 
 impl Sinks {
-    /// Makes a list without sinks out of an empty vector. The first sink will have the number 1.
-    pub(crate) fn from_empty(none: Vec<SinkEntry>) -> Sinks
-        requires { none.items ≡ [] }
+    /// Makes a list without sinks. The first sink will have the number 1.
+    pub(crate) fn new(alloc: Global) -> Sinks
         ensures entries { result.entries.items ≡ [] }
         ensures next { result.next ≡ 1 }
     {
         Sinks {
-            entries: none,
+            entries: Vec::new(alloc),
             next: 1,
         }
     }

@@ -52,7 +52,8 @@ impl<L: Ledger + History, M: Ledger, R: Wait + Drop> Counting<L, M, R> {
     pub(crate) fn into_share(self, left: Left) -> CountedShare<L, M>
         ensures share { result.share ≡ self.reporter.share }
         ensures counts { (result.counts.unreported ≡ left.unreported)
-            × (result.counts.refused ≡ left.refused) }
+            × (result.counts.refused ≡ left.refused)
+            × (result.counts.left_open ≡ left.left_open) }
     {
         let Counting { reporter, reported } = self;
         CountedShare {
@@ -61,6 +62,7 @@ impl<L: Ledger + History, M: Ledger, R: Wait + Drop> Counting<L, M, R> {
                 reported,
                 unreported: left.unreported,
                 refused: left.refused,
+                left_open: left.left_open,
             },
         }
     }

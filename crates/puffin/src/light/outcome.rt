@@ -4,16 +4,20 @@ ghost use Rattle.std.specs.Prelude.{◌≡◌, ◌+◌, ◌≤◌, sum_by};
 use crate::global_profiler::{GlobalFrameView, Settled};
 use std::io;
 
-/// What became of the scopes of one thread. The scopes that closed are those that were reported and those that weren't.
+/// What became of the scopes of one thread. As many began as `reported`, `unreported` and `left_open` together.
 #[derive(Clone, Copy, Debug, PartialEq, Eq)]
 pub struct ThreadCounts {
     /// The number of scopes that were reported. Each is in a frame, or pending.
     pub reported: u64,
-    /// The number of scopes that closed and were never reported, because the thread's last reports were refused. They are in no
-    /// frame.
+    /// The number of scopes that closed and were never reported, because the thread's last reports were refused, or because a
+    /// scope around them was left open. They are in no frame.
     pub unreported: u64,
     /// The number of scopes that were refused when they should have begun. They are in no frame.
     pub refused: u64,
+    /// The number of scopes that were open when the thread's work returned: they were begun with
+    /// [`Records::begin`](crate::light::Records::begin), or their guards were forgotten, and nothing ended them. They are in no
+    /// frame.
+    pub left_open: u64,
 }
 
 /// A thread that failed.

@@ -20,7 +20,7 @@ use std::{fs, io, mem, result};
 pub struct RotationLimits {
     /// The number of frames of a file. A file has at least one.
     pub max_frames: usize,
-    /// The number of bytes with which a file is full. Its last frame may exceed it.
+    /// The number of bytes with which a file is full. Its last frame may exceed it. `u64::MAX` is no limit.
     pub max_bytes: u64,
     /// The number of files that are kept, among them the one that is written. At least one is kept.
     pub max_files: u64,
@@ -182,8 +182,11 @@ impl<R: Files<File = File> + AllocGlobal + Copy + Drop> Rotation<R> {
         if self.writer.is_none() || self.frames >= self.limits.max_frames.max(1) {
             return Ok(true);
         }
+        if self.limits.max_bytes == u64::MAX {
+            return Ok(false);
+        }
         let found = fs::metadata(&self.rt, self.path.as_str())?;
-        Ok(self.frames > 0 && found.len() >= self.limits.max_bytes)
+        Ok(found.len() >= self.limits.max_bytes)
     }
 
     /// Writes a frame, and returns the cause of a failure.

@@ -1,20 +1,18 @@
 //! Threads that are profiled, each with its clock and its reporter.
 
-ghost use Rattle.std.specs.Prelude.{◌≡◌, ◌≤◌, ℕ, length, Err, OnErr, IfOk};
+ghost use Rattle.std.specs.Prelude.{◌≡◌, ◌≤◌, length, IfOk};
 ghost use Rattle.puffin_data.specs.Forest.Words.{open_after};
 ghost use Rattle.puffin_data.specs.declared.error.Error.{Error};
 ghost use Rattle.puffin_data.specs.declared.data.form.Form.{Form};
 ghost use Rattle.puffin_threads.specs.Thread.Calls.{new_thread, num_ended};
 ghost use Rattle.puffin_threads.specs.Thread.Closing.{Reports};
 ghost use Rattle.puffin_threads.specs.Thread.ThreadProfiler.{thread_of, clock_of};
-ghost use Rattle.puffin_collector.specs.Collector.Collecting.{CollectsFrame};
 ghost use Rattle.puffin_collector.specs.Collector.State.{after_learning, after_wanting};
 ghost use Rattle.puffin.specs.Profiler.{collected_of, sinks_of, next_sink_of};
-ghost use Rattle.puffin.specs.Sinks.Handing.{HandsOnAny};
+ghost use Rattle.puffin.specs.Profiler.Calls.{HandsOutFrame};
 
 use crate::Switch;
-use crate::frame_data::FrameData;
-use crate::global_profiler::{FrameSink, GlobalProfiler};
+use crate::global_profiler::{Emitted, FrameSink, GlobalProfiler};
 use crate::light::guard::{GuardState, Records};
 use crate::light::place::Place;
 use crate::light::scopes::{Scopes, ThreadScopes};
@@ -22,7 +20,7 @@ use crate::thread_profiler::{NsSource, Reporter, SystemClock, ThreadProfiler};
 use puffin_data::{Error, Result};
 use std::io;
 use std::rt::Clock;
-use std::sync::{Arc, Wait};
+use std::sync::Wait;
 
 /// A thread that is profiled. Whenever its outermost scope ends, all closed scopes go to the reporter. If a report is refused,
 /// its scopes wait for the next one. Where a scope doesn't begin for want of room, and no other is open, what waits is reported
@@ -83,22 +81,23 @@ impl<C> Thread<C, GlobalProfiler> {
     ghost use Rattle.puffin.specs.LightThread.{reporter_of};
     ghost use Rattle.puffin.specs.Lent.{with_reporter};
 
-    /// Hands out everything that was reported since the last frame, to the caller and to the profiler's sinks. Returns `None`
-    /// if nothing was reported.
+    /// Hands out everything that was reported since the last frame, to the caller and to the profiler's sinks, as
+    /// [`GlobalProfiler::new_frame`] does. The result has the frame, if anything was reported, and the number of sinks that didn't
+    /// take it.
     ///
     /// Fails with `IndexExhausted` or `Memory`; then what was reported waits for the next frame.
-    pub fn new_frame(&mut self, rt: &impl Wait) -> Result<Option<Arc<FrameData>>>
-        ensures collected { CollectsFrame (λ frame. frame) (collected_of (reporter_of self.old))
-            result (collected_of (reporter_of self.new)) }
-        ensures handed { IfOk result (λ frame. (refused : ℕ)
-            × HandsOnAny (λ b. (FrameSink-box b).accepts) frame (sinks_of (reporter_of self.old))
-            refused (sinks_of (reporter_of self.new))) }
-        ensures kept { OnErr result (
-            sinks_of (reporter_of self.new) ≡ sinks_of (reporter_of self.old)) }
-        ensures next { next_sink_of (reporter_of self.new) ≡ next_sink_of (reporter_of self.old) }
+    ///
+    /// ```
+    /// if let Some(frame) = thread.new_frame(&rt)?.frame {
+    ///     view.add_frame(frame)?;
+    /// }
+    /// ```
+    pub fn new_frame(&mut self, rt: &impl Wait) -> Result<Emitted>
+        ensures handed_out { HandsOutFrame (λ b. (FrameSink-box b).accepts)
+            (reporter_of self.old) result (reporter_of self.new) }
         ensures thread { self.new ≡ with_reporter self.old (reporter_of self.new) }
     {
-        Ok(self.reporter.new_frame(rt)?.frame)
+        self.reporter.new_frame(rt)
     }
 }
 

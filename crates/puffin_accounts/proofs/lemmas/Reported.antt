@@ -1,16 +1,15 @@
 -- A report of what waits, before a scope begins, adds nothing to a thread.
-use Rattle.std.proofs.Common.{◌≡◌, ◌⊎◌, ℕ, zero, suc, ◌<◌, ℤ, Bool, true, false, cond, List, [], ◌∷◌, ◌++◌, Option, Some, None, Result, Ok, Err, inl, inr, refl, sym, ap, ◌∙◌, subst, append_assoc, arith}
-use Rattle.std.specs.Option.{option_or}
+use Rattle.std.proofs.Common.{◌≡◌, ◌⊎◌, ℕ, zero, suc, ℤ, Bool, true, false, cond, List, [], ◌∷◌, ◌++◌, Option, Some, None, Result, Ok, Err, inl, inr, refl, sym, ap, ◌∙◌, subst, arith}
 use Rattle.std.specs.FinMap.{get, insert, get-insert}
 use Rattle.std.proofs.lemmas.List.{append-nil}
 use Rattle.puffin_data.specs.declared.error.Error.{Error}
 use Rattle.puffin_data.specs.Forest.{Forest, empty, node, append}
-use Rattle.puffin_data.specs.Forest.Tour.{Event, Open, Close, tour}
+use Rattle.puffin_data.specs.Forest.Tour.{Event, Close, tour}
 use Rattle.puffin_data.specs.Forest.Words.{open_after}
 use Rattle.puffin_data.specs.Honesty.{StreamFacts, joined_facts, AreUnlike}
 use Rattle.puffin_data.proofs.lemmas.Tours.{tour-append}
 use Rattle.puffin_data.proofs.lemmas.Extended.{honest_joined}
-use Rattle.puffin_threads.specs.Thread.ThreadProfiler.{thread_of, clock_of}
+use Rattle.puffin_threads.specs.Thread.ThreadProfiler.{thread_of}
 use Rattle.puffin_threads.specs.Thread.ThreadKey.{ThreadKey}
 use Rattle.puffin_threads.specs.Thread.Calls as calls
 use Rattle.puffin_threads.specs.Thread.Calls.{after_handing, key_of_thread}
@@ -20,47 +19,30 @@ use Rattle.puffin_threads.proofs.lemmas.ThreadKeys.{key_cmp_total, has_same_key-
 use Rattle.puffin_frames.specs.Frame.Contents.{stream_under}
 use Rattle.puffin_collector.specs.Collector.State.{Collected, after_report, AcceptsReport, RefusesReport}
 use Rattle.puffin.specs.declared.light.thread.Thread.{Thread}
-use Rattle.puffin.specs.LightThread.{profiler_of, reporter_of, scopes_of}
+use Rattle.puffin.specs.LightThread.{profiler_of, reporter_of}
 use Rattle.puffin.specs.Places.{num_known}
 use Rattle.puffin.specs.Guards.{MakesRoom}
+use Rattle.puffin.proofs.lemmas.StartedThreads.{HasStarted, stays_started}
 use Rattle.puffin_accounts.specs.Moments.{Moment, moment_by, num_open, key_at, Sees}
-use Rattle.puffin_accounts.specs.Times.{Timed, first_start_in}
+use Rattle.puffin_accounts.specs.Times.{first_start_in}
 use Rattle.puffin_accounts.specs.Adding.{SpellsEvents, AddsScopes}
 use Rattle.puffin_accounts.proofs.lemmas.Times.{has_start, same_start, timed_still}
 use Rattle.puffin_accounts.proofs.lemmas.Adding.{quiet, adds_nothing}
-
--- what waits has begun
-abbrev pub Started : {C : Type 0} → Moment C → Type 0
-Started m = m.thread.first_start ≡ None → m.thread.word ≡ []
-
-none_behind : {A : Type 0} (xs ys : List A) → xs ++ ys ≡ [] → ys ≡ []
-none_behind [] ys is = is
-none_behind (x ∷ xs) ys is = absurd (let h : x ∷ (xs ++ ys) ≡ [] = is in cc)
 
 no_tour : (f : Forest) (x : Option ℤ) → x ≡ first_start_in None (tour f) → x ≡ None → tour f ≡ []
 no_tour empty x is none = refl
 no_tour (node s children others) x is none = absurd (has_start None s.start (tour children ++ (Close s.stop ∷ tour others)) x is none)
 
 -- after code, what waits has begun, if it had before
-pub stays_started : {C : Type 0} (answers : C → ℤ → C → Type 0) (o m : Moment C) (f : Forest) → Started o → AddsScopes answers o m f → Started m
-stays_started answers o m f started adds none = at_start o.thread.first_start refl
+pub adds_started : {C : Type 0} (answers : C → ℤ → C → Type 0) (o m : Moment C) (f : Forest) → HasStarted o.thread → AddsScopes answers o m f → HasStarted m.thread
+adds_started answers o m f started adds =
+    stays_started o.thread m.thread (tour f) started (λ none. at_start none o.thread.first_start refl) adds.word (λ shut. let p = adds.passed shut in (p.reported, p.events_kept))
   where
-    at_depth : o.thread.first_start ≡ None → (k : ℕ) → num_open o ≡ k → m.thread.word ≡ []
-    at_depth first k is = by_depth k is
-      where
-        whole : o.thread.word ++ tour f ≡ []
-        whole = ap (λ (w : List Event). w ++ tour f) (started first)
-            ∙ no_tour f m.thread.first_start (adds.timed.first_start ∙ ap (λ (s : Option ℤ). first_start_in s (tour f)) first) none
+    at_start : m.thread.first_start ≡ None → (s : Option ℤ) → o.thread.first_start ≡ s → (o.thread.first_start ≡ None) × (tour f ≡ [])
+    at_start none None is = (is, no_tour f m.thread.first_start (adds.timed.first_start ∙ ap (λ (s : Option ℤ). first_start_in s (tour f)) is) none)
+    at_start none (Some t) is = absurd (let later = same_start answers o m t (tour f) adds.timed is in cc)
 
-        by_depth : (k : ℕ) → num_open o ≡ k → m.thread.word ≡ []
-        by_depth zero is = let p = adds.passed is in none_behind p.reported m.thread.word (p.events_kept ∙ whole)
-        by_depth (suc k) is = adds.word (omega (arith, is)) ∙ whole
-
-    at_start : (s : Option ℤ) → o.thread.first_start ≡ s → m.thread.word ≡ []
-    at_start None is = at_depth is (num_open o) refl
-    at_start (Some t) is = absurd (let later = same_start answers o m t (tour f) adds.timed is in cc)
-
-module _ {C : Type 0} (answers : C → ℤ → C → Type 0) (m n : Moment C) (started : Started m) (clock : n.clock ≡ m.clock) (known : n.known ≡ m.known) where
+module _ {C : Type 0} (answers : C → ℤ → C → Type 0) (m n : Moment C) (started : HasStarted m.thread) (clock : n.clock ≡ m.clock) (known : n.known ≡ m.known) where
   -- the report was refused, or there was none
   still : n.thread ≡ m.thread → n.collected ≡ m.collected → AddsScopes answers m n empty
   still thread same =
@@ -130,7 +112,7 @@ module _ {C R : Type 0} (answers : C → ℤ → C → Type 0) (seen : R → Col
   reports_by old new before after (Err e) (same, inr (waits, inr g)) = (same, inr (waits, inr (g.0, g.1, sees.refused before (key_of_thread old) old.details g.0 e after g.2)))
 
   -- what waits was reported, or not, before a scope began
-  pub adds_room : (a b : Thread C R) → Started (moment_by seen a) → (b ≡ a) ⊎ MakesRoom accepts refuses a b → AddsScopes answers (moment_by seen a) (moment_by seen b) empty
+  pub adds_room : (a b : Thread C R) → HasStarted (moment_by seen a).thread → (b ≡ a) ⊎ MakesRoom accepts refuses a b → AddsScopes answers (moment_by seen a) (moment_by seen b) empty
   adds_room a b started (inl same) = subst (λ t. AddsScopes answers (moment_by seen a) (moment_by seen t) empty) (sym same) (adds_nothing answers (moment_by seen a))
   adds_room a b started (inr room) =
       adds_report answers (moment_by seen a) (moment_by seen b) started room.clock (ap num_known room.scopes) room.answer (reports_by (thread_of (profiler_of a)) (thread_of (profiler_of b)) (reporter_of a) (reporter_of b) room.answer room.reports)

@@ -25,10 +25,11 @@ use Rattle.puffin.specs.Guards.{BeginsThere, BeginsAt, EndsIn}
 use Rattle.puffin_accounts.specs.Moments.{Moment, moment_by, Sees, AcceptsThere, RefusesThere}
 use Rattle.puffin_accounts.specs.Adding.{AddsScopes, MayBe, scope_if, span_at}
 use Rattle.puffin.proofs.lemmas.CodeRuns.{runs_both}
-use Rattle.puffin_accounts.specs.Running.{Code, nothing, scope, Runs, AreScopesOf, AreAllOf, AllBegan, followed_by, repeated, num_scopes_of}
+use Rattle.puffin_accounts.specs.Running.{Code, nothing, scope, Runs, AreScopesOf, AreAllOf, AllBegan, repeated, num_scopes_of}
 use Rattle.puffin_accounts.proofs.lemmas.Adding.{adds_nothing, adds_both}
 use Rattle.puffin_accounts.proofs.lemmas.Opened.{adds_scope}
-use Rattle.puffin_accounts.proofs.lemmas.Reported.{Started, stays_started, adds_room}
+use Rattle.puffin.proofs.lemmas.StartedThreads.{HasStarted}
+use Rattle.puffin_accounts.proofs.lemmas.Reported.{adds_started, adds_room}
 use Rattle.puffin_accounts.proofs.lemmas.Times.{has_start}
 
 -- ---- which scopes began
@@ -93,23 +94,23 @@ moved : {k known : ℕ} {x form : Form} (code : Code) (f : Forest) → k ≡ kno
 moved {k} {known} {x} {form} code f same_known same_form is = subst (λ (y : Form). AreScopesOf known y code f) same_form (subst (λ (n : ℕ). AreScopesOf n x code f) same_known is)
 
 module _ {C R : Type 0} (answers : C → ℤ → C → Type 0) (seen : R → Collected) (accepts : R → ThreadKey → List Details → StreamFacts → R → Type 0) (refuses : R → ThreadKey → List Details → StreamFacts → Error → R → Type 0) (sees : Sees seen accepts refuses) where
-  begun_started : (a b : Thread C R) (place : Place) (text : List ℕ) (state : GuardState) → BeginsThere answers a place text state b → Started (moment_by seen a) → Started (moment_by seen b)
+  begun_started : (a b : Thread C R) (place : Place) (text : List ℕ) (state : GuardState) → BeginsThere answers a place text state b → HasStarted (moment_by seen a).thread → HasStarted (moment_by seen b).thread
   begun_started a b place text (On offset) begins started none =
       absurd (has_start (thread_of (profiler_of a)).first_start (time_of (thread_of (profiler_of a)) begins.begins.1.at) [] (thread_of (profiler_of b)).first_start (ap (λ (t : calls.Thread). t.first_start) begins.begins.1.begun) none)
   begun_started a b place text Off begins started none = ap (λ p. (thread_of p).word) begins.begins ∙ started (sym (ap (λ p. (thread_of p).first_start) begins.begins) ∙ none)
   begun_started a b place text (Refused e) begins started none = ap (λ p. (thread_of p).word) begins.begins.0 ∙ started (sym (ap (λ p. (thread_of p).first_start) begins.begins.0) ∙ none)
 
-  pub adds_code : (code : Code) (old new : Thread C R) → Started (moment_by seen old) → Runs (BeginsAt answers accepts refuses) (EndsIn answers accepts refuses) code old new → AddsCode answers (moment_by seen old) (moment_by seen new) code
+  pub adds_code : (code : Code) (old new : Thread C R) → HasStarted (moment_by seen old).thread → Runs (BeginsAt answers accepts refuses) (EndsIn answers accepts refuses) code old new → AddsCode answers (moment_by seen old) (moment_by seen new) code
   adds_code nothing old new started runs = record { scopes = empty; began = refl; adds = subst (λ t. AddsScopes answers (moment_by seen old) (moment_by seen t) empty) (sym runs) (adds_nothing answers (moment_by seen old)) }
   adds_code (scope place text within after) old new started (state, begun, left, ended, (ready, room, begins), inner, leaves, later) =
       let o = moment_by seen old in
       let m = moment_by seen ready in
       let made = adds_room answers seen accepts refuses sees old ready started room in
-      let ready_started = stays_started answers o m empty started made in
+      let ready_started = adds_started answers o m empty started made in
       let i = adds_code within begun left (begun_started ready begun place text state begins ready_started) inner in
       let w = adds_scope answers seen accepts refuses sees ready begun left ended place text state i.scopes begins i.adds leaves in
       let span = span_at place (cut_text m.thread.form text) w.start w.stop in
-      let l = adds_code after ended new (stays_started answers m (moment_by seen ended) (scope_if state span i.scopes) ready_started w.adds) later in
+      let l = adds_code after ended new (adds_started answers m (moment_by seen ended) (scope_if state span i.scopes) ready_started w.adds) later in
       let whole = adds_both answers o m (moment_by seen ended) empty (scope_if state span i.scopes) made w.adds in
       let form = begins_form answers ready begun place text state begins ∙ made.timed.form in
       let known = ap num_known begins.scopes ∙ made.timed.known in

@@ -10,7 +10,7 @@ use Rattle.puffin.proofs.light.ready.ReadyAnyLeader.lead.Goals as goal
 
 pub returns-clause-tells : goal.returns-clause-tells
 returns-clause-tells g c told keeps =
-    let s = c.start-thread.ensures in let e = c.end-reporter.ensures in let name = string_bytes c.args.self.name in
+    let s = c.start-thread.ensures in let e = c.end-reporter.ensures.reports in let name = string_bytes c.args.self.name in
     let states = g.W.Program.states c.args.program.now in let is = g.W.Program.leads c.args.program.now in
     let after = told c.end-reporter.result.1 in let waiting = c.end-reporter.result.0.unreported in
     subst (λ (known : ℕ). HasLedAs states is name Short known (told c.args.reporter) after waiting) (ap num_known s.scopes)

@@ -1,4 +1,4 @@
-use Rattle.std.proofs.Common.{rules, refl, inr}
+use Rattle.std.proofs.Common.{rules, inr}
 use Rattle.puffin.proofs.light.thread.Thread.begin_behind_report.Goals as goal
 
 pub returns-in-Ok : goal.returns-in-Ok
