@@ -53,7 +53,7 @@ impl<L: Ledger + History, M: Ledger, R: Wait + Drop> Counting<L, M, R> {
         ensures share { result.share ≡ self.reporter.share }
         ensures counts { (result.counts.unreported ≡ left.unreported)
             × (result.counts.refused ≡ left.refused)
-            × (result.counts.left_open ≡ left.open) }
+            × (result.counts.left_open ≡ left.left_open) }
     {
         let Counting { reporter, reported } = self;
         CountedShare {
@@ -62,7 +62,7 @@ impl<L: Ledger + History, M: Ledger, R: Wait + Drop> Counting<L, M, R> {
                 reported,
                 unreported: left.unreported,
                 refused: left.refused,
-                left_open: left.open,
+                left_open: left.left_open,
             },
         }
     }

@@ -48,7 +48,7 @@ impl<C: Clock + Copy + Drop, W: Pool> AnyReady<W> for Worker<C> {
         let mut left = Left {
             unreported: 0,
             refused: 0,
-            open: 0,
+            left_open: 0,
         };
         let mut result = Ok(());
         for _ in rt.forever() {
