@@ -3,8 +3,8 @@
 use crate::again;
 use crate::refusal::Refusal;
 use puffin::profile_view::FrameView;
-use puffin_data::{Error, FileError};
 use puffin_data::data::{Counted, ScopeId};
+use puffin_data::{Error, FileError};
 use puffin_replay::replay::{Command, Reply, record};
 use puffin_threads::thread_profiler::Closed;
 use std::alloc::Global;
@@ -73,7 +73,10 @@ fn record_into(
     names.push(String::from_str(alloc, "main")?)?;
     let mut view = FrameView::new(alloc);
     let replies = record(alloc, names, commands, &mut view, &mut Counted::new(bytes))?;
-    if !replies.iter().all(|it| is_whole(it) || is_without_memory(it)) {
+    if !replies
+        .iter()
+        .all(|it| is_whole(it) || is_without_memory(it))
+    {
         return Err(FileError::BadScopes);
     }
     Ok(replies.len() == 3 && replies.iter().all(is_whole))

@@ -145,7 +145,12 @@ fn added_is_handed_on<
     M: Ledger + Send + Sync + 'static,
     R: Wait + Abort + Copy + Drop,
 >(rt: R, alloc: Global, profiler: &SharedProfiler<L, M>, share: Share<L, M>) {
-    is_added(&rt, alloc, profiler, packet_frame(alloc, 0).expect(&rt, "a frame"));
+    is_added(
+        &rt,
+        alloc,
+        profiler,
+        packet_frame(alloc, 0).expect(&rt, "a frame"),
+    );
     let view = GlobalFrameView::attach(&rt, alloc, profiler).expect(&rt, "a view");
     is_added(&rt, alloc, profiler, packed(&rt, alloc));
     is_viewed(&rt, &view);
