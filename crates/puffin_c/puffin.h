@@ -6,10 +6,10 @@
  *
  * A program has to follow these rules. Nothing checks them, either here or in the library:
  *
- * - Pass no NULL, except for a text or for bytes that a call only reads (const uint8_t *) and for the lists of puffin_scopes,
- *   puffin_frame_streams, puffin_file_threads, puffin_merge_file and puffin_merge_view, if their length is 0. A pointer must
- *   point to as many bytes as its length says. While a call runs, no other thread may write bytes that the call reads, or read
- *   or write bytes that the call may write. No two parameters of a call may overlap, unless both are only read.
+ * - Pass no NULL, except for a text, for bytes that a call only reads (const uint8_t *), and for the rows and bytes of a list, if
+ *   their length is 0. A pointer must point to as many bytes as its length says. While a call runs, no other thread may write
+ *   bytes that the call reads, or read or write bytes that the call may write. No two places that a call gets may overlap, unless
+ *   both are only read.
  * - Fill a handle (PuffinIds, PuffinThread, PuffinProfiler) with zeros ({0}) before its first call. It isn't open then:
  *   every call on it except the one that opens it fails with PUFFIN_NOT_OPEN. Don't read or write its fields. A handle may be
  *   moved, open or not: copy its bytes to another place, and fill the old place with zeros, or never use it again. Two copies of
@@ -22,9 +22,9 @@
  *     1 KiB: puffin_version, puffin_interface, puffin_fault_name, puffin_ids_open, puffin_thread_open, puffin_profiler_open,
  *       puffin_begin, puffin_end, puffin_set_scopes_on, puffin_set_max_bytes, puffin_set_max_pending, puffin_set_limits,
  *       puffin_snapshot, puffin_thread_discard, puffin_count
- *     4 KiB: puffin_ids_close, puffin_thread_close, puffin_profiler_close, puffin_view_clear, puffin_register_function,
- *       puffin_register_scope, puffin_report, puffin_user_scopes, puffin_file_begin, puffin_file_next, puffin_frame_begin,
- *       puffin_frame_next, puffin_scopes, puffin_check_file, puffin_frame_streams, puffin_file_threads
+ *     4 KiB: puffin_ids_close, puffin_thread_close, puffin_profiler_close, puffin_view_clear, puffin_register, puffin_report,
+ *       puffin_user_scopes, puffin_file_begin, puffin_file_next, puffin_frame_begin, puffin_frame_next, puffin_scopes,
+ *       puffin_check_file, puffin_frame_streams, puffin_file_threads
  *     8 KiB: puffin_new_frame
  *     192 KiB: puffin_merge_view, puffin_merge_file
  */
@@ -64,7 +64,7 @@ PuffinVersion puffin_version(void);
 
 /* The number of this interface, which a change of a struct or of a call raises. A program whose library may be another one than
  * that of its header, as with a shared library, compares it with the library's number before any other call. */
-#define PUFFIN_INTERFACE 2
+#define PUFFIN_INTERFACE 3
 uint32_t puffin_interface(void);
 
 /* ---- faults */
@@ -113,6 +113,23 @@ size_t puffin_fault_name(uint32_t fault, char *name, size_t room);
 /* No name is longer, with a zero. */
 enum { PUFFIN_FAULT_NAME_ROOM = 64 };
 
+/* ---- texts in structs: bytes with a size, in UTF-8, which stay elsewhere. NULL is an empty text. */
+
+typedef struct PuffinText {
+    const uint8_t *bytes;
+    size_t size;
+} PuffinText;
+
+PUFFIN_INLINE_ PuffinText puffin_text_of(const char *text, size_t size) {
+    const void *bytes = text;
+    const PuffinText made = {PUFFIN_CAST_(const uint8_t *, bytes), size};
+    return made;
+}
+/* The same of a text that ends with a zero. */
+PUFFIN_INLINE_ PuffinText puffin_text(const char *text) {
+    return puffin_text_of(text, text ? strlen(text) : 0);
+}
+
 /* ---- bytes of any origin */
 
 /* The counts of a stream. */
@@ -123,22 +140,19 @@ typedef struct PuffinCount {
 
 /* Counts the scopes of a stream, which has long texts if long_texts is set. Fails with the first fault in the bytes, or with
  * PUFFIN_MEMORY. */
-PUFFIN_RESULT_
-uint32_t puffin_count(const uint8_t *bytes, size_t size, bool long_texts, PuffinCount *count);
+PUFFIN_RESULT_ uint32_t puffin_count(const uint8_t *bytes, size_t size, bool long_texts, PuffinCount *count);
 
 /* Reads a file, and sets *frames to the number of its frames, *offset to the offset at which the last of them ends, and *read to
  * how many bytes were read. Fails with the first fault in the file; *frames is then the number of frames that were read before
  * the fault, or before memory ran out. The fault is in the next frame, which begins at *offset, or at the file's beginning if
  * *offset is 0: in the last part that was read, which ends at *read. */
-PUFFIN_RESULT_
-uint32_t puffin_check_file(const uint8_t *file, size_t size, uint64_t *frames, uint64_t *offset, uint64_t *read);
+PUFFIN_RESULT_ uint32_t puffin_check_file(const uint8_t *file, size_t size, uint64_t *frames, uint64_t *offset, uint64_t *read);
 
 /* ---- the scopes of a stream, one after the other */
 
-/* How many rows and bytes a list has. */
-typedef struct PuffinLists {
-    uint64_t rows, bytes;
-} PuffinLists;
+/* A list consists of rows and of bytes, into which the rows point. A call that makes one copies the rows to the front of rows, at
+ * most room of them, and the bytes to the front of bytes, at most bytes_room, and sets num_rows and num_bytes to how many there are:
+ * a program may ask with no room first. Fill the struct with zeros before that. */
 
 /* A scope, nested in depth others. Its text is at text_at in the bytes of all texts. */
 typedef struct PuffinScope {
@@ -147,12 +161,16 @@ typedef struct PuffinScope {
     uint32_t id;
 } PuffinScope;
 
-/* Lists the scopes of a stream, each before its children. Copies them to the front of scopes, at most room of them, and their
- * texts, one behind the other, to the front of texts. Sets *sizes to how many scopes and bytes of texts there are: a program may
- * ask with no room first. Fails like puffin_count. */
-PUFFIN_RESULT_
-uint32_t puffin_scopes(const uint8_t *bytes, size_t size, bool long_texts, PuffinScope *scopes, size_t room, uint8_t *texts,
-                       size_t texts_room, PuffinLists *sizes);
+typedef struct PuffinScopeList {
+    PuffinScope *rows;
+    size_t room;
+    uint8_t *bytes;
+    size_t bytes_room;
+    uint64_t num_rows, num_bytes;
+} PuffinScopeList;
+
+/* Lists the scopes of a stream, each before its children, and their texts, one behind the other. Fails like puffin_count. */
+PUFFIN_RESULT_ uint32_t puffin_scopes(const uint8_t *bytes, size_t size, bool long_texts, PuffinScopeList *list);
 
 /* ---- the frames of a file, one after the other */
 
@@ -171,14 +189,20 @@ typedef struct PuffinStream {
     bool has_start, long_texts;
 } PuffinStream;
 
-/* Reads the frame at an offset of a file, fills in *frame, and sets *next to the offset at which the frame ends and the next one
- * begins. The first frame is at offset 0. Lists the frame's streams, ordered by start and name: copies them to the front of
- * streams, at most room of them, and the name of each thread, followed by its stream, to the front of bytes. Sets *sizes to how
- * many streams and bytes there are. puffin_scopes lists the scopes of a stream. At the file's end, only frame->is_some is set, to
- * false, *sizes to 0, and *next. Fails with PUFFIN_INVALID_OFFSET past the file's end, or with the frame's fault. */
-PUFFIN_RESULT_
-uint32_t puffin_frame_streams(const uint8_t *file, size_t size, uint64_t offset, PuffinFrame *frame, uint64_t *next,
-                              PuffinStream *streams, size_t room, uint8_t *bytes, size_t bytes_room, PuffinLists *sizes);
+typedef struct PuffinStreamList {
+    PuffinStream *rows;
+    size_t room;
+    uint8_t *bytes;
+    size_t bytes_room;
+    uint64_t num_rows, num_bytes, next; /* next: the offset at which the frame ends and the next one begins */
+    PuffinFrame frame;
+} PuffinStreamList;
+
+/* Reads the frame at an offset of a file, and fills in list->frame and list->next. The first frame is at offset 0. Lists the
+ * frame's streams, ordered by start and name, and the name of each thread, followed by its stream. puffin_scopes lists the scopes of
+ * a stream. At the file's end, sets list->frame.is_some to false, list->next, and the numbers to 0. Fails with
+ * PUFFIN_INVALID_OFFSET past the file's end, or with the frame's fault. */
+PUFFIN_RESULT_ uint32_t puffin_frame_streams(const uint8_t *file, size_t size, uint64_t offset, PuffinStreamList *list);
 
 /* What the frames of a file have of one thread. Its name is at name_at in the bytes of all names. has_start tells whether it is
  * known when the thread's first scope began; start_ns is 0 otherwise. */
@@ -188,12 +212,17 @@ typedef struct PuffinFileThread {
     bool has_start;
 } PuffinFileThread;
 
-/* Lists the threads of a file, ordered by start and name. Copies them to the front of threads, at most room of them, and their
- * names, one behind the other, to the front of names. Sets *sizes to how many threads and bytes of names there are. Fails with the
- * first fault in the file. */
-PUFFIN_RESULT_
-uint32_t puffin_file_threads(const uint8_t *file, size_t size, PuffinFileThread *threads, size_t room, uint8_t *names,
-                             size_t names_room, PuffinLists *sizes);
+typedef struct PuffinFileThreadList {
+    PuffinFileThread *rows;
+    size_t room;
+    uint8_t *bytes;
+    size_t bytes_room;
+    uint64_t num_rows, num_bytes;
+} PuffinFileThreadList;
+
+/* Lists the threads of a file, ordered by start and name, and their names, one behind the other. Fails with the first fault in the
+ * file. */
+PUFFIN_RESULT_ uint32_t puffin_file_threads(const uint8_t *file, size_t size, PuffinFileThreadList *list);
 
 /* ---- the scopes of one thread, merged over frames */
 
@@ -208,15 +237,25 @@ typedef struct PuffinMerged {
     uint32_t id;
 } PuffinMerged;
 
-/* Merges the scopes of the thread with this name and this start, or with this name and no start if has_start isn't set, over the
- * frames of a file. Lists the merged scopes, each before those in it: copies them to the front of merged, at most room of them,
- * and their texts, one behind the other, to the front of texts. Sets *sizes to how many merged scopes and bytes of texts there
- * are; there are none if no frame has the thread. Fails with PUFFIN_NOT_TEXT if the name isn't UTF-8, whatever the file contains.
- * Otherwise fails with the first fault in the file. */
-PUFFIN_RESULT_
-uint32_t puffin_merge_file(const uint8_t *file, size_t file_size, bool has_start, int64_t start_ns, const uint8_t *name,
-                           size_t name_size, PuffinMerged *merged, size_t room, uint8_t *texts, size_t texts_room,
-                           PuffinLists *sizes);
+typedef struct PuffinMergedList {
+    PuffinMerged *rows;
+    size_t room;
+    uint8_t *bytes;
+    size_t bytes_room;
+    uint64_t num_rows, num_bytes;
+} PuffinMergedList;
+
+/* The thread with this name and this start, or with this name and no start if has_start isn't set. */
+typedef struct PuffinThreadName {
+    PuffinText name;
+    int64_t start_ns;
+    bool has_start;
+} PuffinThreadName;
+
+/* Merges the scopes of a thread over the frames of a file. Lists the merged scopes, each before those in it, and their texts, one
+ * behind the other; there are none if no frame has the thread. Fails with PUFFIN_NOT_TEXT if the name isn't UTF-8, whatever the
+ * file contains. Otherwise fails with the first fault in the file. */
+PUFFIN_RESULT_ uint32_t puffin_merge_file(const uint8_t *file, size_t size, const PuffinThreadName *thread, PuffinMergedList *list);
 
 /* ---- ids, which threads and profilers share */
 
@@ -225,8 +264,7 @@ typedef struct PuffinIds {
     bool is_open_;
 } PuffinIds;
 
-PUFFIN_RESULT_
-uint32_t puffin_ids_open(PuffinIds *ids);
+PUFFIN_RESULT_ uint32_t puffin_ids_open(PuffinIds *ids);
 /* Threads and profilers that were opened with the handle keep the ids. */
 uint32_t puffin_ids_close(PuffinIds *ids);
 
@@ -239,8 +277,8 @@ typedef struct PuffinThread {
 
 /* Opens a handle for the scopes of one thread, which is to report to profilers that were opened with these ids. The texts of the
  * scopes are cut to at most 127 bytes, or 16,383 if long_texts is set. */
-PUFFIN_RESULT_
-uint32_t puffin_thread_open(PuffinThread *thread, PuffinIds *ids, const uint8_t *name, size_t name_size, bool long_texts);
+PUFFIN_RESULT_ uint32_t puffin_thread_open(PuffinThread *thread, PuffinIds *ids, const uint8_t *name, size_t name_size,
+                                           bool long_texts);
 /* Drops the scopes that weren't reported. */
 uint32_t puffin_thread_close(PuffinThread *thread);
 /* Gives up a thread's waiting scopes, for example those of a report that is refused again and again, and sets *scopes to how many
@@ -289,36 +327,34 @@ typedef struct PuffinProfiler {
 } PuffinProfiler;
 
 /* The view keeps the last 1,000 frames and the 256 slowest ones, unless puffin_set_limits sets other limits. */
-PUFFIN_RESULT_
-uint32_t puffin_profiler_open(PuffinProfiler *profiler, PuffinIds *ids);
+PUFFIN_RESULT_ uint32_t puffin_profiler_open(PuffinProfiler *profiler, PuffinIds *ids);
 uint32_t puffin_profiler_close(PuffinProfiler *profiler);
 
-/* Registers a function, or a scope within a function under a name of its own, and sets *id, under which any thread begins it. The
- * next frame that is made lists it, so a file has its name. Call it once for each place in the code, between any two other calls.
- * Pass 0 if the line is unknown. If the call fails, an id may be used up, and a later frame may list the scope under it. */
-PUFFIN_RESULT_
-uint32_t puffin_register_function(PuffinProfiler *profiler, const uint8_t *function, size_t function_size,
-                                  const uint8_t *file, size_t file_size, uint32_t line, uint32_t *id);
-PUFFIN_RESULT_
-uint32_t puffin_register_scope(PuffinProfiler *profiler, const uint8_t *name, size_t name_size, const uint8_t *function,
-                               size_t function_size, const uint8_t *file, size_t file_size, uint32_t line, uint32_t *id);
+/* A place in the code: a function, if name is empty, or a scope within a function under a name of its own. line is 0 if it is
+ * unknown. */
+typedef struct PuffinPlace {
+    PuffinText name, function, file;
+    uint32_t line;
+} PuffinPlace;
+
+/* Registers a place, and sets *id, under which any thread begins scopes there. The next frame that is made lists it, so a file has
+ * its name. Call it once for each place, between any two other calls. If the call fails, an id may be used up, and a later frame
+ * may list the place under it. */
+PUFFIN_RESULT_ uint32_t puffin_register(PuffinProfiler *profiler, const PuffinPlace *place, uint32_t *id);
 
 /* Reports a thread's waiting scopes to a profiler: those that ended since the thread's last accepted report. Does nothing if
  * no scope is waiting or open. If the call fails, the scopes keep waiting. */
 uint32_t puffin_report(PuffinThread *thread, PuffinProfiler *profiler);
 
-/* Appends the scopes of a stream to those that wait for the next frame. They are added under the thread with this name and
- * this start, or with this name and no start if has_start isn't set. The thread needn't exist. See puffin_count for bytes and
- * long_texts. Fails with the first fault in the bytes. */
-PUFFIN_RESULT_
-uint32_t puffin_user_scopes(PuffinProfiler *profiler, bool has_start, int64_t start_ns, const uint8_t *name,
-                            size_t name_size, const uint8_t *bytes, size_t size, bool long_texts);
+/* Appends the scopes of a stream to those that wait for the next frame, under a thread that needn't exist. See puffin_count for
+ * bytes and long_texts. Fails with the first fault in the bytes. */
+PUFFIN_RESULT_ uint32_t puffin_user_scopes(PuffinProfiler *profiler, const PuffinThreadName *thread, const uint8_t *bytes,
+                                           size_t size, bool long_texts);
 
 /* Makes a frame of everything that was reported since the last one, adds it to the view, and fills in *frame. If the call
  * fails, nothing is lost: if the view has no memory for the frame, the frame waits, and the next call adds it instead of
  * making a new one. */
-PUFFIN_RESULT_
-uint32_t puffin_new_frame(PuffinProfiler *profiler, PuffinFrame *frame);
+PUFFIN_RESULT_ uint32_t puffin_new_frame(PuffinProfiler *profiler, PuffinFrame *frame);
 /* Makes the next frame list every known scope, not only the new ones. A program that begins a new file calls it, so that the
  * file has all names. */
 uint32_t puffin_snapshot(PuffinProfiler *profiler);
@@ -335,104 +371,86 @@ uint32_t puffin_view_clear(PuffinProfiler *profiler);
 /* Merges the scopes of one thread over the newest frames of the view: over as many as frames says, or over all recent ones if
  * there are fewer. 1 means the newest frame. Gives the merged scopes like puffin_merge_file. Fails with PUFFIN_NOT_TEXT if the
  * name isn't UTF-8, or with PUFFIN_TOO_DEEP or PUFFIN_TOO_LARGE if the scopes can't be merged. */
-PUFFIN_RESULT_
-uint32_t puffin_merge_view(PuffinProfiler *profiler, size_t frames, bool has_start, int64_t start_ns, const uint8_t *name,
-                           size_t name_size, PuffinMerged *merged, size_t room, uint8_t *texts, size_t texts_room,
-                           PuffinLists *sizes);
+PUFFIN_RESULT_ uint32_t puffin_merge_view(PuffinProfiler *profiler, size_t frames, const PuffinThreadName *thread,
+                                          PuffinMergedList *list);
 
 /* Makes a .puffin file in memory from the view's frames, and sets *size to its size in bytes. Its first frame lists every scope
  * that the view knows. */
-PUFFIN_RESULT_
-uint32_t puffin_file_begin(PuffinProfiler *profiler, uint64_t *size);
+PUFFIN_RESULT_ uint32_t puffin_file_begin(PuffinProfiler *profiler, uint64_t *size);
 /* Copies that file's next bytes to the front of out, as many as fit, and sets *size to how many were copied: 0 at the end. */
-PUFFIN_RESULT_
-uint32_t puffin_file_next(PuffinProfiler *profiler, uint8_t *out, size_t room, uint64_t *size);
+PUFFIN_RESULT_ uint32_t puffin_file_next(PuffinProfiler *profiler, uint8_t *out, size_t room, uint64_t *size);
 
 /* A file consists of these four letters and of packets, so a program can write it as frames come. */
 #define PUFFIN_FILE_START "PUF0"
 /* Makes the packet of the view's newest frame in memory, and sets *size to its size in bytes, or to 0 if the view keeps no
  * recent frame. */
-PUFFIN_RESULT_
-uint32_t puffin_frame_begin(PuffinProfiler *profiler, uint64_t *size);
+PUFFIN_RESULT_ uint32_t puffin_frame_begin(PuffinProfiler *profiler, uint64_t *size);
 /* Copies that packet's next bytes to the front of out, as many as fit, and sets *size to how many were copied: 0 at the end. */
-PUFFIN_RESULT_
-uint32_t puffin_frame_next(PuffinProfiler *profiler, uint8_t *out, size_t room, uint64_t *size);
+PUFFIN_RESULT_ uint32_t puffin_frame_next(PuffinProfiler *profiler, uint8_t *out, size_t room, uint64_t *size);
 
-/* ---- empty texts: the calls above get a pointer that isn't NULL. Scopes that are off: no call is made, and the answer is the
- * library's own. */
+/* ---- empty texts and lists: the calls above get a pointer that isn't NULL. Scopes that are off: no call is made, and the answer is
+ * the library's own. */
 
 PUFFIN_INLINE_ const uint8_t *puffin_bytes_(const uint8_t *bytes) {
     static const uint8_t none = 0;
     return bytes ? bytes : &none;
 }
-PUFFIN_RESULT_
-PUFFIN_INLINE_ uint32_t puffin_count_(const uint8_t *bytes, size_t size, bool long_texts, PuffinCount *count) {
+PUFFIN_INLINE_ PuffinText puffin_text_(PuffinText text) {
+    text.bytes = puffin_bytes_(text.bytes);
+    return text;
+}
+PUFFIN_INLINE_ PuffinThreadName puffin_thread_name_(const PuffinThreadName *thread) {
+    PuffinThreadName named = *thread;
+    named.name = puffin_text_(named.name);
+    return named;
+}
+/* Has call fill in to, which is *list with pointers that aren't NULL, and returns what it returns. */
+#define PUFFIN_LIST_(Row, List, call)                                                                                          \
+    Row no_row;                                                                                                                \
+    uint8_t no_byte;                                                                                                           \
+    List to = *list;                                                                                                           \
+    to.rows = to.rows ? to.rows : &no_row;                                                                                     \
+    to.bytes = to.bytes ? to.bytes : &no_byte;                                                                                 \
+    const uint32_t fault = call;                                                                                               \
+    to.rows = list->rows;                                                                                                      \
+    to.bytes = list->bytes;                                                                                                    \
+    *list = to;                                                                                                                \
+    return fault
+
+PUFFIN_RESULT_ PUFFIN_INLINE_ uint32_t puffin_count_(const uint8_t *bytes, size_t size, bool long_texts, PuffinCount *count) {
     return puffin_count(puffin_bytes_(bytes), size, long_texts, count);
 }
-PUFFIN_RESULT_
-PUFFIN_INLINE_ uint32_t puffin_scopes_(const uint8_t *bytes, size_t size, bool long_texts, PuffinScope *scopes, size_t room,
-                                       uint8_t *texts, size_t texts_room, PuffinLists *sizes) {
-    PuffinScope none;
-    uint8_t no_text;
-    return puffin_scopes(puffin_bytes_(bytes), size, long_texts, scopes ? scopes : &none, room, texts ? texts : &no_text,
-                         texts_room, sizes);
+PUFFIN_RESULT_ PUFFIN_INLINE_ uint32_t puffin_scopes_(const uint8_t *bytes, size_t size, bool long_texts, PuffinScopeList *list) {
+    PUFFIN_LIST_(PuffinScope, PuffinScopeList, puffin_scopes(puffin_bytes_(bytes), size, long_texts, &to));
 }
-PUFFIN_RESULT_
-PUFFIN_INLINE_ uint32_t puffin_frame_streams_(const uint8_t *file, size_t size, uint64_t offset, PuffinFrame *frame,
-                                              uint64_t *next, PuffinStream *streams, size_t room, uint8_t *bytes,
-                                              size_t bytes_room, PuffinLists *sizes) {
-    PuffinStream none;
-    uint8_t no_byte;
-    return puffin_frame_streams(puffin_bytes_(file), size, offset, frame, next, streams ? streams : &none, room,
-                                bytes ? bytes : &no_byte, bytes_room, sizes);
+PUFFIN_RESULT_ PUFFIN_INLINE_ uint32_t puffin_frame_streams_(const uint8_t *file, size_t size, uint64_t offset,
+                                                             PuffinStreamList *list) {
+    PUFFIN_LIST_(PuffinStream, PuffinStreamList, puffin_frame_streams(puffin_bytes_(file), size, offset, &to));
 }
-PUFFIN_RESULT_
-PUFFIN_INLINE_ uint32_t puffin_file_threads_(const uint8_t *file, size_t size, PuffinFileThread *threads, size_t room,
-                                             uint8_t *names, size_t names_room, PuffinLists *sizes) {
-    PuffinFileThread none;
-    uint8_t no_name;
-    return puffin_file_threads(puffin_bytes_(file), size, threads ? threads : &none, room, names ? names : &no_name,
-                               names_room, sizes);
+PUFFIN_RESULT_ PUFFIN_INLINE_ uint32_t puffin_file_threads_(const uint8_t *file, size_t size, PuffinFileThreadList *list) {
+    PUFFIN_LIST_(PuffinFileThread, PuffinFileThreadList, puffin_file_threads(puffin_bytes_(file), size, &to));
 }
-PUFFIN_RESULT_
-PUFFIN_INLINE_ uint32_t puffin_check_file_(const uint8_t *file, size_t size, uint64_t *frames, uint64_t *offset,
-                                           uint64_t *read) {
+PUFFIN_RESULT_ PUFFIN_INLINE_ uint32_t puffin_check_file_(const uint8_t *file, size_t size, uint64_t *frames, uint64_t *offset,
+                                                          uint64_t *read) {
     return puffin_check_file(puffin_bytes_(file), size, frames, offset, read);
 }
-PUFFIN_RESULT_
-PUFFIN_INLINE_ uint32_t puffin_merge_file_(const uint8_t *file, size_t file_size, bool has_start, int64_t start_ns,
-                                           const uint8_t *name, size_t name_size, PuffinMerged *merged, size_t room,
-                                           uint8_t *texts, size_t texts_room, PuffinLists *sizes) {
-    PuffinMerged none;
-    uint8_t no_text;
-    return puffin_merge_file(puffin_bytes_(file), file_size, has_start, start_ns, puffin_bytes_(name), name_size,
-                             merged ? merged : &none, room, texts ? texts : &no_text, texts_room, sizes);
+PUFFIN_RESULT_ PUFFIN_INLINE_ uint32_t puffin_merge_file_(const uint8_t *file, size_t size, const PuffinThreadName *thread,
+                                                          PuffinMergedList *list) {
+    const PuffinThreadName named = puffin_thread_name_(thread);
+    PUFFIN_LIST_(PuffinMerged, PuffinMergedList, puffin_merge_file(puffin_bytes_(file), size, &named, &to));
 }
-PUFFIN_RESULT_
-PUFFIN_INLINE_ uint32_t puffin_merge_view_(PuffinProfiler *profiler, size_t frames, bool has_start, int64_t start_ns,
-                                           const uint8_t *name, size_t name_size, PuffinMerged *merged, size_t room,
-                                           uint8_t *texts, size_t texts_room, PuffinLists *sizes) {
-    PuffinMerged none;
-    uint8_t no_text;
-    return puffin_merge_view(profiler, frames, has_start, start_ns, puffin_bytes_(name), name_size, merged ? merged : &none,
-                             room, texts ? texts : &no_text, texts_room, sizes);
+PUFFIN_RESULT_ PUFFIN_INLINE_ uint32_t puffin_merge_view_(PuffinProfiler *profiler, size_t frames, const PuffinThreadName *thread,
+                                                          PuffinMergedList *list) {
+    const PuffinThreadName named = puffin_thread_name_(thread);
+    PUFFIN_LIST_(PuffinMerged, PuffinMergedList, puffin_merge_view(profiler, frames, &named, &to));
 }
-PUFFIN_RESULT_
-PUFFIN_INLINE_ uint32_t puffin_thread_open_(PuffinThread *thread, PuffinIds *ids, const uint8_t *name, size_t name_size,
-                                            bool long_texts) {
+PUFFIN_RESULT_ PUFFIN_INLINE_ uint32_t puffin_thread_open_(PuffinThread *thread, PuffinIds *ids, const uint8_t *name,
+                                                           size_t name_size, bool long_texts) {
     return puffin_thread_open(thread, ids, puffin_bytes_(name), name_size, long_texts);
 }
-PUFFIN_RESULT_
-PUFFIN_INLINE_ uint32_t puffin_register_function_(PuffinProfiler *profiler, const uint8_t *function, size_t function_size,
-                                                  const uint8_t *file, size_t file_size, uint32_t line, uint32_t *id) {
-    return puffin_register_function(profiler, puffin_bytes_(function), function_size, puffin_bytes_(file), file_size, line, id);
-}
-PUFFIN_RESULT_
-PUFFIN_INLINE_ uint32_t puffin_register_scope_(PuffinProfiler *profiler, const uint8_t *name, size_t name_size,
-                                               const uint8_t *function, size_t function_size, const uint8_t *file,
-                                               size_t file_size, uint32_t line, uint32_t *id) {
-    return puffin_register_scope(profiler, puffin_bytes_(name), name_size, puffin_bytes_(function), function_size,
-                                 puffin_bytes_(file), file_size, line, id);
+PUFFIN_RESULT_ PUFFIN_INLINE_ uint32_t puffin_register_(PuffinProfiler *profiler, const PuffinPlace *place, uint32_t *id) {
+    const PuffinPlace named = {puffin_text_(place->name), puffin_text_(place->function), puffin_text_(place->file), place->line};
+    return puffin_register(profiler, &named, id);
 }
 PUFFIN_INLINE_ uint32_t puffin_begin_(PuffinThread *thread, int64_t now_ns, uint32_t id, const uint8_t *text,
                                       size_t text_size, uint64_t *scope) {
@@ -448,11 +466,10 @@ PUFFIN_INLINE_ uint32_t puffin_end_(PuffinThread *thread, int64_t now_ns, uint64
     }
     return puffin_end(thread, now_ns, scope);
 }
-PUFFIN_RESULT_
-PUFFIN_INLINE_ uint32_t puffin_user_scopes_(PuffinProfiler *profiler, bool has_start, int64_t start_ns, const uint8_t *name,
-                                            size_t name_size, const uint8_t *bytes, size_t size, bool long_texts) {
-    return puffin_user_scopes(profiler, has_start, start_ns, puffin_bytes_(name), name_size, puffin_bytes_(bytes), size,
-                              long_texts);
+PUFFIN_RESULT_ PUFFIN_INLINE_ uint32_t puffin_user_scopes_(PuffinProfiler *profiler, const PuffinThreadName *thread,
+                                                           const uint8_t *bytes, size_t size, bool long_texts) {
+    const PuffinThreadName named = puffin_thread_name_(thread);
+    return puffin_user_scopes(profiler, &named, puffin_bytes_(bytes), size, long_texts);
 }
 PUFFIN_INLINE_ size_t puffin_fault_name_(uint32_t fault, char *name, size_t room) {
     static const char written[] = "PUFFIN_NOT_WRITTEN";
@@ -471,60 +488,22 @@ PUFFIN_INLINE_ size_t puffin_fault_name_(uint32_t fault, char *name, size_t room
 #define puffin_merge_file puffin_merge_file_
 #define puffin_merge_view puffin_merge_view_
 #define puffin_thread_open puffin_thread_open_
-#define puffin_register_function puffin_register_function_
-#define puffin_register_scope puffin_register_scope_
+#define puffin_register puffin_register_
 #define puffin_begin puffin_begin_
 #define puffin_end puffin_end_
 #define puffin_user_scopes puffin_user_scopes_
 
-
 /* ---- the same calls with texts that end with a zero; a text with a zero in it needs the forms above. NULL is an empty text. */
 
-PUFFIN_INLINE_ size_t puffin_text_size_(const char *text) {
-    return text ? strlen(text) : 0;
-}
-PUFFIN_INLINE_ const uint8_t *puffin_text_(const char *text) {
-    const void *bytes = text;
-    return PUFFIN_CAST_(const uint8_t *, bytes);
-}
 PUFFIN_RESULT_ PUFFIN_INLINE_ uint32_t puffin_thread_open_str(PuffinThread *thread, PuffinIds *ids, const char *name,
                                                               bool long_texts) {
-    return puffin_thread_open(thread, ids, puffin_text_(name), puffin_text_size_(name), long_texts);
-}
-PUFFIN_RESULT_ PUFFIN_INLINE_ uint32_t puffin_register_function_str(PuffinProfiler *profiler, const char *function,
-                                                                    const char *file, uint32_t line, uint32_t *id) {
-    return puffin_register_function(profiler, puffin_text_(function), puffin_text_size_(function), puffin_text_(file),
-                                    puffin_text_size_(file), line, id);
-}
-PUFFIN_RESULT_ PUFFIN_INLINE_ uint32_t puffin_register_scope_str(PuffinProfiler *profiler, const char *name,
-                                                                 const char *function, const char *file, uint32_t line,
-                                                                 uint32_t *id) {
-    return puffin_register_scope(profiler, puffin_text_(name), puffin_text_size_(name), puffin_text_(function),
-                                 puffin_text_size_(function), puffin_text_(file), puffin_text_size_(file), line, id);
+    const PuffinText text = puffin_text(name);
+    return puffin_thread_open(thread, ids, text.bytes, text.size, long_texts);
 }
 PUFFIN_INLINE_ uint32_t puffin_begin_str(PuffinThread *thread, int64_t now_ns, uint32_t id, const char *text,
                                          uint64_t *scope) {
-    return puffin_begin(thread, now_ns, id, puffin_text_(text), puffin_scopes_on(thread) ? puffin_text_size_(text) : 0, scope);
-}
-PUFFIN_RESULT_ PUFFIN_INLINE_ uint32_t puffin_user_scopes_str(PuffinProfiler *profiler, bool has_start, int64_t start_ns,
-                                                              const char *name, const uint8_t *bytes, size_t size,
-                                                              bool long_texts) {
-    return puffin_user_scopes(profiler, has_start, start_ns, puffin_text_(name), puffin_text_size_(name), bytes, size,
-                              long_texts);
-}
-PUFFIN_RESULT_ PUFFIN_INLINE_ uint32_t puffin_merge_file_str(const uint8_t *file, size_t file_size, bool has_start,
-                                                             int64_t start_ns, const char *name, PuffinMerged *merged,
-                                                             size_t room, uint8_t *texts, size_t texts_room,
-                                                             PuffinLists *sizes) {
-    return puffin_merge_file(file, file_size, has_start, start_ns, puffin_text_(name), puffin_text_size_(name), merged, room,
-                             texts, texts_room, sizes);
-}
-PUFFIN_RESULT_ PUFFIN_INLINE_ uint32_t puffin_merge_view_str(PuffinProfiler *profiler, size_t frames, bool has_start,
-                                                             int64_t start_ns, const char *name, PuffinMerged *merged,
-                                                             size_t room, uint8_t *texts, size_t texts_room,
-                                                             PuffinLists *sizes) {
-    return puffin_merge_view(profiler, frames, has_start, start_ns, puffin_text_(name), puffin_text_size_(name), merged, room,
-                             texts, texts_room, sizes);
+    const PuffinText given = puffin_text(puffin_scopes_on(thread) ? text : NULL);
+    return puffin_begin(thread, now_ns, id, given.bytes, given.size, scope);
 }
 
 #ifdef __cplusplus

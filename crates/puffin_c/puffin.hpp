@@ -38,19 +38,19 @@ inline std::int64_t now_ns() noexcept {
 class Text {
   public:
     Text() noexcept : Text("", 0) {}
-    Text(const char *text) noexcept : Text(text, puffin_text_size_(text)) {}
+    Text(const char *text) noexcept : given(puffin_text(text)) {}
     Text(const std::string &text) noexcept : Text(text.data(), text.size()) {}
 #if __cplusplus >= 201703L
     Text(std::string_view text) noexcept : Text(text.data(), text.size()) {}
 #endif
-    Text(const char *text, std::size_t length) noexcept : at(text), number(length) {}
-    const char *data() const noexcept { return at; }
-    const std::uint8_t *bytes() const noexcept { return puffin_text_(at); }
-    std::size_t size() const noexcept { return number; }
+    Text(const char *text, std::size_t length) noexcept : given(puffin_text_of(text, length)) {}
+    const char *data() const noexcept { return static_cast<const char *>(static_cast<const void *>(given.bytes)); }
+    const std::uint8_t *bytes() const noexcept { return given.bytes; }
+    std::size_t size() const noexcept { return given.size; }
+    operator PuffinText() const noexcept { return given; }
 
   private:
-    const char *at;
-    std::size_t number;
+    PuffinText given;
 };
 
 /* The name that puffin.h gives to the number of a fault, or no text if there is none. */
@@ -129,12 +129,12 @@ class Profiler : public Handle<PuffinProfiler, puffin_profiler_close> {
   public:
     PUFFIN_RESULT_ std::uint32_t open(Ids &ids) noexcept { return puffin_profiler_open(&raw, ids.get()); }
     PUFFIN_RESULT_ std::uint32_t register_function(Text function, Text file, std::uint32_t line, std::uint32_t &id) noexcept {
-        return puffin_register_function(&raw, function.bytes(), function.size(), file.bytes(), file.size(), line, &id);
+        return register_scope(Text(), function, file, line, id);
     }
     PUFFIN_RESULT_ std::uint32_t register_scope(Text name, Text function, Text file, std::uint32_t line,
                                                 std::uint32_t &id) noexcept {
-        return puffin_register_scope(&raw, name.bytes(), name.size(), function.bytes(), function.size(), file.bytes(),
-                                     file.size(), line, &id);
+        const PuffinPlace place = {name, function, file, line};
+        return puffin_register(&raw, &place, &id);
     }
     std::uint32_t set_limits(std::size_t recent, std::size_t slow) noexcept { return puffin_set_limits(&raw, recent, slow); }
     std::uint32_t set_max_pending(std::uint64_t bytes) noexcept { return puffin_set_max_pending(&raw, bytes); }
@@ -164,8 +164,8 @@ class Profiler : public Handle<PuffinProfiler, puffin_profiler_close> {
 };
 
 #ifndef PUFFIN_OFF
-inline std::uint64_t begin_zone_(PuffinPlace_ *place, const char *function, Text text) noexcept {
-    return puffin_zone_begin_(place, function, text.bytes(), text.size());
+inline std::uint64_t begin_zone_(PuffinZonePlace_ *place, const char *function, Text text) noexcept {
+    return puffin_zone_begin_(place, function, text);
 }
 #endif
 /* Names this thread: PUFFIN_THREAD. */

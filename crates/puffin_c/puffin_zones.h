@@ -98,11 +98,11 @@ typedef struct PuffinZonesThread_ {
 PUFFIN_SHARED_ __thread PuffinZonesThread_ puffin_zones_thread_;
 
 /* A place in the code, and its id in a session: id + 2^32 * the session's number. */
-typedef struct PuffinPlace_ {
+typedef struct PuffinZonePlace_ {
     const char *name, *file;
     uint32_t line;
     uint64_t id;
-} PuffinPlace_;
+} PuffinZonePlace_;
 
 PUFFIN_INLINE_ bool puffin_zones_fine_(uint32_t fault) {
     if (fault != PUFFIN_OK) {
@@ -166,7 +166,7 @@ PUFFIN_INLINE_ uint32_t puffin_zones_enter_(PuffinZonesThread_ *own, uint32_t se
 }
 
 /* Opens the thread's handle, and registers the place, where that isn't done. */
-PUFFIN_INLINE_ uint32_t puffin_zones_prepare_(PuffinZonesThread_ *own, PuffinPlace_ *place, const char *function,
+PUFFIN_INLINE_ uint32_t puffin_zones_prepare_(PuffinZonesThread_ *own, PuffinZonePlace_ *place, const char *function,
                                               uint32_t session) {
     PuffinZones_ *all = &puffin_zones_;
     uint32_t fault = PUFFIN_OK, id = 0;
@@ -177,11 +177,8 @@ PUFFIN_INLINE_ uint32_t puffin_zones_prepare_(PuffinZonesThread_ *own, PuffinPla
         fault = puffin_zones_enter_(own, session);
     }
     if (fault == PUFFIN_OK && place->id >> 32 != session) {
-        if (place->name) {
-            fault = puffin_register_scope_str(&all->profiler, place->name, function, place->file, place->line, &id);
-        } else {
-            fault = puffin_register_function_str(&all->profiler, function, place->file, place->line, &id);
-        }
+        const PuffinPlace here = {puffin_text(place->name), puffin_text(function), puffin_text(place->file), place->line};
+        fault = puffin_register(&all->profiler, &here, &id);
         if (fault == PUFFIN_OK) {
             const uint64_t number = session;
             __atomic_store_n(&place->id, number << 32 | id, __ATOMIC_RELAXED);
@@ -192,7 +189,7 @@ PUFFIN_INLINE_ uint32_t puffin_zones_prepare_(PuffinZonesThread_ *own, PuffinPla
 }
 
 /* Begins a zone, and returns its offset, or PUFFIN_NO_SCOPE. */
-PUFFIN_INLINE_ uint64_t puffin_zone_begin_(PuffinPlace_ *place, const char *function, const uint8_t *text, size_t size) {
+PUFFIN_INLINE_ uint64_t puffin_zone_begin_(PuffinZonePlace_ *place, const char *function, PuffinText text) {
     PuffinZonesThread_ *own = &puffin_zones_thread_;
     const uint32_t session = __atomic_load_n(&puffin_zones_.active, __ATOMIC_RELAXED);
     uint64_t id = __atomic_load_n(&place->id, __ATOMIC_RELAXED), scope = PUFFIN_NO_SCOPE;
@@ -205,7 +202,7 @@ PUFFIN_INLINE_ uint64_t puffin_zone_begin_(PuffinPlace_ *place, const char *func
         }
         id = __atomic_load_n(&place->id, __ATOMIC_RELAXED);
     }
-    if (puffin_zones_fine_(puffin_begin(&own->thread, puffin_now_ns(), PUFFIN_CAST_(uint32_t, id), text, size, &scope))) {
+    if (puffin_zones_fine_(puffin_begin(&own->thread, puffin_now_ns(), PUFFIN_CAST_(uint32_t, id), text.bytes, text.size, &scope))) {
         own->depth++;
     }
     return scope;
@@ -257,7 +254,7 @@ PUFFIN_INLINE_ void puffin_zones_name_(const char *name, size_t size) {
 /* Names this thread, from its next outermost zone on. A name is cut to 63 bytes. A thread without a name has the system's name for
  * it, but that which opens the session is "main". */
 PUFFIN_INLINE_ void puffin_zones_thread(const char *name) {
-    puffin_zones_name_(name, puffin_text_size_(name));
+    puffin_zones_name_(name, puffin_text(name).size);
 }
 
 /* Opens the session of the program. Fails with PUFFIN_IS_OPEN, or PUFFIN_MEMORY. */
@@ -369,8 +366,8 @@ PUFFIN_RESULT_ PUFFIN_INLINE_ uint32_t puffin_session_save(const char *path) {
     return fault;
 }
 
-PUFFIN_INLINE_ uint64_t puffin_zone_begin_str_(PuffinPlace_ *place, const char *function, const char *text) {
-    return puffin_zone_begin_(place, function, puffin_text_(text), puffin_text_size_(text));
+PUFFIN_INLINE_ uint64_t puffin_zone_begin_str_(PuffinZonePlace_ *place, const char *function, const char *text) {
+    return puffin_zone_begin_(place, function, puffin_text(text));
 }
 #ifndef PUFFIN_ZONE_BEGIN_ /* puffin.hpp has one that takes any text */
 #define PUFFIN_ZONE_BEGIN_ puffin_zone_begin_str_
@@ -380,7 +377,7 @@ PUFFIN_INLINE_ uint64_t puffin_zone_begin_str_(PuffinPlace_ *place, const char *
 #define PUFFIN_PLACE_ PUFFIN_NAMED_(place, __LINE__)
 /* A zone is a variable with a cleanup, which an exception runs too. */
 #define PUFFIN_ZONE_(name, text)                                                                                            \
-    static PuffinPlace_ PUFFIN_PLACE_ = {name, __FILE__, __LINE__, 0};                                                      \
+    static PuffinZonePlace_ PUFFIN_PLACE_ = {name, __FILE__, __LINE__, 0};                                                      \
     __attribute__((cleanup(puffin_zone_end_), unused)) const uint64_t PUFFIN_NAMED_(zone, __LINE__) =                       \
         puffin_zones_on() ? PUFFIN_ZONE_BEGIN_(&PUFFIN_PLACE_, __func__, text) : PUFFIN_CAST_(uint64_t, PUFFIN_NO_SCOPE)
 #define PUFFIN_FUNCTION() PUFFIN_ZONE_(NULL, "")

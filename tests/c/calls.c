@@ -24,6 +24,10 @@ void *__wrap_malloc(size_t size) { return refuses() ? NULL : __real_malloc(size)
 void *__wrap_realloc(void *block, size_t size) { return refuses() ? NULL : __real_realloc(block, size); }
 
 #define TEXT(s) (const uint8_t *)(s), sizeof(s) - 1
+#define PLACE(name, function, file, line) &(const PuffinPlace){{TEXT(name)}, {TEXT(function)}, {TEXT(file)}, line}
+
+static const PuffinThreadName gpu = {{TEXT("gpu")}, 5, true}, main_thread = {{TEXT("main")}, 1000, true};
+static const PuffinThreadName main_without_start = {{TEXT("main")}, 0, false}, no_text = {{TEXT("\xff")}, 0, false};
 
 static void fail(const char *what, long got, long wanted) {
     fprintf(stderr, "%s: %ld in place of %ld\n", what, got, wanted);
@@ -75,8 +79,8 @@ static void *record(void *given) {
     const uint8_t *name = (const uint8_t *)work->name;
     pthread_mutex_lock(&lock);
     CALL(puffin_thread_open(&thread, &ids, name, strlen(work->name), work->long_texts));
-    CALL(puffin_register_function(&profiler, TEXT("record"), TEXT("calls.c"), 50, &whole));
-    CALL(puffin_register_scope(&profiler, TEXT("part"), TEXT("record"), TEXT("calls.c"), 60, &part));
+    CALL(puffin_register(&profiler, PLACE("", "record", "calls.c", 50), &whole));
+    CALL(puffin_register(&profiler, PLACE("part", "record", "calls.c", 60), &part));
     pthread_mutex_unlock(&lock);
     int64_t now = work->start;
     for (int round = 0; round < 2; round++) {
@@ -123,8 +127,7 @@ static void refusals(void) {
     is("what is closed is off", puffin_scopes_on(&none), false);
     is("limit", puffin_set_max_bytes(&none, 1), PUFFIN_NOT_OPEN);
     is("limit", puffin_set_max_pending(&nothing, 1), PUFFIN_NOT_OPEN);
-    is("register", puffin_register_function(&nothing, TEXT("\xff"), TEXT(""), 0, &id), PUFFIN_NOT_OPEN);
-    is("register", puffin_register_scope(&nothing, TEXT("\xff"), TEXT(""), TEXT(""), 0, &id), PUFFIN_NOT_OPEN);
+    is("register", puffin_register(&nothing, PLACE("\xff", "", "", 0), &id), PUFFIN_NOT_OPEN);
     is("report", puffin_report(&none, &profiler), PUFFIN_NOT_OPEN);
     is("new frame", puffin_new_frame(&nothing, &frame), PUFFIN_NOT_OPEN);
     is("snapshot", puffin_snapshot(&nothing), PUFFIN_NOT_OPEN);
@@ -142,8 +145,9 @@ static void refusals(void) {
     is("no id", puffin_begin(&thread, 0, 0, TEXT(""), &number), PUFFIN_NO_ID);
     is("no text", puffin_begin(&thread, 0, 1, TEXT("\xff"), &number), PUFFIN_NOT_TEXT);
     number = 7;
-    REFUSED("no text", puffin_register_function(&profiler, TEXT("f"), TEXT("\xff"), 0, &id), PUFFIN_NOT_TEXT);
-    REFUSED("no text", puffin_register_scope(&profiler, TEXT("s"), TEXT("\xff"), TEXT(""), 0, &id), PUFFIN_NOT_TEXT);
+    REFUSED("no text", puffin_register(&profiler, PLACE("\xff", "f", "", 0), &id), PUFFIN_NOT_TEXT);
+    REFUSED("no text", puffin_register(&profiler, PLACE("s", "\xff", "", 0), &id), PUFFIN_NOT_TEXT);
+    REFUSED("no text", puffin_register(&profiler, PLACE("s", "f", "\xff", 0), &id), PUFFIN_NOT_TEXT);
     is("end of nothing", puffin_end(&thread, 0, 1), PUFFIN_MISMATCHED_END);
     is("end of no scope", puffin_end(&thread, 0, PUFFIN_NO_SCOPE), PUFFIN_OK);
     CALL(puffin_thread_close(&thread));
@@ -156,7 +160,7 @@ static void discarding(void) {
     uint64_t scope = 0, scopes = 7;
     uint32_t id = 0;
     CALL(puffin_thread_open(&thread, &ids, TEXT("main"), true));
-    CALL(puffin_register_function(&profiler, TEXT("kept name"), TEXT("calls.c"), 7, &id));
+    CALL(puffin_register(&profiler, PLACE("", "kept name", "calls.c", 7), &id));
     CALL(puffin_begin(&thread, 1000, id, TEXT("given up"), &scope));
     is("discard", puffin_thread_discard(&thread, &scopes), PUFFIN_SCOPES_OPEN);
     is("what a refusal leaves", scopes, 7);
@@ -172,14 +176,16 @@ static void discarding(void) {
     CALL(puffin_thread_close(&thread));
 }
 
-/* Two profilers that were opened with the same ids draw different ones. */
+/* Two places have different ids, also with two profilers that were opened with the same ids. */
 static void sharing(void) {
     PuffinProfiler other = {0};
-    uint32_t first = 0, second = 0;
+    uint32_t first = 0, second = 0, third = 0;
     CALL(puffin_profiler_open(&other, &ids));
-    CALL(puffin_register_function(&profiler, TEXT("one"), TEXT("calls.c"), 1, &first));
-    CALL(puffin_register_function(&other, TEXT("one"), TEXT("calls.c"), 1, &second));
-    is("the profilers' ids differ", first != second, true);
+    CALL(puffin_register(&profiler, PLACE("", "one", "calls.c", 1), &first));
+    CALL(puffin_register(&profiler, PLACE("", "two", "calls.c", 2), &second));
+    CALL(puffin_register(&other, PLACE("", "one", "calls.c", 1), &third));
+    is("a profiler's ids differ", first != second, true);
+    is("the profilers' ids differ", first != third && second != third, true);
     CALL(puffin_profiler_close(&other));
 }
 
@@ -227,9 +233,9 @@ static void limiting(void) {
     is("what no beginning gives", inner, PUFFIN_NO_SCOPE);
     is("its end", puffin_end(&thread, 2, inner), PUFFIN_OK);
     is("end", puffin_end(&thread, 3, outer), PUFFIN_OK);
-    CALL(puffin_user_scopes(&small, true, 5, TEXT("gpu"), one_scope, 31, false));
+    CALL(puffin_user_scopes(&small, &gpu, one_scope, 31, false));
     is("no room for a report", puffin_report(&thread, &small), PUFFIN_MEMORY);
-    is("no room for own scopes", puffin_user_scopes(&small, true, 5, TEXT("gpu"), one_scope, 31, false), PUFFIN_MEMORY);
+    is("no room for own scopes", puffin_user_scopes(&small, &gpu, one_scope, 31, false), PUFFIN_MEMORY);
     CALL(puffin_new_frame(&small, &frame));
     is("scopes", frame.scopes, 1);
     CALL(puffin_report(&thread, &small));
@@ -291,7 +297,7 @@ static void is_scope(const PuffinScope *scope, uint32_t id, int64_t start, int64
 static void listing(void) {
     static uint8_t bytes[200], texts[9];
     static PuffinScope scopes[6];
-    PuffinLists sizes = {7, 7};
+    PuffinScopeList none = {0}, one = {scopes, 1, texts, 3, 7, 7}, list = {scopes, 6, texts, sizeof texts, 7, 7};
     size_t size = 0;
     size += begin_at(bytes + size, 1, 5, "ab", 32 + 34 + 31);
     size += begin_at(bytes + size, 2, 6, "c", 34);
@@ -303,10 +309,11 @@ static void listing(void) {
     size += end_at(bytes + size, 9);
     size += begin_at(bytes + size, 4, 9, "g", 0);
     size += end_at(bytes + size, 9);
-    CALL(puffin_scopes(bytes, size, false, NULL, 0, NULL, 0, &sizes));
-    is("scopes", sizes.rows, 5);
-    is("bytes of texts", sizes.bytes, 7);
-    CALL(puffin_scopes(bytes, size, false, scopes, 6, texts, sizeof texts, &sizes));
+    CALL(puffin_scopes(bytes, size, false, &none));
+    is("scopes", none.num_rows, 5);
+    is("bytes of texts", none.num_bytes, 7);
+    is("the list's places", !none.rows && !none.bytes && none.room + none.bytes_room == 0, true);
+    CALL(puffin_scopes(bytes, size, false, &list));
     is_scope(&scopes[0], 1, 5, 9, 0, 0, 2);
     is_scope(&scopes[1], 2, 6, 7, 1, 2, 1);
     is_scope(&scopes[2], 3, 6, 7, 2, 3, 3);
@@ -316,25 +323,25 @@ static void listing(void) {
     is("texts", memcmp(texts, "abcdefg\0", 9) == 0, true);
     memset(scopes, 0, sizeof scopes);
     memset(texts, 0, sizeof texts);
-    CALL(puffin_scopes(bytes, size, false, scopes, 1, texts, 3, &sizes));
-    is("scopes", sizes.rows, 5);
+    CALL(puffin_scopes(bytes, size, false, &one));
+    is("scopes", one.num_rows, 5);
     is_scope(&scopes[0], 1, 5, 9, 0, 0, 2);
     is_scope(&scopes[1], 0, 0, 0, 0, 0, 0);
     is("texts", memcmp(texts, "abc\0", 5) == 0, true);
-    REFUSED("cut bytes", puffin_scopes(bytes, size - 1, false, scopes, 6, texts, 9, &sizes), PUFFIN_PREMATURE_END);
-    is("what a refusal leaves", sizes.rows + scopes[1].id + texts[3], 5);
-    CALL(puffin_scopes(NULL, 0, true, scopes, 6, texts, 9, &sizes));
-    is("no scopes", sizes.rows + sizes.bytes, 0);
+    REFUSED("cut bytes", puffin_scopes(bytes, size - 1, false, &list), PUFFIN_PREMATURE_END);
+    is("what a refusal leaves", list.num_rows + scopes[1].id + texts[3], 5);
+    CALL(puffin_scopes(NULL, 0, true, &list));
+    is("no scopes", list.num_rows + list.num_bytes, 0);
 }
 
 /* Scopes of the program's own, under a name that no thread has. */
 static void user_scopes(void) {
     PuffinProfiler nothing = {0};
-    is("user scopes", puffin_user_scopes(&nothing, false, 0, TEXT("\xff"), one_scope, 30, false), PUFFIN_NOT_OPEN);
-    REFUSED("no text", puffin_user_scopes(&profiler, false, 0, TEXT("\xff"), one_scope, 30, false), PUFFIN_NOT_TEXT);
-    REFUSED("cut bytes", puffin_user_scopes(&profiler, true, 5, TEXT("gpu"), one_scope, 30, false), PUFFIN_PREMATURE_END);
-    CALL(puffin_user_scopes(&profiler, true, 5, TEXT("gpu"), one_scope, 31, false));
-    REFUSED("long texts", puffin_user_scopes(&profiler, true, 5, TEXT("gpu"), one_scope, 31, true), PUFFIN_UNLIKE_FORMS);
+    is("user scopes", puffin_user_scopes(&nothing, &no_text, one_scope, 30, false), PUFFIN_NOT_OPEN);
+    REFUSED("no text", puffin_user_scopes(&profiler, &no_text, one_scope, 30, false), PUFFIN_NOT_TEXT);
+    REFUSED("cut bytes", puffin_user_scopes(&profiler, &gpu, one_scope, 30, false), PUFFIN_PREMATURE_END);
+    CALL(puffin_user_scopes(&profiler, &gpu, one_scope, 31, false));
+    REFUSED("long texts", puffin_user_scopes(&profiler, &gpu, one_scope, 31, true), PUFFIN_UNLIKE_FORMS);
 }
 
 /* The name of a number is the one that the header gives it. */
@@ -452,28 +459,29 @@ static void record_one(PuffinThread *thread, PuffinProfiler *to, uint32_t id, Pu
 
 /* The next frame lists what was registered, whichever thread uses it, and whether any does. */
 static void naming(void) {
-    PuffinThread main_thread = {0}, worker = {0};
+    PuffinThread first = {0}, worker = {0};
     PuffinProfiler own = {0};
     PuffinFrame frame = {0};
     uint64_t outer = 0;
+    const PuffinPlace later = {.name = puffin_text("later name"), .function = puffin_text("first name"), .line = 9};
     uint32_t id = 0, part = 0, unused = 0;
     CALL(puffin_profiler_open(&own, &ids));
-    CALL(puffin_thread_open_str(&main_thread, &ids, "main", false));
+    CALL(puffin_thread_open_str(&first, &ids, "main", false));
     CALL(puffin_thread_open_str(&worker, &ids, "worker", false));
-    CALL(puffin_register_function_str(&own, "first name", "calls.c", 7, &id));
-    CALL(puffin_register_scope(&own, TEXT("a zero\0in a name"), TEXT("first name"), NULL, 0, 8, &unused));
-    CALL(puffin_thread_close(&main_thread));
+    CALL(puffin_register(&own, PLACE("", "first name", "calls.c", 7), &id));
+    CALL(puffin_register(&own, PLACE("a zero\0in a name", "first name", "", 8), &unused));
+    CALL(puffin_thread_close(&first));
     record_one(&worker, &own, id, &frame);
     is("scopes", frame.scopes, 1);
     is("a name that was registered before", has_text(&own, "first name"), true);
     is("a name that no scope has, with a zero", has_text(&own, "in a name"), true);
     /* while a scope is open on another thread */
-    CALL(puffin_thread_open_str(&main_thread, &ids, "main", false));
-    CALL(puffin_begin(&main_thread, 5, id, NULL, 0, &outer));
-    CALL(puffin_register_scope_str(&own, "later name", "first name", NULL, 9, &part));
+    CALL(puffin_thread_open_str(&first, &ids, "main", false));
+    CALL(puffin_begin(&first, 5, id, NULL, 0, &outer));
+    CALL(puffin_register(&own, &later, &part));
     record_one(&worker, &own, part, &frame);
     is("a name that was registered later", has_text(&own, "later name"), true);
-    CALL(puffin_thread_close(&main_thread));
+    CALL(puffin_thread_close(&first));
     CALL(puffin_thread_close(&worker));
     CALL(puffin_profiler_close(&own));
 }
@@ -489,7 +497,7 @@ static void views(void) {
     is("a packet of no frame", size, 0);
     CALL(puffin_set_limits(&profiler, 1, 0));
     for (int i = 0; i < 3; i++) {
-        CALL(puffin_user_scopes(&profiler, true, 5, TEXT("gpu"), one_scope, 31, false));
+        CALL(puffin_user_scopes(&profiler, &gpu, one_scope, 31, false));
         CALL(puffin_new_frame(&profiler, &frame));
     }
     CALL(puffin_frame_begin(&profiler, &size));
@@ -498,7 +506,7 @@ static void views(void) {
     is("a file of one frame", size, packet_size + 4);
     is("a name that isn't new", has(file_bytes, read_file(file_bytes, size), "kept name"), false);
     CALL(puffin_snapshot(&profiler));
-    CALL(puffin_user_scopes(&profiler, true, 5, TEXT("gpu"), one_scope, 31, false));
+    CALL(puffin_user_scopes(&profiler, &gpu, one_scope, 31, false));
     CALL(puffin_new_frame(&profiler, &frame));
     CALL(puffin_file_begin(&profiler, &size));
     is("a snapshot's name", has(file_bytes, read_file(file_bytes, size), "kept name"), true);
@@ -522,12 +530,12 @@ static void viewing(const uint8_t *file, uint64_t size) {
     static PuffinStream streams[4];
     static PuffinScope scopes[8];
     static uint8_t names[64], bytes[1024], texts[64];
-    PuffinLists sizes = {0, 0};
-    PuffinFrame frame = {0};
-    uint64_t next = 7;
-    CALL(puffin_file_threads(file, size, threads, 4, names, sizeof names, &sizes));
-    is("threads", sizes.rows, 3);
-    is("bytes of names", sizes.bytes, 13);
+    PuffinFileThreadList found = {threads, 4, names, sizeof names, 7, 7};
+    PuffinStreamList list = {.rows = streams, .room = 4, .bytes = bytes, .bytes_room = sizeof bytes};
+    PuffinScopeList last = {scopes, 8, texts, sizeof texts, 7, 7};
+    CALL(puffin_file_threads(file, size, &found));
+    is("threads", found.num_rows, 3);
+    is("bytes of names", found.num_bytes, 13);
     is("names", memcmp(names, "gpumainworker", 14) == 0, true);
     is("start", (uint64_t)threads[0].start_ns, 5);
     is("start", (uint64_t)threads[1].start_ns, 1000);
@@ -539,10 +547,10 @@ static void viewing(const uint8_t *file, uint64_t size) {
     }
     is("place of a name", threads[2].name_at, 7);
     is("size of a name", threads[2].name_size, 6);
-    CALL(puffin_frame_streams(file, size, 0, &frame, &next, streams, 4, bytes, sizeof bytes, &sizes));
-    is("scopes", frame.scopes, 13);
-    is("the frame's end", next, size);
-    is("streams", sizes.rows, 3);
+    CALL(puffin_frame_streams(file, size, 0, &list));
+    is("scopes", list.frame.scopes, 13);
+    is("the frame's end", list.next, size);
+    is("streams", list.num_rows, 3);
     is("a short stream", streams[1].long_texts, false);
     is("a long stream", streams[2].long_texts, true);
     is("scopes", streams[2].scopes, 6);
@@ -550,21 +558,20 @@ static void viewing(const uint8_t *file, uint64_t size) {
     is("start", (uint64_t)streams[2].start_ns, 1500);
     is("name", memcmp(bytes + streams[2].name_at, TEXT("worker")) == 0, true);
     is("size of the name", streams[2].name_size, 6);
-    is("bytes", streams[2].stream_at + streams[2].stream_size, sizes.bytes);
-    CALL(puffin_scopes(bytes + streams[2].stream_at, streams[2].stream_size, true, scopes, 8, texts, sizeof texts, &sizes));
-    is("scopes", sizes.rows, 6);
+    is("bytes", streams[2].stream_at + streams[2].stream_size, list.num_bytes);
+    CALL(puffin_scopes(bytes + streams[2].stream_at, streams[2].stream_size, true, &last));
+    is("scopes", last.num_rows, 6);
     is_scope(&scopes[1], scopes[1].id, 1600, 1650, 1, 0, 4);
     is("texts", memcmp(texts, "stepstepstepstep", 17) == 0, true);
-    CALL(puffin_frame_streams(file, size, next, &frame, &next, streams, 4, bytes, sizeof bytes, &sizes));
-    is("no frame", frame.is_some, false);
-    is("no streams", sizes.rows + sizes.bytes, 0);
-    is("the file's end", next, size);
-    REFUSED("past the end", puffin_frame_streams(file, size, size + 1, &frame, &next, streams, 4, bytes, 1, &sizes),
-            PUFFIN_INVALID_OFFSET);
-    REFUSED("a cut file", puffin_frame_streams(file, size - 1, 4, &frame, &next, streams, 4, bytes, 1, &sizes),
-            PUFFIN_FILE_TRUNCATED);
-    REFUSED("a cut file", puffin_file_threads(file, size - 1, threads, 4, names, 1, &sizes), PUFFIN_FILE_TRUNCATED);
-    REFUSED("no file", puffin_frame_streams(TEXT("XUF0"), 0, &frame, &next, streams, 4, bytes, 1, &sizes), PUFFIN_FILE_NO_MAGIC);
+    CALL(puffin_frame_streams(file, size, list.next, &list));
+    is("no frame", list.frame.is_some, false);
+    is("no streams", list.num_rows + list.num_bytes, 0);
+    is("the file's end", list.next, size);
+    REFUSED("past the end", puffin_frame_streams(file, size, size + 1, &list), PUFFIN_INVALID_OFFSET);
+    REFUSED("a cut file", puffin_frame_streams(file, size - 1, 4, &list), PUFFIN_FILE_TRUNCATED);
+    REFUSED("a cut file", puffin_file_threads(file, size - 1, &found), PUFFIN_FILE_TRUNCATED);
+    REFUSED("no file", puffin_frame_streams(TEXT("XUF0"), 0, &list), PUFFIN_FILE_NO_MAGIC);
+    is("what a refusal leaves", list.next + found.num_rows, size + 3);
 }
 
 static void is_merged(const PuffinMerged *merged, uint32_t id, uint64_t depth, int64_t start, int64_t total, int64_t per_frame,
@@ -585,40 +592,41 @@ static void merging(const uint8_t *file, uint64_t size) {
     PuffinProfiler nothing = {0};
     static PuffinMerged merged[4];
     static uint8_t texts[8];
-    PuffinLists sizes = {7, 7};
-    is("merge", puffin_merge_view(&nothing, 1, false, 0, TEXT("\xff"), merged, 4, texts, 8, &sizes), PUFFIN_NOT_OPEN);
-    is("no text", puffin_merge_view(&profiler, 1, false, 0, TEXT("\xff"), merged, 4, texts, 8, &sizes), PUFFIN_NOT_TEXT);
-    is("no text", puffin_merge_file(TEXT("XUF0"), false, 0, TEXT("\xff"), merged, 4, texts, 8, &sizes), PUFFIN_NOT_TEXT);
-    REFUSED("a cut file", puffin_merge_file(file, size - 1, true, 1000, TEXT("main"), merged, 4, texts, 8, &sizes),
-            PUFFIN_FILE_TRUNCATED);
-    is("what a refusal leaves", sizes.rows + sizes.bytes + merged[0].pieces + texts[0], 14);
+    PuffinMergedList none = {0}, list = {merged, 4, texts, sizeof texts, 7, 7};
+    is("merge", puffin_merge_view(&nothing, 1, &no_text, &list), PUFFIN_NOT_OPEN);
+    is("no text", puffin_merge_view(&profiler, 1, &no_text, &list), PUFFIN_NOT_TEXT);
+    is("no text", puffin_merge_file(TEXT("XUF0"), &no_text, &list), PUFFIN_NOT_TEXT);
+    REFUSED("a cut file", puffin_merge_file(file, size - 1, &main_thread, &list), PUFFIN_FILE_TRUNCATED);
+    is("what a refusal leaves", list.num_rows + list.num_bytes + merged[0].pieces + texts[0], 14);
     for (int i = 0; i < 2; i++) {
         memset(merged, 0, sizeof merged);
         memset(texts, 0, sizeof texts);
         if (i == 0) {
-            CALL(puffin_merge_file(file, size, true, 1000, TEXT("main"), merged, 4, texts, sizeof texts, &sizes));
+            CALL(puffin_merge_file(file, size, &main_thread, &list));
         } else {
-            CALL(puffin_merge_view(&profiler, 9, true, 1000, TEXT("main"), merged, 4, texts, sizeof texts, &sizes));
+            CALL(puffin_merge_view(&profiler, 9, &main_thread, &list));
         }
-        is("merged scopes", sizes.rows, 2);
-        is("bytes of texts", sizes.bytes, 4);
+        is("merged scopes", list.num_rows, 2);
+        is("bytes of texts", list.num_bytes, 4);
         is_merged(&merged[0], merged[0].id, 0, 1000, 800, 800, 400, 2, 0, 0);
         is_merged(&merged[1], merged[1].id, 1, 100, 200, 200, 50, 4, 0, 4);
         is_merged(&merged[2], 0, 0, 0, 0, 0, 0, 0, 0, 0);
         is("the function and its part", merged[0].id != merged[1].id, true);
         is("texts", memcmp(texts, "step\0", 6) == 0, true);
     }
-    CALL(puffin_merge_view(&profiler, 1, false, 0, TEXT("main"), NULL, 0, NULL, 0, &sizes));
-    is("no thread without a start", sizes.rows + sizes.bytes, 0);
-    CALL(puffin_merge_view(&profiler, 0, true, 1000, TEXT("main"), NULL, 0, NULL, 0, &sizes));
-    is("no frames", sizes.rows + sizes.bytes, 0);
+    none.num_rows = none.num_bytes = 7;
+    CALL(puffin_merge_view(&profiler, 1, &main_without_start, &none));
+    is("no thread without a start", none.num_rows + none.num_bytes, 0);
+    none.num_rows = none.num_bytes = 7;
+    CALL(puffin_merge_view(&profiler, 0, &main_thread, &none));
+    is("no frames", none.num_rows + none.num_bytes, 0);
 }
 
 /* The view has one more frame, from 10 on, which is merged by itself, and with the one before it, which begins at 5. */
 static void merging_two(void) {
     static uint8_t bytes[200], texts[4];
     static PuffinMerged merged[4];
-    PuffinLists sizes = {7, 7};
+    PuffinMergedList list = {merged, 4, texts, sizeof texts, 7, 7};
     PuffinFrame frame = {0};
     size_t size = 0;
     size += begin_at(bytes + size, 1, 10, "ab", 32);
@@ -627,26 +635,28 @@ static void merging_two(void) {
     size += end_at(bytes + size, 18);
     size += begin_at(bytes + size, 1, 20, "", 0);
     size += end_at(bytes + size, 22);
-    CALL(puffin_user_scopes(&profiler, true, 5, TEXT("gpu"), bytes, size, false));
+    CALL(puffin_user_scopes(&profiler, &gpu, bytes, size, false));
     CALL(puffin_new_frame(&profiler, &frame));
-    CALL(puffin_merge_view(&profiler, 1, true, 5, TEXT("gpu"), merged, 4, texts, sizeof texts, &sizes));
-    is("merged scopes", sizes.rows, 3);
+    CALL(puffin_merge_view(&profiler, 1, &gpu, &list));
+    is("merged scopes", list.num_rows, 3);
     is_merged(&merged[0], 1, 0, 10, 8, 8, 8, 1, 0, 2);
     is_merged(&merged[1], 2, 1, 2, 1, 1, 1, 1, 2, 1);
     is_merged(&merged[2], 1, 0, 20, 2, 2, 2, 1, 3, 0);
     is("texts", memcmp(texts, "abc", 4) == 0, true);
     /* Of one start, the scope without a text is first, and the other one starts where its 3 of each frame end. */
-    CALL(puffin_merge_view(&profiler, 2, true, 5, TEXT("gpu"), merged, 4, texts, sizeof texts, &sizes));
-    is("merged scopes", sizes.rows, 3);
-    is("bytes of texts", sizes.bytes, 3);
+    CALL(puffin_merge_view(&profiler, 2, &gpu, &list));
+    is("merged scopes", list.num_rows, 3);
+    is("bytes of texts", list.num_bytes, 3);
     is_merged(&merged[0], 1, 0, 5, 6, 3, 4, 2, 0, 0);
     is_merged(&merged[1], 1, 0, 8, 8, 4, 8, 1, 0, 2);
     is_merged(&merged[2], 2, 1, 2, 1, 0, 1, 1, 2, 1);
     is("texts", memcmp(texts, "abc", 4) == 0, true);
     memset(merged, 0, sizeof merged);
     memset(texts, 0, sizeof texts);
-    CALL(puffin_merge_view(&profiler, 2, true, 5, TEXT("gpu"), merged, 1, texts, 2, &sizes));
-    is("merged scopes", sizes.rows, 3);
+    list.room = 1;
+    list.bytes_room = 2;
+    CALL(puffin_merge_view(&profiler, 2, &gpu, &list));
+    is("merged scopes", list.num_rows, 3);
     is_merged(&merged[0], 1, 0, 5, 6, 3, 4, 2, 0, 0);
     is_merged(&merged[1], 0, 0, 0, 0, 0, 0, 0, 0, 0);
     is("texts", memcmp(texts, "ab\0", 4) == 0, true);
@@ -657,10 +667,10 @@ static void merging_deep(void) {
     enum { DEEP = 1025 };
     static uint8_t bytes[31 * DEEP], file[32 * DEEP];
     PuffinMerged merged = {0};
-    PuffinLists sizes = {7, 7};
     PuffinFrame frame = {0};
     uint64_t size = 0, got = 0;
     uint8_t text = 7;
+    PuffinMergedList list = {&merged, 1, &text, 1, 7, 7};
     for (int i = 0; i < DEEP; i++) {
         size_t children = 31 * (DEEP - 1 - i);
         begin_at(bytes + 22 * i, 1, 5, "", (uint8_t)children);
@@ -668,15 +678,14 @@ static void merging_deep(void) {
         end_at(bytes + 22 * DEEP + 9 * i, 9);
     }
     CALL(puffin_view_clear(&profiler));
-    CALL(puffin_user_scopes(&profiler, true, 5, TEXT("gpu"), bytes, sizeof bytes, false));
+    CALL(puffin_user_scopes(&profiler, &gpu, bytes, sizeof bytes, false));
     CALL(puffin_new_frame(&profiler, &frame));
-    REFUSED("too deep", puffin_merge_view(&profiler, 1, true, 5, TEXT("gpu"), &merged, 1, &text, 1, &sizes), PUFFIN_TOO_DEEP);
+    REFUSED("too deep", puffin_merge_view(&profiler, 1, &gpu, &list), PUFFIN_TOO_DEEP);
     CALL(puffin_file_begin(&profiler, &size));
     CALL(puffin_file_next(&profiler, file, sizeof file, &got));
     is("bytes of the file", got, size);
-    REFUSED("too deep", puffin_merge_file(file, size, true, 5, TEXT("gpu"), &merged, 1, &text, 1, &sizes),
-            PUFFIN_FILE_REFUSED + 256 * PUFFIN_TOO_DEEP);
-    is("what a refusal leaves", sizes.rows + sizes.bytes + merged.pieces + text, 21);
+    REFUSED("too deep", puffin_merge_file(file, size, &gpu, &list), PUFFIN_FILE_REFUSED + 256 * PUFFIN_TOO_DEEP);
+    is("what a refusal leaves", list.num_rows + list.num_bytes + merged.pieces + text, 21);
 }
 
 static void reading(const char *path) {

@@ -52,11 +52,12 @@ int main(int argc, char **argv) {
         return zones(strcmp(argv[1], "zone") == 0, strtoll(argv[2], NULL, 10));
     }
     PuffinFrame frame = {0};
+    const PuffinPlace place = {.function = puffin_text("main"), .file = puffin_text("cost.c"), .line = 1};
     uint64_t reported = 0;
     uint32_t id = 0, fault = puffin_ids_open(&ids);
     fault |= puffin_thread_open(&thread, &ids, TEXT("main"), false);
     fault |= puffin_profiler_open(&profiler, &ids);
-    fault |= puffin_register_function(&profiler, TEXT("main"), TEXT("cost.c"), 1, &id);
+    fault |= puffin_register(&profiler, &place, &id);
     fault |= puffin_set_limits(&profiler, 1, 0);
     fault |= puffin_set_scopes_on(&thread, strcmp(argv[1], "off") != 0);
     for (int64_t left = strtoll(argv[2], NULL, 10); left > 0; left -= 128) {

@@ -27,7 +27,8 @@ static bool is_viewed(const uint8_t *bytes, size_t size) {
     memcpy(copy, bytes, size);
     bool is_sound = print_frames(copy, size) == PUFFIN_OK;
     print_threads(copy, size);
-    print_file_totals(copy, size, true, 1000, "main");
+    const PuffinThreadName thread = {puffin_text("main"), 1000, true};
+    print_file_totals(copy, size, &thread);
     free(copy);
     files++;
     faults += !is_sound;
@@ -45,7 +46,8 @@ static size_t of_many_streams(uint8_t *bytes, size_t room, int number) {
     for (int i = 0; i < number; i++) {
         char name[200];
         snprintf(name, sizeof name, "%0150d", i);
-        fault |= puffin_user_scopes_str(&profiler, true, i, name, scope, sizeof scope, false);
+        const PuffinThreadName thread = {puffin_text(name), i, true};
+        fault |= puffin_user_scopes(&profiler, &thread, scope, sizeof scope, false);
     }
     fault |= puffin_new_frame(&profiler, &frame) | puffin_file_begin(&profiler, &size);
     fault |= puffin_file_next(&profiler, bytes, room, &size);

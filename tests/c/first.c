@@ -21,6 +21,7 @@ int main(int argc, char **argv) {
     PuffinThread thread = {0};
     PuffinProfiler profiler = {0};
     PuffinFrame frame = {0};
+    const PuffinPlace load = {.function = puffin_text("load"), .file = puffin_text("load.c"), .line = 12};
     uint32_t id = 0;
     uint64_t scope, size = 0;
     uint8_t buffer[4096];
@@ -28,7 +29,7 @@ int main(int argc, char **argv) {
     CALL(puffin_ids_open(&ids));
     CALL(puffin_thread_open_str(&thread, &ids, "main", false));
     CALL(puffin_profiler_open(&profiler, &ids));
-    CALL(puffin_register_function_str(&profiler, "load", "load.c", 12, &id));
+    CALL(puffin_register(&profiler, &load, &id));
     CALL(puffin_begin_str(&thread, puffin_now_ns(), id, "image-12.png", &scope));
     CALL(puffin_end(&thread, puffin_now_ns(), scope));
     CALL(puffin_report(&thread, &profiler));   /* the closed scopes go to the profiler */

@@ -96,7 +96,8 @@ int main(int argc, char **argv) {
     for (int i = 0; i < NAMES; i++) {
         char name[20];
         snprintf(name, sizeof name, "name %d", i);
-        CALL(puffin_register_function_str(&profiler, name, "long.c", 0, &names[i]));
+        const PuffinPlace place = {.function = puffin_text(name), .file = puffin_text("long.c")};
+        CALL(puffin_register(&profiler, &place, &names[i]));
     }
     /* listing: writer */
     PuffinWriter writer = {0};

@@ -18,7 +18,7 @@ def said_of_stack():
 def calls():
     """The calls that puffin.h declares and the library has."""
     text = (HEADER / "puffin.h").read_text().partition("/* ---- empty texts")[0]
-    return set(re.findall(r"^(?:uint32_t|size_t|PuffinVersion) (puffin_\w+)\(", text, re.M))
+    return set(re.findall(r"^(?:PUFFIN_RESULT_ )?(?:uint32_t|size_t|PuffinVersion) (puffin_\w+)\(", text, re.M))
 
 
 def stack(programs):

@@ -75,9 +75,9 @@ static bool is_seen() {
     CALL(profiler.packet(append));
     PuffinFileThread threads[3];
     std::uint8_t names[20];
-    PuffinLists sizes;
-    CALL(puffin_file_threads(file.data(), file.size(), threads, 3, names, sizeof names, &sizes));
-    return sizes.rows == 2 && sizes.bytes == 10 && threads[0].scopes == 4 && threads[1].scopes == 4;
+    PuffinFileThreadList list = {threads, 3, names, sizeof names, 0, 0};
+    CALL(puffin_file_threads(file.data(), file.size(), &list));
+    return list.num_rows == 2 && list.num_bytes == 10 && threads[0].scopes == 4 && threads[1].scopes == 4;
 }
 
 int main(int argc, char **argv) {

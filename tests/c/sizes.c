@@ -39,11 +39,16 @@ int main(void) {
     is("PuffinIds", sizeof(PuffinIds), 16);
     is("PuffinThread", sizeof(PuffinThread), 16);
     is("PuffinProfiler", sizeof(PuffinProfiler), 16);
-    is("PuffinLists", sizeof(PuffinLists), 16);
     is("PuffinScope", sizeof(PuffinScope), 48);
     is("PuffinStream", sizeof(PuffinStream), 64);
     is("PuffinFileThread", sizeof(PuffinFileThread), 48);
     is("PuffinMerged", sizeof(PuffinMerged), 72);
+    is("PuffinPlace", sizeof(PuffinPlace), 56);
+    is("PuffinThreadName", sizeof(PuffinThreadName), 32);
+    is("PuffinScopeList", sizeof(PuffinScopeList), 48);
+    is("PuffinStreamList", sizeof(PuffinStreamList), 104);
+    is("PuffinFileThreadList", sizeof(PuffinFileThreadList), 48);
+    is("PuffinMergedList", sizeof(PuffinMergedList), 48);
     is("count", puffin_count(bytes, sizeof bytes, false, &count), PUFFIN_OK);
     is("scopes", count.scopes, 3);
     is("depth", count.depth, 2);

@@ -68,10 +68,14 @@ static void profiler_open(void) {
     LOOKED_AT(puffin_profiler_open(&own, &ids));
     LOOKED_AT(puffin_profiler_close(&own));
 }
+static PuffinThreadName started(const char *name, int64_t start_ns) {
+    const PuffinThreadName thread_name = {puffin_text(name), start_ns, true};
+    return thread_name;
+}
 static void registering(void) {
+    const PuffinPlace place = {puffin_text("s"), puffin_text("f"), puffin_text("stack.c"), 1};
     uint32_t id;
-    LOOKED_AT(puffin_register_function_str(&profiler, "f", "stack.c", 1, &id));
-    LOOKED_AT(puffin_register_scope_str(&profiler, "s", "f", "stack.c", 1, &id));
+    LOOKED_AT(puffin_register(&profiler, &place, &id));
 }
 static void begin_and_end(void) {
     uint64_t scope;
@@ -91,7 +95,8 @@ static void discard(void) {
     LOOKED_AT(puffin_thread_discard(&thread, &scopes));
 }
 static void user_scopes(void) {
-    LOOKED_AT(puffin_user_scopes_str(&profiler, true, 5, "deep", stream, 31 * DEEP, false));
+    const PuffinThreadName deep = started("deep", 5);
+    LOOKED_AT(puffin_user_scopes(&profiler, &deep, stream, 31 * DEEP, false));
 }
 static void new_frame(void) {
     PuffinFrame frame;
@@ -119,8 +124,8 @@ static void count(void) {
     LOOKED_AT(puffin_count(deeper_stream, 31 * DEEPER, false, &got));
 }
 static void scopes(void) {
-    PuffinLists sizes;
-    LOOKED_AT(puffin_scopes(deeper_stream, 31 * DEEPER, false, NULL, 0, NULL, 0, &sizes));
+    PuffinScopeList list = {0};
+    LOOKED_AT(puffin_scopes(deeper_stream, 31 * DEEPER, false, &list));
 }
 static void check_file(void) {
     uint64_t frames, offset, got;
@@ -128,26 +133,26 @@ static void check_file(void) {
     LOOKED_AT(puffin_check_file(wide_file, wide_file_size, &frames, &offset, &got));
 }
 static void frame_streams(void) {
-    PuffinFrame frame;
-    uint64_t next;
-    PuffinLists sizes;
-    LOOKED_AT(puffin_frame_streams(deeper_file, deeper_file_size, 0, &frame, &next, NULL, 0, NULL, 0, &sizes));
-    LOOKED_AT(puffin_frame_streams(wide_file, wide_file_size, 0, &frame, &next, NULL, 0, NULL, 0, &sizes));
+    PuffinStreamList list = {0};
+    LOOKED_AT(puffin_frame_streams(deeper_file, deeper_file_size, 0, &list));
+    LOOKED_AT(puffin_frame_streams(wide_file, wide_file_size, 0, &list));
 }
 static void file_threads(void) {
-    PuffinLists sizes;
-    LOOKED_AT(puffin_file_threads(deeper_file, deeper_file_size, NULL, 0, NULL, 0, &sizes));
-    LOOKED_AT(puffin_file_threads(wide_file, wide_file_size, NULL, 0, NULL, 0, &sizes));
+    PuffinFileThreadList list = {0};
+    LOOKED_AT(puffin_file_threads(deeper_file, deeper_file_size, &list));
+    LOOKED_AT(puffin_file_threads(wide_file, wide_file_size, &list));
 }
 static void merge_file(void) {
-    PuffinLists sizes;
-    LOOKED_AT(puffin_merge_file_str(file, file_size, true, 5, "deep", NULL, 0, NULL, 0, &sizes));
-    LOOKED_AT(puffin_merge_file_str(wide_file, wide_file_size, true, 5, "2", NULL, 0, NULL, 0, &sizes));
-    LOOKED_AT(puffin_merge_file_str(deeper_file, deeper_file_size, true, 5, "deep", NULL, 0, NULL, 0, &sizes));
+    const PuffinThreadName deep = started("deep", 5), two = started("2", 5);
+    PuffinMergedList list = {0};
+    LOOKED_AT(puffin_merge_file(file, file_size, &deep, &list));
+    LOOKED_AT(puffin_merge_file(wide_file, wide_file_size, &two, &list));
+    LOOKED_AT(puffin_merge_file(deeper_file, deeper_file_size, &deep, &list));
 }
 static void merge_view(void) {
-    PuffinLists sizes;
-    LOOKED_AT(puffin_merge_view_str(&profiler, 10, true, 5, "deep", NULL, 0, NULL, 0, &sizes));
+    const PuffinThreadName deep = started("deep", 5);
+    PuffinMergedList list = {0};
+    LOOKED_AT(puffin_merge_view(&profiler, 10, &deep, &list));
 }
 
 static const struct {
@@ -160,7 +165,7 @@ static const struct {
     {"puffin_ids_open puffin_ids_close", ids_open},
     {"puffin_thread_open puffin_thread_close", thread_open},
     {"puffin_profiler_open puffin_profiler_close", profiler_open},
-    {"puffin_register_function puffin_register_scope", registering},
+    {"puffin_register", registering},
     {"puffin_begin puffin_end", begin_and_end},
     {"puffin_set_scopes_on puffin_set_max_bytes puffin_set_max_pending puffin_set_limits puffin_snapshot", switches},
     {"puffin_report", report},
@@ -202,18 +207,21 @@ static uint32_t wait_wide(void) {
     for (int i = 0; i < WIDE; i++) {
         char name[20];
         snprintf(name, sizeof name, "%d", i * 7919 % WIDE);
-        fault |= puffin_register_function_str(&profiler, name, "stack.c", 1, &id);
-        fault |= puffin_user_scopes_str(&profiler, true, WIDE - i, name, stream + 22 * (DEEP - 1), 31, false);
+        const PuffinPlace place = {puffin_text(NULL), puffin_text(name), puffin_text("stack.c"), 1};
+        const PuffinThreadName thread_name = started(name, WIDE - i);
+        fault |= puffin_register(&profiler, &place, &id);
+        fault |= puffin_user_scopes(&profiler, &thread_name, stream + 22 * (DEEP - 1), 31, false);
     }
     return fault;
 }
 
 /* The file of one frame of these scopes, which the view has too. */
 static uint8_t *file_of(const uint8_t *bytes, size_t size, uint64_t *file_bytes) {
+    const PuffinThreadName deep = started("deep", 5);
     PuffinFrame frame;
     uint8_t *made;
     uint32_t fault = puffin_view_clear(&profiler);
-    fault |= bytes ? puffin_user_scopes_str(&profiler, true, 5, "deep", bytes, size, false) : wait_wide();
+    fault |= bytes ? puffin_user_scopes(&profiler, &deep, bytes, size, false) : wait_wide();
     fault |= puffin_new_frame(&profiler, &frame) | puffin_file_begin(&profiler, file_bytes);
     made = malloc(*file_bytes);
     fault |= puffin_file_next(&profiler, made, *file_bytes, file_bytes);

@@ -5,28 +5,30 @@
 #include <stdlib.h>
 
 /* listing: totals */
-static void print_merged(const PuffinMerged *merged, uint64_t number) {
-    for (uint64_t i = 0; i < number; i++) { /* each merged scope before those in it, with its depth */
-        printf("%*s%" PRIu32 " %" PRIi64 " ns per frame\n", (int)(2 * merged[i].depth), "", merged[i].id, merged[i].per_frame_ns);
+static void print_merged(const PuffinMergedList *list) {
+    for (uint64_t i = 0; i < list->num_rows && i < list->room; i++) { /* each merged scope before those in it, with its depth */
+        const PuffinMerged *merged = &list->rows[i];
+        printf("%*s%" PRIu32 " %" PRIi64 " ns per frame\n", (int)(2 * merged->depth), "", merged->id, merged->per_frame_ns);
     }
 }
 
 /* The newest 60 frames of a view, for example once a second. */
-static uint32_t print_totals(PuffinProfiler *profiler, int64_t first_start_ns, const char *thread) {
+static uint32_t print_totals(PuffinProfiler *profiler, int64_t first_start_ns, const char *name) {
     PuffinMerged merged[100];
-    PuffinLists sizes = {0, 0};
-    uint32_t fault = puffin_merge_view_str(profiler, 60, true, first_start_ns, thread, merged, 100, NULL, 0, &sizes);
-    print_merged(merged, sizes.rows < 100 ? sizes.rows : 100); /* sizes tells how many there are, of which 100 have room */
+    PuffinMergedList list = {.rows = merged, .room = 100};
+    const PuffinThreadName thread = {.name = puffin_text(name), .start_ns = first_start_ns, .has_start = true};
+    uint32_t fault = puffin_merge_view(profiler, 60, &thread, &list);
+    print_merged(&list);
     return fault;
 }
 /* end of listing */
 
 /* All frames of a file. */
-static uint32_t print_file_totals(const uint8_t *file, size_t size, bool has_start, int64_t start_ns, const char *thread) {
+static uint32_t print_file_totals(const uint8_t *file, size_t size, const PuffinThreadName *thread) {
     PuffinMerged merged[100];
-    PuffinLists sizes = {0, 0};
-    uint32_t fault = puffin_merge_file_str(file, size, has_start, start_ns, thread, merged, 100, NULL, 0, &sizes);
-    print_merged(merged, sizes.rows < 100 ? sizes.rows : 100);
+    PuffinMergedList list = {.rows = merged, .room = 100};
+    uint32_t fault = puffin_merge_file(file, size, thread, &list);
+    print_merged(&list);
     return fault;
 }
 
@@ -35,12 +37,14 @@ int main(void) {
     PuffinProfiler profiler = {0};
     PuffinThread thread = {0};
     PuffinFrame frame = {0};
+    const PuffinPlace turn = {.function = puffin_text("turn"), .file = puffin_text("totals.c"), .line = 1};
+    const PuffinThreadName main_thread = {.name = puffin_text("main"), .start_ns = 100, .has_start = true};
     uint8_t file[4096];
     uint64_t outer, inner, size = 0;
     uint32_t id = 0, fault = puffin_ids_open(&ids);
     fault |= puffin_profiler_open(&profiler, &ids);
     fault |= puffin_thread_open_str(&thread, &ids, "main", false);
-    fault |= puffin_register_function_str(&profiler, "turn", "totals.c", 1, &id);
+    fault |= puffin_register(&profiler, &turn, &id);
     for (int64_t now = 100; now < 300; now += 100) {
         fault |= puffin_begin_str(&thread, now, id, NULL, &outer);
         fault |= puffin_begin_str(&thread, now + 10, id, "within", &inner);
@@ -52,7 +56,7 @@ int main(void) {
     fault |= print_totals(&profiler, 100, "main");
     fault |= puffin_file_begin(&profiler, &size);
     fault |= puffin_file_next(&profiler, file, sizeof file, &size);
-    fault |= print_file_totals(file, size, true, 100, "main");
+    fault |= print_file_totals(file, size, &main_thread);
     fault |= puffin_thread_close(&thread);
     fault |= puffin_profiler_close(&profiler);
     fault |= puffin_ids_close(&ids);

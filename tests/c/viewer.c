@@ -13,81 +13,82 @@ static void *room_for(uint64_t number, size_t size) {
 
 /* Prints the scopes of a stream. Returns 0, or a fault. */
 static uint32_t print_scopes(const uint8_t *stream, uint64_t size, bool long_texts) {
-    PuffinLists sizes;
-    uint32_t fault = puffin_scopes(stream, size, long_texts, NULL, 0, NULL, 0, &sizes); /* how many are there? */
+    PuffinScopeList list = {0};
+    uint32_t fault = puffin_scopes(stream, size, long_texts, &list); /* how many are there? */
     if (fault != PUFFIN_OK) {
         return fault;
     }
-    PuffinScope *scopes = room_for(sizes.rows, sizeof *scopes);
-    uint8_t *texts = room_for(sizes.bytes, 1);
-    fault = scopes && texts ? puffin_scopes(stream, size, long_texts, scopes, sizes.rows, texts, sizes.bytes, &sizes) : PUFFIN_MEMORY;
-    for (uint64_t i = 0; fault == PUFFIN_OK && i < sizes.rows; i++) { /* each before its children, with its depth */
-        const PuffinScope *scope = &scopes[i];
+    list.rows = room_for(list.room = list.num_rows, sizeof *list.rows);
+    list.bytes = room_for(list.bytes_room = list.num_bytes, 1);
+    fault = list.rows && list.bytes ? puffin_scopes(stream, size, long_texts, &list) : PUFFIN_MEMORY;
+    for (uint64_t i = 0; fault == PUFFIN_OK && i < list.num_rows; i++) { /* each before its children, with its depth */
+        const PuffinScope *scope = &list.rows[i];
         printf("%*s%" PRIi64 " %" PRIi64, (int)(2 * scope->depth + 4), "", scope->start_ns, scope->stop_ns - scope->start_ns);
-        printf("%s%.*s\n", scope->text_size ? " " : "", (int)scope->text_size, (const char *)texts + scope->text_at);
+        printf("%s%.*s\n", scope->text_size ? " " : "", (int)scope->text_size, (const char *)list.bytes + scope->text_at);
     }
-    free(scopes);
-    free(texts);
+    free(list.rows);
+    free(list.bytes);
     return fault;
 }
 /* end of listing */
 
-/* Prints the frame at an offset, and sets *next to the offset of the next one. */
-static uint32_t print_frame(const uint8_t *file, size_t size, uint64_t offset, PuffinFrame *frame, uint64_t *next) {
-    PuffinLists sizes;
-    uint32_t fault = puffin_frame_streams(file, size, offset, frame, next, NULL, 0, NULL, 0, &sizes);
-    if (fault != PUFFIN_OK || !frame->is_some) {
+/* Prints the frame at *offset, and sets *offset to that of the next one, if there is a frame. */
+static uint32_t print_frame(const uint8_t *file, size_t size, uint64_t *offset, bool *is_some) {
+    PuffinStreamList streams = {0};
+    uint32_t fault = puffin_frame_streams(file, size, *offset, &streams);
+    *is_some = streams.frame.is_some;
+    if (fault != PUFFIN_OK || !*is_some) {
         return fault;
     }
-    PuffinStream *streams = room_for(sizes.rows, sizeof *streams);
-    uint8_t *bytes = room_for(sizes.bytes, 1);
-    fault = streams && bytes ? puffin_frame_streams(file, size, offset, frame, next, streams, sizes.rows, bytes, sizes.bytes, &sizes)
-                             : PUFFIN_MEMORY;
-    printf("frame %" PRIu64 " scopes %" PRIu64 "\n", frame->index, frame->scopes);
-    for (uint64_t i = 0; fault == PUFFIN_OK && i < sizes.rows; i++) {
-        const PuffinStream *stream = &streams[i];
+    streams.rows = room_for(streams.room = streams.num_rows, sizeof *streams.rows);
+    streams.bytes = room_for(streams.bytes_room = streams.num_bytes, 1);
+    fault = streams.rows && streams.bytes ? puffin_frame_streams(file, size, *offset, &streams) : PUFFIN_MEMORY;
+    *offset = streams.next;
+    printf("frame %" PRIu64 " scopes %" PRIu64 "\n", streams.frame.index, streams.frame.scopes);
+    for (uint64_t i = 0; fault == PUFFIN_OK && i < streams.num_rows; i++) {
+        const PuffinStream *stream = &streams.rows[i];
         if (stream->has_start) {
             printf("  %" PRIi64, stream->start_ns);
         }
-        printf(":%.*s scopes %" PRIu64 " depth %" PRIu64 "\n", (int)stream->name_size, (const char *)bytes + stream->name_at,
+        printf(":%.*s scopes %" PRIu64 " depth %" PRIu64 "\n", (int)stream->name_size, (const char *)streams.bytes + stream->name_at,
                stream->scopes, stream->depth);
-        fault = print_scopes(bytes + stream->stream_at, stream->stream_size, stream->long_texts);
+        fault = print_scopes(streams.bytes + stream->stream_at, stream->stream_size, stream->long_texts);
     }
-    free(streams);
-    free(bytes);
+    free(streams.rows);
+    free(streams.bytes);
     return fault;
 }
 
 /* Prints all frames of a file, up to its end or to the first fault, which it returns. */
 static uint32_t print_frames(const uint8_t *file, size_t size) {
-    PuffinFrame frame = {0};
-    uint64_t next = 0;
+    uint64_t offset = 0;
     uint32_t fault;
+    bool is_some;
     do {
-        fault = print_frame(file, size, next, &frame, &next);
-    } while (fault == PUFFIN_OK && frame.is_some);
+        fault = print_frame(file, size, &offset, &is_some);
+    } while (fault == PUFFIN_OK && is_some);
     return fault;
 }
 
 static uint32_t print_threads(const uint8_t *file, size_t size) {
-    PuffinLists sizes;
-    uint32_t fault = puffin_file_threads(file, size, NULL, 0, NULL, 0, &sizes);
+    PuffinFileThreadList threads = {0};
+    uint32_t fault = puffin_file_threads(file, size, &threads);
     if (fault != PUFFIN_OK) {
         return fault;
     }
-    PuffinFileThread *threads = room_for(sizes.rows, sizeof *threads);
-    uint8_t *names = room_for(sizes.bytes, 1);
-    fault = threads && names ? puffin_file_threads(file, size, threads, sizes.rows, names, sizes.bytes, &sizes) : PUFFIN_MEMORY;
-    for (uint64_t i = 0; fault == PUFFIN_OK && i < sizes.rows; i++) {
-        const PuffinFileThread *thread = &threads[i];
+    threads.rows = room_for(threads.room = threads.num_rows, sizeof *threads.rows);
+    threads.bytes = room_for(threads.bytes_room = threads.num_bytes, 1);
+    fault = threads.rows && threads.bytes ? puffin_file_threads(file, size, &threads) : PUFFIN_MEMORY;
+    for (uint64_t i = 0; fault == PUFFIN_OK && i < threads.num_rows; i++) {
+        const PuffinFileThread *thread = &threads.rows[i];
         if (thread->has_start) {
             printf("%" PRIi64, thread->start_ns);
         }
-        printf(":%.*s frames %" PRIu64 " scopes %" PRIu64 "\n", (int)thread->name_size, (const char *)names + thread->name_at,
+        printf(":%.*s frames %" PRIu64 " scopes %" PRIu64 "\n", (int)thread->name_size, (const char *)threads.bytes + thread->name_at,
                thread->frames, thread->scopes);
     }
-    free(threads);
-    free(names);
+    free(threads.rows);
+    free(threads.bytes);
     return fault;
 }
 

@@ -91,12 +91,14 @@ static void end(void) {
 /* A scope of one name, which is registered before the first frame, and of one that is registered in the seventh. */
 static void record(uint64_t number) {
     static uint32_t first, later;
+    const PuffinPlace first_place = {.function = puffin_text("the first name"), .file = puffin_text("writer.c"), .line = 1};
+    const PuffinPlace later_place = {.function = puffin_text("the later name"), .file = puffin_text("writer.c"), .line = 2};
     uint64_t scope;
     if (number == 0) {
-        CALL(puffin_register_function_str(&profiler, "the first name", "writer.c", 1, &first));
+        CALL(puffin_register(&profiler, &first_place, &first));
     }
     if (number == 6) {
-        CALL(puffin_register_function_str(&profiler, "the later name", "writer.c", 2, &later));
+        CALL(puffin_register(&profiler, &later_place, &later));
     }
     CALL(puffin_begin_str(&thread, (int64_t)number * 10, number < 6 ? first : later, "", &scope));
     CALL(puffin_end(&thread, (int64_t)number * 10 + 5, scope));
@@ -115,9 +117,8 @@ static size_t read_file(const char *name) {
 
 /* Reads a file: its frames follow on *next, the first of them has all names, and a cut frame may be at its end. */
 static void read_frames(const char *name, bool may_be_cut, uint64_t *first, uint64_t *next) {
-    uint64_t frames, offset, got, behind;
-    PuffinFrame frame;
-    PuffinLists sizes;
+    uint64_t frames, offset, got;
+    PuffinStreamList list = {0};
     size_t size = read_file(name);
     if (size == 0) {
         is("a file without a byte", access(at(name), F_OK) == 0, false);
@@ -126,17 +127,18 @@ static void read_frames(const char *name, bool may_be_cut, uint64_t *first, uint
     uint32_t fault = puffin_check_file(file, size, &frames, &offset, &got);
     is("a file of whole frames", fault == PUFFIN_OK || (may_be_cut && fault == PUFFIN_FILE_TRUNCATED), true);
     size = fault == PUFFIN_OK ? size : offset > 4 ? offset : 4;
-    for (uint64_t number = 0, place = 0; number < frames; number++, place = behind) {
-        CALL(puffin_frame_streams(file, size, place, &frame, &behind, NULL, 0, NULL, 0, &sizes));
+    for (uint64_t number = 0, place = 0; number < frames; number++, place = list.next) {
+        CALL(puffin_frame_streams(file, size, place, &list));
+        const uint64_t index = list.frame.index;
         if (number == 0) {
-            is("the first name", memmem(file + place, behind - place, "the first name", 14) != NULL, true);
-            is("the later name", memmem(file + place, behind - place, "the later name", 14) != NULL, frame.index >= 6);
+            is("the first name", memmem(file + place, list.next - place, "the first name", 14) != NULL, true);
+            is("the later name", memmem(file + place, list.next - place, "the later name", 14) != NULL, index >= 6);
         }
-        *first = *first == UINT64_MAX ? frame.index : *first;
-        if (*next != UINT64_MAX && frame.index != *next) {
-            fail("a frame's index", frame.index, *next);
+        *first = *first == UINT64_MAX ? index : *first;
+        if (*next != UINT64_MAX && index != *next) {
+            fail("a frame's index", index, *next);
         }
-        *next = frame.index + 1;
+        *next = index + 1;
     }
 }
 

@@ -47,10 +47,10 @@ static std::size_t count_of(const std::string &text) {
 static std::string names_of_threads() {
     PuffinFileThread threads[64];
     std::uint8_t names[1024];
-    PuffinLists sizes;
+    PuffinFileThreadList list = {threads, 64, names, sizeof names, 0, 0};
     std::vector<std::string> all;
-    CALL(puffin_file_threads(file.data(), file.size(), threads, 64, names, sizeof names, &sizes));
-    for (std::uint64_t i = 0; i < sizes.rows; i++) {
+    CALL(puffin_file_threads(file.data(), file.size(), &list));
+    for (std::uint64_t i = 0; i < list.num_rows; i++) {
         all.push_back(std::string(names + threads[i].name_at, names + threads[i].name_at + threads[i].name_size));
     }
     std::sort(all.begin(), all.end());

@@ -29,7 +29,7 @@ pub use raw::Version;
 pub use view::{file_threads, merge_file, FileFrames, FileScope, FileStream, FileThread, MergedScope};
 
 use fault::told;
-use raw::{Handle, RawFrame};
+use raw::{Handle, RawFrame, RawPlace};
 
 /// The version of the library that is linked.
 pub fn version() -> Version {
@@ -176,37 +176,14 @@ impl Profiler {
 
     /// Registers a function, and returns its id; the next frame lists its name. Pass 0 if the line is unknown.
     pub fn register_function(&mut self, function: &str, file: &str, line: u32) -> Result<u32, Fault> {
-        let mut id = 0;
-        told(unsafe {
-            raw::puffin_register_function(
-                &mut self.0,
-                function.as_ptr(),
-                function.len(),
-                file.as_ptr(),
-                file.len(),
-                line,
-                &mut id,
-            )
-        })?;
-        Ok(id)
+        self.register_scope("", function, file, line)
     }
 
     /// Registers a scope within a function, under a name of its own, and returns its id.
     pub fn register_scope(&mut self, name: &str, function: &str, file: &str, line: u32) -> Result<u32, Fault> {
+        let place = RawPlace { name: name.into(), function: function.into(), file: file.into(), line };
         let mut id = 0;
-        told(unsafe {
-            raw::puffin_register_scope(
-                &mut self.0,
-                name.as_ptr(),
-                name.len(),
-                function.as_ptr(),
-                function.len(),
-                file.as_ptr(),
-                file.len(),
-                line,
-                &mut id,
-            )
-        })?;
+        told(unsafe { raw::puffin_register(&mut self.0, &place, &mut id) })?;
         Ok(id)
     }
 
@@ -283,10 +260,11 @@ mod tests {
     #[test]
     fn structs_have_the_library_s_sizes() {
         use std::mem::size_of;
-        let of_handle_and_lists = [size_of::<Handle>(), size_of::<raw::Lists>()];
+        let given = [size_of::<Handle>(), size_of::<RawPlace>(), size_of::<raw::ThreadName>()];
         let of_file = [size_of::<RawFrame>(), size_of::<raw::RawStream>(), size_of::<raw::RawScope>()];
         let of_threads = [size_of::<raw::RawFileThread>(), size_of::<raw::RawMerged>()];
-        assert_eq!((of_handle_and_lists, of_file, of_threads), ([16, 16], [48, 64, 48], [48, 72]));
+        let of_lists = [size_of::<raw::List<u8>>(), size_of::<raw::StreamList>()];
+        assert_eq!((given, of_file, of_threads, of_lists), ([16, 56, 32], [48, 64, 48], [48, 72], [48, 104]));
     }
 
     #[test]

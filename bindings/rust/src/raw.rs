@@ -5,7 +5,7 @@ use std::ffi::c_void;
 use std::fmt;
 
 /// The number of the interface that is declared here.
-pub const INTERFACE: u32 = 2;
+pub const INTERFACE: u32 = 3;
 
 /// A handle. It isn't open when it is filled with zeros. Only that of a thread has scopes to turn on.
 #[repr(C)]
@@ -34,12 +34,60 @@ impl fmt::Debug for Handle {
 /// The offset that stands for no scope.
 pub const NO_SCOPE: u64 = 0;
 
-/// How many rows and bytes a list has.
+/// A text, which stays where it is.
 #[repr(C)]
-#[derive(Default, Clone, Copy)]
-pub struct Lists {
-    pub rows: u64,
-    pub bytes: u64,
+pub struct Text {
+    bytes: *const u8,
+    size: usize,
+}
+
+impl From<&str> for Text {
+    fn from(text: &str) -> Text {
+        Text { bytes: text.as_ptr(), size: text.len() }
+    }
+}
+
+/// A place in the code.
+#[repr(C)]
+pub struct RawPlace {
+    pub name: Text,
+    pub function: Text,
+    pub file: Text,
+    pub line: u32,
+}
+
+/// The thread with this name and this start.
+#[repr(C)]
+pub struct ThreadName {
+    name: Text,
+    start_ns: i64,
+    has_start: bool,
+}
+
+impl ThreadName {
+    pub fn new(name: &str, start_ns: Option<i64>) -> ThreadName {
+        ThreadName { name: name.into(), start_ns: start_ns.unwrap_or(0), has_start: start_ns.is_some() }
+    }
+}
+
+/// Where a list goes: rows, and the bytes into which they point.
+#[repr(C)]
+#[derive(Clone, Copy)]
+pub struct List<R> {
+    pub rows: *mut R,
+    pub room: usize,
+    pub bytes: *mut u8,
+    pub bytes_room: usize,
+    pub num_rows: u64,
+    pub num_bytes: u64,
+}
+
+/// The same of a frame's streams.
+#[repr(C)]
+pub struct StreamList {
+    pub list: List<RawStream>,
+    pub next: u64,
+    pub frame: RawFrame,
 }
 
 /// A scope of a stream.
@@ -144,88 +192,17 @@ extern "C" {
     pub fn puffin_ids_close(ids: *mut Handle) -> u32;
     pub fn puffin_thread_open(thread: *mut Handle, ids: *mut Handle, name: *const u8, size: usize, long_texts: bool) -> u32;
     pub fn puffin_thread_close(thread: *mut Handle) -> u32;
-    pub fn puffin_register_function(
-        profiler: *mut Handle,
-        function: *const u8,
-        function_size: usize,
-        file: *const u8,
-        file_size: usize,
-        line: u32,
-        id: *mut u32,
-    ) -> u32;
-    pub fn puffin_register_scope(
-        profiler: *mut Handle,
-        name: *const u8,
-        name_size: usize,
-        function: *const u8,
-        function_size: usize,
-        file: *const u8,
-        file_size: usize,
-        line: u32,
-        id: *mut u32,
-    ) -> u32;
+    pub fn puffin_register(profiler: *mut Handle, place: *const RawPlace, id: *mut u32) -> u32;
     pub fn puffin_begin(thread: *mut Handle, now_ns: i64, id: u32, text: *const u8, size: usize, scope: *mut u64) -> u32;
     pub fn puffin_end(thread: *mut Handle, now_ns: i64, scope: u64) -> u32;
     pub fn puffin_set_scopes_on(thread: *mut Handle, is_on: bool) -> u32;
     pub fn puffin_set_max_bytes(thread: *mut Handle, bytes: u64) -> u32;
     pub fn puffin_thread_discard(thread: *mut Handle, scopes: *mut u64) -> u32;
-    pub fn puffin_scopes(
-        bytes: *const u8,
-        size: usize,
-        long_texts: bool,
-        scopes: *mut RawScope,
-        room: usize,
-        texts: *mut u8,
-        texts_room: usize,
-        sizes: *mut Lists,
-    ) -> u32;
-    pub fn puffin_frame_streams(
-        file: *const u8,
-        size: usize,
-        offset: u64,
-        frame: *mut RawFrame,
-        next: *mut u64,
-        streams: *mut RawStream,
-        room: usize,
-        bytes: *mut u8,
-        bytes_room: usize,
-        sizes: *mut Lists,
-    ) -> u32;
-    pub fn puffin_file_threads(
-        file: *const u8,
-        size: usize,
-        threads: *mut RawFileThread,
-        room: usize,
-        names: *mut u8,
-        names_room: usize,
-        sizes: *mut Lists,
-    ) -> u32;
-    pub fn puffin_merge_file(
-        file: *const u8,
-        file_size: usize,
-        has_start: bool,
-        start_ns: i64,
-        name: *const u8,
-        name_size: usize,
-        merged: *mut RawMerged,
-        room: usize,
-        texts: *mut u8,
-        texts_room: usize,
-        sizes: *mut Lists,
-    ) -> u32;
-    pub fn puffin_merge_view(
-        profiler: *mut Handle,
-        frames: usize,
-        has_start: bool,
-        start_ns: i64,
-        name: *const u8,
-        name_size: usize,
-        merged: *mut RawMerged,
-        room: usize,
-        texts: *mut u8,
-        texts_room: usize,
-        sizes: *mut Lists,
-    ) -> u32;
+    pub fn puffin_scopes(bytes: *const u8, size: usize, long_texts: bool, list: *mut List<RawScope>) -> u32;
+    pub fn puffin_frame_streams(file: *const u8, size: usize, offset: u64, list: *mut StreamList) -> u32;
+    pub fn puffin_file_threads(file: *const u8, size: usize, list: *mut List<RawFileThread>) -> u32;
+    pub fn puffin_merge_file(file: *const u8, size: usize, thread: *const ThreadName, list: *mut List<RawMerged>) -> u32;
+    pub fn puffin_merge_view(profiler: *mut Handle, frames: usize, thread: *const ThreadName, list: *mut List<RawMerged>) -> u32;
     pub fn puffin_profiler_open(profiler: *mut Handle, ids: *mut Handle) -> u32;
     pub fn puffin_profiler_close(profiler: *mut Handle) -> u32;
     pub fn puffin_report(thread: *mut Handle, profiler: *mut Handle) -> u32;

@@ -1,6 +1,6 @@
 //! What is in a file: its threads, its frames, and the scopes of each thread, in a frame or merged over frames.
 
-use crate::raw::{self, Lists, RawFileThread, RawFrame, RawMerged, RawScope, RawStream};
+use crate::raw::{self, List, RawFileThread, RawFrame, RawMerged, RawScope, StreamList, ThreadName};
 use crate::{told, Fault, Frame, Profiler};
 
 /// What the frames of a file have of one thread.
@@ -50,15 +50,15 @@ pub struct MergedScope {
 }
 
 /// Asks how long a list is, and then for the list.
-fn listed<R: Clone + Default>(
-    mut call: impl FnMut(*mut R, usize, *mut u8, usize, *mut Lists) -> u32,
-) -> Result<(Vec<R>, Vec<u8>), Fault> {
-    let mut sizes = Lists::default();
-    let (mut none, mut no_byte) = (R::default(), 0);
-    told(call(&mut none, 0, &mut no_byte, 0, &mut sizes))?;
-    let mut rows = vec![R::default(); sizes.rows as usize];
-    let mut bytes = vec![0; sizes.bytes as usize];
-    told(call(rows.as_mut_ptr(), rows.len(), bytes.as_mut_ptr(), bytes.len(), &mut sizes))?;
+fn listed<R: Clone + Default>(mut call: impl FnMut(&mut List<R>) -> u32) -> Result<(Vec<R>, Vec<u8>), Fault> {
+    let (mut rows, mut bytes) = (Vec::new(), Vec::new());
+    for _ in 0..2 {
+        let (room, bytes_room) = (rows.len(), bytes.len());
+        let mut list = List { rows: rows.as_mut_ptr(), room, bytes: bytes.as_mut_ptr(), bytes_room, num_rows: 0, num_bytes: 0 };
+        told(call(&mut list))?;
+        rows.resize(list.num_rows as usize, R::default());
+        bytes.resize(list.num_bytes as usize, 0);
+    }
     Ok((rows, bytes))
 }
 
@@ -68,8 +68,8 @@ fn text_at(bytes: &[u8], at: u64, size: u64) -> String {
 
 /// Returns the threads of a file, ordered by start and name.
 pub fn file_threads(file: &[u8]) -> Result<Vec<FileThread>, Fault> {
-    let (rows, names) = listed(|rows: *mut RawFileThread, room, names, names_room, sizes| unsafe {
-        raw::puffin_file_threads(file.as_ptr(), file.len(), rows, room, names, names_room, sizes)
+    let (rows, names) = listed(|list: &mut List<RawFileThread>| unsafe {
+        raw::puffin_file_threads(file.as_ptr(), file.len(), list)
     })?;
     let thread = |row: &RawFileThread| FileThread {
         name: text_at(&names, row.name_at, row.name_size),
@@ -81,7 +81,7 @@ pub fn file_threads(file: &[u8]) -> Result<Vec<FileThread>, Fault> {
 }
 
 /// Asks for a list of merged scopes.
-fn merged(call: impl FnMut(*mut RawMerged, usize, *mut u8, usize, *mut Lists) -> u32) -> Result<Vec<MergedScope>, Fault> {
+fn merged(call: impl FnMut(&mut List<RawMerged>) -> u32) -> Result<Vec<MergedScope>, Fault> {
     let (rows, texts) = listed(call)?;
     let scope = |row: &RawMerged| MergedScope {
         id: row.id,
@@ -98,29 +98,22 @@ fn merged(call: impl FnMut(*mut RawMerged, usize, *mut u8, usize, *mut Lists) ->
 
 /// Merges the scopes of a thread over the frames of a file: each before its children.
 pub fn merge_file(file: &[u8], start_ns: Option<i64>, name: &str) -> Result<Vec<MergedScope>, Fault> {
-    let (start, bytes, size) = (start_ns.unwrap_or(0), name.as_ptr(), name.len());
-    merged(|rows, room, texts, texts_room, sizes| unsafe {
-        let (file, file_size) = (file.as_ptr(), file.len());
-        let has_start = start_ns.is_some();
-        raw::puffin_merge_file(file, file_size, has_start, start, bytes, size, rows, room, texts, texts_room, sizes)
-    })
+    let thread = ThreadName::new(name, start_ns);
+    merged(|list| unsafe { raw::puffin_merge_file(file.as_ptr(), file.len(), &thread, list) })
 }
 
 impl Profiler {
     /// Merges the scopes of a thread over the newest frames of the view, at most so many: each before its children.
     pub fn merge_view(&mut self, frames: usize, start_ns: Option<i64>, name: &str) -> Result<Vec<MergedScope>, Fault> {
-        let (start, bytes, size) = (start_ns.unwrap_or(0), name.as_ptr(), name.len());
-        merged(|rows, room, texts, texts_room, sizes| unsafe {
-            let has_start = start_ns.is_some();
-            raw::puffin_merge_view(&mut self.0, frames, has_start, start, bytes, size, rows, room, texts, texts_room, sizes)
-        })
+        let thread = ThreadName::new(name, start_ns);
+        merged(|list| unsafe { raw::puffin_merge_view(&mut self.0, frames, &thread, list) })
     }
 }
 
 /// Returns the scopes of a stream.
 fn scopes_in(stream: &[u8], long_texts: bool) -> Result<Vec<FileScope>, Fault> {
-    let (rows, texts) = listed(|rows: *mut RawScope, room, texts, texts_room, sizes| unsafe {
-        raw::puffin_scopes(stream.as_ptr(), stream.len(), long_texts, rows, room, texts, texts_room, sizes)
+    let (rows, texts) = listed(|list: &mut List<RawScope>| unsafe {
+        raw::puffin_scopes(stream.as_ptr(), stream.len(), long_texts, list)
     })?;
     let scope = |row: &RawScope| FileScope {
         id: row.id,
@@ -146,9 +139,11 @@ impl<'a> FileFrames<'a> {
 
     fn read(&mut self, offset: u64) -> Result<Option<(Frame, Vec<FileStream>)>, Fault> {
         let (mut frame, mut next) = (RawFrame::default(), 0);
-        let (rows, bytes) = listed(|rows: *mut RawStream, room, bytes, bytes_room, sizes| unsafe {
-            let (file, size) = (self.file.as_ptr(), self.file.len());
-            raw::puffin_frame_streams(file, size, offset, &mut frame, &mut next, rows, room, bytes, bytes_room, sizes)
+        let (rows, bytes) = listed(|list| {
+            let mut given = StreamList { list: *list, next, frame };
+            let answer = unsafe { raw::puffin_frame_streams(self.file.as_ptr(), self.file.len(), offset, &mut given) };
+            (*list, next, frame) = (given.list, given.next, given.frame);
+            answer
         })?;
         let frame = match frame.told() {
             Some(frame) => frame,

@@ -1,7 +1,7 @@
 -- Merging the frames of a file, or of a view, and why there is no merge.
 use Rattle.std.proofs.Common.{◌≡◌, ◌⊎◌, inl, inr, ℕ, List, [], ◌∷◌, ◌++◌, map, refl, sym, ap, subst, ◌∙◌, append_assoc, append-nil}
 use Rattle.std.proofs.lemmas.List.{map-append}
-use Rattle.std.specs.Prelude.{Bool, ℤ, Option, Some, None, Result, Ok, Err}
+use Rattle.std.specs.Prelude.{Option, Some, None, Result, Ok, Err}
 use Rattle.std.specs.Str.{IsUtf8}
 use Rattle.std.specs.Arc.{arc_value}
 use Rattle.std.specs.declared.sync.Arc.{Arc}
@@ -16,7 +16,6 @@ use Rattle.puffin_frames.specs.Packet.Stored.{PacketFields, Stored}
 use Rattle.puffin_merge.specs.Merge.FrameBytes.{FrameBytes}
 use Rattle.puffin_merge.specs.Merge.Refusals.{IsMergeRefusal}
 use Rattle.puffin_merge.specs.Merge.Scopes.{frame_bytes, frames_bytes}
-use Rattle.puffin_merge.specs.Merge.Tree.{MergedForest}
 use Rattle.puffin_view.specs.View.ViewedFrames.{Frame, fields_of}
 use Rattle.puffin_view.specs.View.File.{file_at, TookFrames}
 use Rattle.puffin_report.specs.declared.summary.Summary.{Summary}
@@ -24,23 +23,13 @@ use Rattle.puffin_report.specs.Report.{HasSummary}
 use Rattle.puffin_report.specs.Summary.{bytes_in, followed_by, all_bytes_in, IsSummary, FailsToSumUp}
 use Rattle.puffin_c.specs.declared.fault.Fault.{Fault}
 use Rattle.puffin_c.specs.declared.fault.Fault.TheVariants as fault
-use Rattle.puffin_c.specs.declared.lists.PuffinLists.{PuffinLists}
-use Rattle.puffin_c.specs.declared.merged.MergedList.{MergedList}
-use Rattle.puffin_c.specs.declared.merged.PuffinMerged.{PuffinMerged}
+use Rattle.puffin_c.specs.declared.merged.PuffinMergedList.{PuffinMergedList}
 use Rattle.puffin_c.specs.declared.profiler.Profiler.{Profiler}
 use Rattle.puffin_c.specs.Faults.{file_fault}
-use Rattle.puffin_c.specs.Lists.{GetsLists}
 use Rattle.puffin_c.specs.Recording.{IsNoText}
-use Rattle.puffin_c.specs.Reporting.{key_given, LacksSummary}
-use Rattle.puffin_c.specs.Merges.{nodes_from, merged_rows, IsListOf, GetsMerged, MergesFile, LacksMerge, MergesView}
-use Rattle.puffin_c.proofs.Named.{name_given, refused_name}
-
--- the program gets the list of a forest
-pub list_given : (f : MergedForest) (list : MergedList) (old_rows new_rows : List PuffinMerged) (old_texts new_texts : List ℕ) (sizes : PuffinLists) → IsListOf f list
-    → GetsLists list.rows.items list.texts.items old_rows new_rows old_texts new_texts sizes → GetsMerged f old_rows new_rows old_texts new_texts sizes
-list_given f list old_rows new_rows old_texts new_texts sizes is gets =
-    subst (λ (texts : List ℕ). GetsLists (merged_rows 0 (nodes_from 0 f)) texts old_rows new_rows old_texts new_texts sizes) is.texts
-    (subst (λ (rows : List PuffinMerged). GetsLists rows list.texts.items old_rows new_rows old_texts new_texts sizes) is.rows gets)
+use Rattle.puffin_c.specs.Reporting.{LacksSummary}
+use Rattle.puffin_c.specs.Merges.{MergesFile, LacksMerge, MergesView}
+use Rattle.puffin_c.proofs.Named.{refused_name}
 
 -- ---- a file
 
@@ -52,18 +41,18 @@ summed_up info bytes dev same left summary (stored, took, sums) =
 pub not_summed_up : (info : ThreadKey) (bytes dev : List ℕ) → dev ≡ bytes → (left : Option (List ℕ)) (e : FileError) → FailsToSumUp info (Some dev) left e → LacksSummary bytes info e
 not_summed_up info bytes dev same left e fails = (left, subst (λ (bs : List ℕ). FailsToSumUp info (Some bs) left e) same fails)
 
-module _ (bytes : List ℕ) (has_start : Bool) (start : ℤ) (name : List ℕ) (rows : List PuffinMerged) (texts : List ℕ) (sizes : PuffinLists) where
+module _ (bytes : List ℕ) (info : ThreadKey) (list : PuffinMergedList) where
   abbrev pub Unmerged : Fault → Type 0
-  Unmerged f = MergesFile bytes (key_given has_start start name) rows rows texts texts sizes sizes (Err f)
+  Unmerged f = MergesFile bytes info list list (Err f)
 
-  pub name_not_merged : (f e : Fault) → f ≡ e → IsNoText name e → Unmerged f
-  name_not_merged f e same why = rw same (refl, refl, refl, refused_name bytes (key_given has_start start name) e (name_given has_start start name e why))
+  pub name_not_merged : (f e : Fault) → f ≡ e → IsNoText info.name e → Unmerged f
+  name_not_merged f e same why = rw same (refl, refused_name bytes info e why)
 
-  pub file_not_merged : (f : Fault) (e : FileError) → f ≡ file_fault e → IsUtf8 (key_given has_start start name).name → LacksSummary bytes (key_given has_start start name) e → Unmerged f
-  file_not_merged f e is text lacks = (refl, refl, refl, inr (text, e, is, lacks))
+  pub file_not_merged : (f : Fault) (e : FileError) → f ≡ file_fault e → IsUtf8 info.name → LacksSummary bytes info e → Unmerged f
+  file_not_merged f e is text lacks = (refl, inr (text, e, is, lacks))
 
-  pub no_room_for_file : (f : Fault) → f ≡ fault.Refused error.Memory → IsUtf8 (key_given has_start start name).name → Unmerged f
-  no_room_for_file f memory text = (refl, refl, refl, inr (text, file.Memory, memory, (None, inl tt)))
+  pub no_room_for_file : (f : Fault) → f ≡ fault.Refused error.Memory → IsUtf8 info.name → Unmerged f
+  no_room_for_file f memory text = (refl, inr (text, file.Memory, memory, (None, inl tt)))
 
 -- ---- the frames of a view, one after the other
 
@@ -136,9 +125,6 @@ pub merge_refused : (info : ThreadKey) (cs : List PacketFields) (streams : List 
 merge_refused info cs streams f e is opened (inl memory) = inl (is ∙ ap (λ (x : Error). fault.Refused x) memory)
 merge_refused info cs streams f e is opened (inr refusal) = inr (inr (streams, e, is, opened, refusal))
 
-pub name_not_viewed : (held : Option Profiler) → (p : Profiler) × (held ≡ Some p) → (n : ℕ) (has_start : Bool) (start : ℤ) (name : List ℕ) (rows : List PuffinMerged) (texts : List ℕ) (sizes : PuffinLists) (f e : Fault) → f ≡ e → IsNoText name e
-    → MergesView held n (key_given has_start start name) rows rows texts texts sizes sizes (Err f)
-name_not_viewed held (p, some) n has_start start name rows texts sizes f e same why = elim (name_given has_start start name e why) [
-  | inl none ↦ (refl, refl, refl, inr (p, some, inl (same ∙ none.0, none.1)))
-  | inr memory ↦ (refl, refl, refl, inr (p, some, inr (memory.1, inl (same ∙ memory.0))))
-]
+pub name_not_viewed : (held : Option Profiler) → (p : Profiler) × (held ≡ Some p) → (n : ℕ) (info : ThreadKey) (list : PuffinMergedList) (f e : Fault) → f ≡ e → IsNoText info.name e → MergesView held n info list list (Err f)
+name_not_viewed held (p, some) n info list f e same (inl none) = (refl, inr (p, some, inl (same ∙ none.0, none.1)))
+name_not_viewed held (p, some) n info list f e same (inr memory) = (refl, inr (p, some, inr (memory.1, inl (same ∙ memory.0))))

@@ -1,6 +1,6 @@
 -- The name of a thread that a caller gives.
 use Rattle.std.proofs.Common.{◌≡◌, ◌⊎◌, ℕ, List, inl, inr}
-use Rattle.std.specs.Prelude.{Bool, true, false, ℤ, None}
+use Rattle.std.specs.Prelude.{None}
 use Rattle.std.specs.Str.{IsUtf8}
 use Rattle.puffin_data.specs.declared.file_error.FileError.{FileError}
 use Rattle.puffin_data.specs.declared.file_error.FileError.TheVariants as file
@@ -9,16 +9,7 @@ use Rattle.puffin_c.specs.declared.fault.Fault.{Fault}
 use Rattle.puffin_c.specs.declared.fault.Fault.TheVariants as fault
 use Rattle.puffin_c.specs.Faults.{file_fault}
 use Rattle.puffin_c.specs.Recording.{IsNoText}
-use Rattle.puffin_c.specs.Reporting.{key_given, LacksSummary}
-
-pub name_given : (has_start : Bool) (start : ℤ) (name : List ℕ) (f : Fault) → IsNoText name f →
-    IsNoText (key_given has_start start name).name f
-name_given true start name f h = h
-name_given false start name f h = h
-
-pub text_given : (has_start : Bool) (start : ℤ) (name : List ℕ) → IsUtf8 name → IsUtf8 (key_given has_start start name).name
-text_given true start name h = h
-text_given false start name h = h
+use Rattle.puffin_c.specs.Reporting.{LacksSummary}
 
 -- a name that is refused is no text, or memory ran out
 pub refused_name : (bytes : List ℕ) (info : ThreadKey) (f : Fault) → IsNoText info.name f →

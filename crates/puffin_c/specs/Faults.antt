@@ -1,5 +1,5 @@
 -- The numbers that calls return.
-use Rattle.std.specs.Prelude.{ℕ, ◌+◌, ◌*◌, Result, Ok, Err}
+use Rattle.std.specs.Prelude.{◌≡◌, ℕ, ◌+◌, ◌*◌, Result, Ok, Err}
 use Rattle.puffin_data.specs.Cause.{error_number, file_error_number}
 use Rattle.puffin_data.specs.declared.error.Error.TheVariants as error
 use Rattle.puffin_data.specs.declared.file_error.FileError.{FileError}
@@ -31,3 +31,7 @@ code_of fault.IsOpen = 35
 abbrev pub answer_code : Result (Unit {0}) Fault → ℕ
 answer_code (Ok _) = 0
 answer_code (Err f) = code_of f
+
+-- a call returns the number of an answer for which this holds
+abbrev pub Returns : ℕ → (Result (Unit {0}) Fault → Type 0) → Type 0
+Returns code promise = (answer : Result (Unit {0}) Fault) × (code ≡ answer_code answer) × promise answer

@@ -1,6 +1,7 @@
 -- Lists that a program gets: rows, and the bytes of their texts, one behind the other.
 use Rattle.std.specs.Prelude.{◌≡◌, ◌≢◌, ◌⊎◌, ℕ, ◌+◌, ◌<◌, ◌≤◌, ℤ, pos, Bool, true, false, List, [], ◌∷◌, ◌++◌, length, drop, Option, Some, None, Result, Ok, Err, is_some}
 use Rattle.std.specs.List.{flat_map}
+use Rattle.std.specs.Borrow.{MutBor}
 use Rattle.std.specs.FinMap as map
 use Rattle.puffin_data.specs.declared.error.Error.{Error}
 use Rattle.puffin_data.specs.declared.error.Error.TheVariants as error
@@ -24,10 +25,10 @@ use Rattle.puffin_view.specs.View.File.{file_at, FailsToRead}
 use Rattle.puffin_view.specs.View.FrameFile.{GivesNext, HasGiven, frame_at}
 use Rattle.puffin_c.specs.declared.fault.Fault.{Fault}
 use Rattle.puffin_c.specs.declared.fault.Fault.TheVariants as fault
-use Rattle.puffin_c.specs.declared.lists.PuffinLists.{PuffinLists}
 use Rattle.puffin_c.specs.declared.scopes.PuffinScope.{PuffinScope}
-use Rattle.puffin_c.specs.declared.frame.PuffinFrame.{PuffinFrame}
+use Rattle.puffin_c.specs.declared.scopes.PuffinScopeList.{PuffinScopeList}
 use Rattle.puffin_c.specs.declared.streams.PuffinStream.{PuffinStream}
+use Rattle.puffin_c.specs.declared.streams.PuffinStreamList.{PuffinStreamList}
 use Rattle.puffin_c.specs.Faults.{file_fault}
 use Rattle.puffin_c.specs.Profiling.{told_of}
 use Rattle.puffin_c.specs.Reporting.{laid_over}
@@ -55,27 +56,27 @@ scope_texts scopes = flat_map (λ s. s.span.text) scopes
 
 -- ---- what a program gets
 
--- as many of the rows and of the bytes as fit are copied over the beginning of the caller's, and counted whole
-pub record GetsLists {X : Type 0} (rows : List X) (bytes : List ℕ) (old_rows new_rows : List X)
-    (old_bytes new_bytes : List ℕ) (sizes : PuffinLists) : Type 0 where
-  pub given_rows : new_rows ≡ laid_over old_rows rows
-  pub given_bytes : new_bytes ≡ laid_over old_bytes bytes
-  pub number : sizes.rows ≡ length rows
-  pub size : sizes.bytes ≡ length bytes
+-- as many of the rows and of the bytes as fit are copied over the beginning of those at the caller's places, and counted whole
+pub record GetsList {X : Type 0} (rows : List X) (bytes : List ℕ) (old_rows new_rows : MutBor (List X))
+    (old_bytes new_bytes : MutBor (List ℕ)) (num_rows num_bytes : ℕ) : Type 0 where
+  pub given_rows : new_rows.now ≡ laid_over old_rows.now rows
+  pub given_bytes : new_bytes.now ≡ laid_over old_bytes.now bytes
+  pub same_rows : new_rows.ghost_name ≡ old_rows.ghost_name
+  pub same_bytes : new_bytes.ghost_name ≡ old_bytes.ghost_name
+  pub number : num_rows ≡ length rows
+  pub size : num_bytes ≡ length bytes
 
 -- Either the bytes spell a forest, and the program gets its scopes, each before its children; or the bytes are refused with a
 -- fault, or memory ran out, and nothing is changed.
-abbrev pub ListsScopes : Form → List ℕ → List PuffinScope → List PuffinScope → List ℕ → List ℕ →
-    PuffinLists → PuffinLists → Result (Unit {0}) Fault → Type 0
-ListsScopes form bytes old_rows new_rows old_texts new_texts before sizes (Ok _) =
+abbrev pub ListsScopes : Form → List ℕ → PuffinScopeList → PuffinScopeList →
+    Result (Unit {0}) Fault → Type 0
+ListsScopes form bytes old new (Ok _) =
     (f : Forest)
     × Spells form bytes f
-    × GetsLists (scope_rows 0 (nested_in [] f)) (scope_texts (nested_in [] f)) old_rows new_rows
-    old_texts new_texts sizes
-ListsScopes form bytes old_rows new_rows old_texts new_texts before sizes (Err f) =
-    (new_rows ≡ old_rows)
-    × (new_texts ≡ old_texts)
-    × (sizes ≡ before)
+    × GetsList (scope_rows 0 (nested_in [] f)) (scope_texts (nested_in [] f)) old.rows new.rows
+    old.bytes new.bytes new.num_rows new.num_bytes
+ListsScopes form bytes old new (Err f) =
+    (new ≡ old)
     × (e : Error)
     × (f ≡ fault.Refused e)
     × ((e ≡ error.Memory) ⊎ IsFault form bytes e)
@@ -149,17 +150,19 @@ LacksFrame bytes offset f =
     × FailsAt e (Some from) left frame_at)
 
 -- The frame's description and its streams, by thread; or no frame, and only that is told.
-abbrev pub TellsStreams : Option FrameData → PuffinFrame → PuffinFrame → List PuffinStream → List PuffinStream →
-    List ℕ → List ℕ → PuffinLists → Type 0
-TellsStreams (Some frame) before told old_rows new_rows old_bytes new_bytes sizes =
+abbrev pub TellsStreams : Option FrameData → PuffinStreamList → PuffinStreamList → Type 0
+TellsStreams (Some frame) old new =
     (streams : Streams)
     × (streams_in_fields (packet_fields frame) ≡ Ok streams)
-    × (told ≡ told_of (frame_meta frame))
-    × GetsLists (stream_rows 0 (map.entries streams)) (streams_bytes (map.entries streams)) old_rows
-    new_rows old_bytes new_bytes sizes
-TellsStreams None before told old_rows new_rows old_bytes new_bytes sizes =
-    (told ≡ record before { is_some = false })
-    × GetsLists {X = PuffinStream} [] [] old_rows new_rows old_bytes new_bytes sizes
+    × (new.frame ≡ told_of (frame_meta frame))
+    × GetsList (stream_rows 0 (map.entries streams)) (streams_bytes (map.entries streams)) old.rows
+    new.rows old.bytes new.bytes new.num_rows new.num_bytes
+TellsStreams None old new =
+    (new.frame ≡ record old.frame { is_some = false })
+    × (new.rows ≡ old.rows)
+    × (new.bytes ≡ old.bytes)
+    × (new.num_rows ≡ 0)
+    × (new.num_bytes ≡ 0)
 
 -- a frame whose streams can't be unpacked, for this reason
 abbrev pub LacksStreams : List ℕ → ℕ → Fault → Type 0
@@ -172,17 +175,10 @@ LacksStreams bytes offset f =
     × (f ≡ file_fault e)
 
 -- Reads the frame at an offset of a file, and lists its streams; or is refused, and changes nothing.
-abbrev pub ListsStreams : List ℕ → ℕ → PuffinFrame → PuffinFrame → ℕ → ℕ → List PuffinStream →
-    List PuffinStream → List ℕ → List ℕ → PuffinLists → PuffinLists → Result (Unit {0}) Fault →
-    Type 0
-ListsStreams file offset before told old_next next old_rows new_rows old_bytes new_bytes had sizes (Ok _) =
-    (frame : Option FrameData)
-    × IsFrameAt file offset next frame
-    × TellsStreams frame before told old_rows new_rows old_bytes new_bytes sizes
-ListsStreams file offset before told old_next next old_rows new_rows old_bytes new_bytes had sizes (Err f) =
-    (told ≡ before)
-    × (next ≡ old_next)
-    × (new_rows ≡ old_rows)
-    × (new_bytes ≡ old_bytes)
-    × (sizes ≡ had)
+abbrev pub ListsStreams : List ℕ → ℕ → PuffinStreamList → PuffinStreamList →
+    Result (Unit {0}) Fault → Type 0
+ListsStreams file offset old new (Ok _) =
+    (frame : Option FrameData) × IsFrameAt file offset new.next frame × TellsStreams frame old new
+ListsStreams file offset old new (Err f) =
+    (new ≡ old)
     × ((f ≡ fault.Refused error.Memory) ⊎ LacksFrame file offset f ⊎ LacksStreams file offset f)

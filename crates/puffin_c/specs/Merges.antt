@@ -19,12 +19,12 @@ use Rattle.puffin_report.specs.Report.{HasSummary}
 use Rattle.puffin_report.specs.Summary.{all_bytes_in}
 use Rattle.puffin_c.specs.declared.fault.Fault.{Fault}
 use Rattle.puffin_c.specs.declared.fault.Fault.TheVariants as fault
-use Rattle.puffin_c.specs.declared.lists.PuffinLists.{PuffinLists}
 use Rattle.puffin_c.specs.declared.merged.MergedList.{MergedList}
 use Rattle.puffin_c.specs.declared.merged.PuffinMerged.{PuffinMerged}
+use Rattle.puffin_c.specs.declared.merged.PuffinMergedList.{PuffinMergedList}
 use Rattle.puffin_c.specs.declared.profiler.Profiler.{Profiler}
 use Rattle.puffin_c.specs.Faults.{file_fault}
-use Rattle.puffin_c.specs.Lists.{GetsLists}
+use Rattle.puffin_c.specs.Lists.{GetsList}
 use Rattle.puffin_c.specs.Reporting.{LacksSummary}
 
 -- ---- the nodes of a forest
@@ -76,27 +76,25 @@ pub record IsListOf (f : MergedForest) (list : MergedList) : Type 0 where
   pub texts : list.texts.items ≡ merged_texts (nodes_from 0 f)
 
 -- the program gets the list of a forest
-abbrev pub GetsMerged : MergedForest → List PuffinMerged → List PuffinMerged → List ℕ → List ℕ → PuffinLists → Type 0
-GetsMerged f old_rows new_rows old_texts new_texts sizes =
-    GetsLists (merged_rows 0 (nodes_from 0 f)) (merged_texts (nodes_from 0 f)) old_rows new_rows
-    old_texts new_texts sizes
+abbrev pub GetsMerged : MergedForest → PuffinMergedList → PuffinMergedList → Type 0
+GetsMerged f old new =
+    GetsList (merged_rows 0 (nodes_from 0 f)) (merged_texts (nodes_from 0 f)) old.rows new.rows
+    old.bytes new.bytes new.num_rows new.num_bytes
 
 -- ---- merging a file
 
 -- Either the name is UTF-8, and the program gets the merged scopes of the file's summary; or nothing is changed. A name that
 -- isn't UTF-8 is reported before any fault in the file.
-abbrev pub MergesFile : List ℕ → ThreadKey → List PuffinMerged → List PuffinMerged → List ℕ →
-    List ℕ → PuffinLists → PuffinLists → Result (Unit {0}) Fault → Type 0
-MergesFile file info old_rows new_rows old_texts new_texts before sizes (Ok _) =
+abbrev pub MergesFile : List ℕ → ThreadKey → PuffinMergedList → PuffinMergedList →
+    Result (Unit {0}) Fault → Type 0
+MergesFile file info old new (Ok _) =
     IsUtf8 info.name
     × (left : Option (List ℕ))
     × (summary : Summary)
     × HasSummary info (Some file) left summary
-    × GetsMerged (forest_in summary.merged.items) old_rows new_rows old_texts new_texts sizes
-MergesFile file info old_rows new_rows old_texts new_texts before sizes (Err f) =
-    (new_rows ≡ old_rows)
-    × (new_texts ≡ old_texts)
-    × (sizes ≡ before)
+    × GetsMerged (forest_in summary.merged.items) old new
+MergesFile file info old new (Err f) =
+    (new ≡ old)
     × (((f ≡ fault.NotText) × ¬ (IsUtf8 info.name))
     ⊎ (IsUtf8 info.name × (e : FileError) × (f ≡ file_fault e) × LacksSummary file info e))
 
@@ -125,19 +123,17 @@ LacksMerge info cs f =
 
 -- Either the handle holds a profiler, the name is UTF-8, and the program gets the merged scopes of the last n recent frames of its
 -- view; or nothing is changed, and the fault is the first that applies.
-abbrev pub MergesView : Option Profiler → ℕ → ThreadKey → List PuffinMerged → List PuffinMerged →
-    List ℕ → List ℕ → PuffinLists → PuffinLists → Result (Unit {0}) Fault → Type 0
-MergesView held n info old_rows new_rows old_texts new_texts before sizes (Ok _) =
+abbrev pub MergesView : Option Profiler → ℕ → ThreadKey → PuffinMergedList → PuffinMergedList →
+    Result (Unit {0}) Fault → Type 0
+MergesView held n info old new (Ok _) =
     (p : Profiler)
     × (f : MergedForest)
     × (held ≡ Some p)
     × IsUtf8 info.name
     × IsMergeOf info (newest_fields n p.view) f
-    × GetsMerged f old_rows new_rows old_texts new_texts sizes
-MergesView held n info old_rows new_rows old_texts new_texts before sizes (Err f) =
-    (new_rows ≡ old_rows)
-    × (new_texts ≡ old_texts)
-    × (sizes ≡ before)
+    × GetsMerged f old new
+MergesView held n info old new (Err f) =
+    (new ≡ old)
     × (((f ≡ fault.NotOpen) × (held ≡ None))
     ⊎ ((p : Profiler)
     × (held ≡ Some p)

@@ -1,5 +1,5 @@
 -- How scopes are registered with a profiler.
-use Rattle.std.specs.Prelude.{◌≡◌, ◌⊎◌, ℕ, ◌<◌, true, List, [], ◌∷◌, Option, Some, None, is_some, Result, Ok, Err}
+use Rattle.std.specs.Prelude.{◌≡◌, ◌⊎◌, ◌==◌, if◌then◌else◌, ℕ, ◌<◌, true, List, [], ◌∷◌, length, Option, Some, None, is_some, Result, Ok, Err}
 use Rattle.std.specs.Str.{IsUtf8}
 use Rattle.puffin_data.specs.declared.error.Error.{Error}
 use Rattle.puffin_data.specs.declared.error.Error.TheVariants as error
@@ -8,6 +8,7 @@ use Rattle.puffin_collector.specs.Collector.State.{Collected, after_learning, af
 use Rattle.puffin_collector.specs.Collector.Collecting.{KnowsSome}
 use Rattle.puffin_c.specs.declared.fault.Fault.{Fault}
 use Rattle.puffin_c.specs.declared.fault.Fault.TheVariants as fault
+use Rattle.puffin_c.specs.declared.naming.PuffinPlace.{PuffinPlace}
 use Rattle.puffin_c.specs.declared.profiler.Profiler.{Profiler}
 use Rattle.puffin_c.specs.Profiling.{with_collected}
 
@@ -27,17 +28,21 @@ AreNoTexts texts f =
     ((f ≡ fault.NotText) × HasNoText texts)
     ⊎ ((f ≡ fault.Refused error.Memory) × AreTexts texts)
 
--- the details of a function, and of a scope with a name of its own
-abbrev pub function_details : List ℕ → List ℕ → ℕ → Details
-function_details function file line = record default_details {
-  function_name = function;
-  file_path = file;
-  line_nr = line;
-}
+abbrev pub place_texts : PuffinPlace → List (List ℕ)
+place_texts place = place.name.now ∷ place.function.now ∷ place.file.now ∷ []
 
-abbrev pub scope_details : List ℕ → List ℕ → List ℕ → ℕ → Details
-scope_details name function file line =
-    record (function_details function file line) { scope_name = Some name }
+-- the name of a place that isn't a function
+abbrev pub own_name : List ℕ → Option (List ℕ)
+own_name name = if length name == 0 then None else Some name
+
+-- the details of a place
+abbrev pub place_details : PuffinPlace → Details
+place_details place = record default_details {
+  function_name = place.function.now;
+  file_path = place.file.now;
+  line_nr = place.line;
+  scope_name = own_name place.name.now;
+}
 
 -- details with an id become known, and the next frame is to list all that are known
 abbrev pub after_naming : Collected → Details → Collected
@@ -71,14 +76,13 @@ Registers p d p' before id (Err f) =
     × (p' ≡ Some new)
     × IsUnregistered q d new e
 
--- The texts are UTF-8, and a scope with these details is registered or not. Or the call is refused before, with the first fault that
--- applies.
-abbrev pub RegistersFor : Option Profiler → List (List ℕ) → Details → Option Profiler → ℕ → ℕ →
+-- The texts of a place are UTF-8, and it is registered or not. Or the call is refused before, with the first fault that applies.
+abbrev pub RegistersPlace : Option Profiler → PuffinPlace → Option Profiler → ℕ → ℕ →
     Result (Unit {0}) Fault → Type 0
-RegistersFor p texts d p' before id answer =
-    (AreTexts texts × Registers p d p' before id answer)
+RegistersPlace p place p' before id answer =
+    (AreTexts (place_texts place) × Registers p (place_details place) p' before id answer)
     ⊎ ((f : Fault)
     × (answer ≡ Err f)
     × (p' ≡ p)
     × (id ≡ before)
-    × (((f ≡ fault.NotOpen) × (p ≡ None)) ⊎ ((is_some p ≡ true) × AreNoTexts texts f)))
+    × (((f ≡ fault.NotOpen) × (p ≡ None)) ⊎ ((is_some p ≡ true) × AreNoTexts (place_texts place) f)))

@@ -1,5 +1,6 @@
 -- The results of checking a file, and why it has no summary.
-use Rattle.std.specs.Prelude.{◌≡◌, ◌≢◌, ◌⊎◌, ℕ, ℤ, Bool, true, false, List, ◌++◌, ◌+◌, ◌-◌, length, take, drop, min, Option, Some, None, Result, Ok, Err}
+use Rattle.std.specs.Prelude.{◌≡◌, ◌≢◌, ◌⊎◌, ℕ, List, ◌++◌, ◌+◌, ◌-◌, length, take, drop, min, Option, Some, Result, Ok, Err}
+use Rattle.core.specs.Bool.{then_some}
 use Rattle.puffin_data.specs.declared.file_error.FileError.{FileError}
 use Rattle.puffin_data.specs.declared.file_error.FileError.TheVariants as file
 use Rattle.puffin_data.specs.Device.{FailsAt}
@@ -9,6 +10,7 @@ use Rattle.puffin_view.specs.View.File.{file_at, TookFrames, FailsToRead}
 use Rattle.puffin_view.specs.View.FrameFile.{HasGiven, frame_at}
 use Rattle.puffin_report.specs.Summary.{FailsToSumUp}
 use Rattle.puffin_c.specs.declared.fault.Fault.{Fault}
+use Rattle.puffin_c.specs.declared.thread_name.PuffinThreadName.{PuffinThreadName}
 use Rattle.puffin_c.specs.Faults.{file_fault}
 
 -- the magic bytes and these frames are at the file's beginning, up to this offset, from which these bytes follow
@@ -47,10 +49,12 @@ IsChecked bytes n offset read (Err f) =
     × StandBefore bytes (Some left) e n offset
     × (read ≡ length bytes - length left)
 
--- the key of the thread whose scopes are meant
-abbrev pub key_given : Bool → ℤ → List ℕ → ThreadKey
-key_given true start name = record { start = Some start; name = name }
-key_given false start name = record { start = None; name = name }
+-- the key of the thread that a program names
+abbrev pub key_given : PuffinThreadName → ThreadKey
+key_given thread = record {
+  start = then_some thread.has_start thread.start_ns;
+  name = thread.name.now;
+}
 
 -- why a file has no summary for a thread: the file's fault, or a lack of memory
 abbrev pub LacksSummary : List ℕ → ThreadKey → FileError → Type 0

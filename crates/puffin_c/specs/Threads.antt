@@ -15,11 +15,11 @@ use Rattle.puffin_view.specs.View.FrameFile.{HasGiven}
 use Rattle.puffin_view.specs.View.Stats.{cut}
 use Rattle.puffin_c.specs.declared.fault.Fault.{Fault}
 use Rattle.puffin_c.specs.declared.fault.Fault.TheVariants as fault
-use Rattle.puffin_c.specs.declared.lists.PuffinLists.{PuffinLists}
 use Rattle.puffin_c.specs.declared.threads.PuffinFileThread.{PuffinFileThread}
+use Rattle.puffin_c.specs.declared.threads.PuffinFileThreadList.{PuffinFileThreadList}
 use Rattle.puffin_c.specs.declared.threads.ThreadTotals.{ThreadTotals}
 use Rattle.puffin_c.specs.Faults.{file_fault}
-use Rattle.puffin_c.specs.Lists.{GetsLists, start_given, streams_in_fields}
+use Rattle.puffin_c.specs.Lists.{GetsList, start_given, streams_in_fields}
 
 abbrev pub no_totals : ThreadTotals
 no_totals = record { frames = 0; scopes = 0 }
@@ -106,12 +106,11 @@ abbrev pub thread_names : List (ThreadKey × ThreadTotals) → List ℕ
 thread_names entries = flat_map (λ e. e.0.name) entries
 
 -- The program gets the threads of a file, ordered by start and name; or the call is refused, and nothing is changed.
-abbrev pub ListsThreads : List ℕ → List PuffinFileThread → List PuffinFileThread → List ℕ → List ℕ →
-    PuffinLists → PuffinLists → Result (Unit {0}) Fault → Type 0
-ListsThreads file old_rows new_rows old_names new_names before sizes (Ok _) =
+abbrev pub ListsThreads : List ℕ → PuffinFileThreadList → PuffinFileThreadList →
+    Result (Unit {0}) Fault → Type 0
+ListsThreads file old new (Ok _) =
     (totals : Totals)
     × HasTotals file totals
-    × GetsLists (thread_rows 0 (map.entries totals)) (thread_names (map.entries totals)) old_rows
-    new_rows old_names new_names sizes
-ListsThreads file old_rows new_rows old_names new_names before sizes (Err f) =
-    (new_rows ≡ old_rows) × (new_names ≡ old_names) × (sizes ≡ before) × LacksTotals file f
+    × GetsList (thread_rows 0 (map.entries totals)) (thread_names (map.entries totals)) old.rows
+    new.rows old.bytes new.bytes new.num_rows new.num_bytes
+ListsThreads file old new (Err f) = (new ≡ old) × LacksTotals file f

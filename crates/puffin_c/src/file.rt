@@ -1,8 +1,7 @@
 //! Counts the frames of a file.
 
-ghost use Rattle.std.specs.Prelude.{◌≡◌, Result};
-ghost use Rattle.puffin_c.specs.declared.fault.Fault.{Fault};
-ghost use Rattle.puffin_c.specs.Faults.{answer_code};
+ghost use Rattle.std.specs.Prelude.{◌≡◌};
+ghost use Rattle.puffin_c.specs.Faults.{Returns};
 ghost use Rattle.puffin_c.specs.Reporting.{IsChecked};
 
 use crate::fault::{Fault, answer_code};
@@ -56,9 +55,7 @@ pub extern "C" fn puffin_check_file(
     offset: &mut u64,
     read: &mut u64,
 ) -> u32
-    ensures { (answer : Result (Unit {0}) Fault)
-        × (result ≡ answer_code answer)
-        × IsChecked file.now frames.new offset.new read.new answer }
+    ensures { Returns result (IsChecked file.now frames.new offset.new read.new) }
 {
     let answer = checked(alloc, file, frames, offset, read);
     answer_code(answer)

@@ -1,10 +1,9 @@
 //! Ids that threads and profilers share.
 
-ghost use Rattle.std.specs.Prelude.{◌≡◌, ◌⊎◌, None, Some, Result, is_some, true, IfErr, OnOk, OnErr, IsOkUnless};
+ghost use Rattle.std.specs.Prelude.{◌≡◌, ◌⊎◌, None, Some, is_some, true, IfErr, OnOk, OnErr, IsOkUnless};
 ghost use Rattle.puffin_data.specs.declared.error.Error.TheVariants as error;
-ghost use Rattle.puffin_c.specs.declared.fault.Fault.{Fault};
 ghost use Rattle.puffin_c.specs.declared.fault.Fault.TheVariants as fault;
-ghost use Rattle.puffin_c.specs.Faults.{answer_code};
+ghost use Rattle.puffin_c.specs.Faults.{Returns};
 ghost use Rattle.puffin_c.specs.Handles.{ids_in};
 ghost use Rattle.puffin_c.specs.Recording.{OpensIds, Closes};
 
@@ -67,9 +66,7 @@ fn opened(alloc: Global, ids: &mut PuffinIds) -> Result<(), Fault>
 /// Fails with the first of `IsOpen` and `Memory` that applies. Nothing changes then.
 #[unsafe(no_mangle)]
 pub extern "C" fn puffin_ids_open(alloc: Global, ids: &mut PuffinIds) -> u32
-    ensures { (answer : Result (Unit {0}) Fault)
-        × (result ≡ answer_code answer)
-        × OpensIds (ids_in ids.old) (ids_in ids.new) answer }
+    ensures { Returns result (OpensIds (ids_in ids.old) (ids_in ids.new)) }
 {
     let answer = opened(alloc, ids);
     answer_code(answer)
@@ -90,9 +87,7 @@ fn closed(alloc: Global, ids: &mut PuffinIds) -> Result<(), Fault>
 /// Fails with `NotOpen`.
 #[unsafe(no_mangle)]
 pub extern "C" fn puffin_ids_close(alloc: Global, ids: &mut PuffinIds) -> u32
-    ensures { (answer : Result (Unit {0}) Fault)
-        × (result ≡ answer_code answer)
-        × Closes (ids_in ids.old) (ids_in ids.new) answer }
+    ensures { Returns result (Closes (ids_in ids.old) (ids_in ids.new)) }
 {
     let answer = closed(alloc, ids);
     answer_code(answer)

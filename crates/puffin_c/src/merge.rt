@@ -1,6 +1,6 @@
 //! Merges the scopes of one thread over the frames of a file, or over those of a profiler's view.
 
-ghost use Rattle.std.specs.Prelude.{◌≡◌, ◌⊎◌, ℕ, List, Option, Some, Ok, Err, Result, IfOk, IfErr};
+ghost use Rattle.std.specs.Prelude.{◌≡◌, ◌⊎◌, ℕ, List, Option, Some, Ok, Err, IfOk, IfErr};
 ghost use Rattle.std.specs.Arc.{arc_value};
 ghost use Rattle.puffin_data.specs.declared.file_error.FileError.TheVariants as file_error;
 ghost use Rattle.puffin_threads.specs.Thread.ThreadKey.{ThreadKey, key_of};
@@ -9,18 +9,16 @@ ghost use Rattle.puffin_merge.specs.Merge.Scopes.{frame_bytes, frames_bytes};
 ghost use Rattle.puffin_merge.specs.Merge.Tree.{MergedForest};
 ghost use Rattle.puffin_report.specs.Report.{HasSummary};
 ghost use Rattle.puffin_report.specs.Summary.{bytes_in, all_bytes_in};
-ghost use Rattle.puffin_c.specs.declared.fault.Fault.{Fault};
-ghost use Rattle.puffin_c.specs.Faults.{answer_code};
+ghost use Rattle.puffin_c.specs.Faults.{Returns};
 ghost use Rattle.puffin_c.specs.Handles.{profiler_in};
 ghost use Rattle.puffin_c.specs.Merges.{IsListOf, MergesFile, newest_fields, IsMergeOf, LacksMerge, MergesView};
 ghost use Rattle.puffin_c.specs.Reporting.{LacksSummary, key_given};
 
 use crate::fault::{Fault, answer_code};
 use crate::handles::PuffinProfiler;
-use crate::lists::PuffinLists;
 use crate::memory_source::MemorySource;
-use crate::merged::{MergedList, PuffinMerged, list_of};
-use crate::texts::named_thread;
+use crate::merged::{MergedList, PuffinMergedList, list_of};
+use crate::thread_name::PuffinThreadName;
 use puffin_data::FileError;
 use puffin_frames::frame_data::{FrameData, UnpackedFrameData};
 use puffin_merge::merge::merge_scopes_for_thread;
@@ -42,27 +40,21 @@ fn summary_of(alloc: Global, file: &[u8], thread: &ThreadInfo) -> Result<Summary
 fn file_merged(
     alloc: Global,
     file: &[u8],
-    has_start: bool,
-    start_ns: i64,
-    name: &[u8],
-    merged: &mut [PuffinMerged],
-    texts: &mut [u8],
-    sizes: &mut PuffinLists,
+    thread: &PuffinThreadName<'_>,
+    list: &mut PuffinMergedList<'_>,
 ) -> Result<(), Fault>
-    ensures { MergesFile file.now (key_given has_start start_ns name.now) merged.old merged.new
-        texts.old texts.new sizes.old sizes.new result }
+    ensures { MergesFile file.now (key_given thread.now) list.old list.new result }
 {
-    let thread = named_thread(alloc, has_start, start_ns, name)?;
-    let summary = summary_of(alloc, file, &thread)?;
-    let list = list_of(alloc, &summary.merged)?;
-    list.give(merged, texts, sizes);
+    let info = thread.info(alloc)?;
+    let summary = summary_of(alloc, file, &info)?;
+    let made = list_of(alloc, &summary.merged)?;
+    made.give(list);
     Ok(())
 }
 
-/// Merges the scopes of one thread over the frames of a file of any origin: of the thread with this name and this start, or with
-/// this name and no start if `has_start` isn't set. The frames, their merge and its nodes are those of [`summarize`]. Copies the merged scopes, each before its children and with its depth, to the front of `merged` and their texts, one behind
-/// the other, to the front of `texts`, as many of each as fit, and sets `sizes` to how many merged scopes and bytes of texts there
-/// are.
+/// Merges the scopes of one thread over the frames of a file of any origin. The frames, their merge and its nodes are those of
+/// [`summarize`]. Lists the merged scopes, each before its children and with its depth, and their texts, one behind the other: copies
+/// as many merged scopes and bytes of texts as fit to the front of those of `list`, and sets its numbers to how many there are.
 ///
 /// Fails with `NotText` if the name isn't UTF-8, whatever the file contains. Otherwise fails with the first fault in the file, which
 /// is that of its merge if every frame is sound; or with `Memory`. Nothing changes then.
@@ -70,19 +62,12 @@ fn file_merged(
 pub extern "C" fn puffin_merge_file(
     alloc: Global,
     file: &[u8],
-    has_start: bool,
-    start_ns: i64,
-    name: &[u8],
-    merged: &mut [PuffinMerged],
-    texts: &mut [u8],
-    sizes: &mut PuffinLists,
+    thread: &PuffinThreadName<'_>,
+    list: &mut PuffinMergedList<'_>,
 ) -> u32
-    ensures { (answer : Result (Unit {0}) Fault)
-        × (result ≡ answer_code answer)
-        × MergesFile file.now (key_given has_start start_ns name.now) merged.old merged.new
-        texts.old texts.new sizes.old sizes.new answer }
+    ensures { Returns result (MergesFile file.now (key_given thread.now) list.old list.new) }
 {
-    let answer = file_merged(alloc, file, has_start, start_ns, name, merged, texts, sizes);
+    let answer = file_merged(alloc, file, thread, list);
     answer_code(answer)
 }
 
@@ -151,32 +136,27 @@ fn view_merged(
     alloc: Global,
     profiler: &mut PuffinProfiler,
     frames: usize,
-    has_start: bool,
-    start_ns: i64,
-    name: &[u8],
-    merged: &mut [PuffinMerged],
-    texts: &mut [u8],
-    sizes: &mut PuffinLists,
+    thread: &PuffinThreadName<'_>,
+    list: &mut PuffinMergedList<'_>,
 ) -> Result<(), Fault>
-    ensures merges { MergesView (profiler_in profiler.old) frames
-        (key_given has_start start_ns name.now) merged.old merged.new texts.old texts.new sizes.old
-        sizes.new result }
+    ensures merges { MergesView (profiler_in profiler.old) frames (key_given thread.now)
+        list.old list.new result }
     ensures same_profiler { profiler_in profiler.new ≡ profiler_in profiler.old }
 {
     if !profiler.is_open {
         return Err(Fault::NotOpen);
     }
-    let thread = named_thread(alloc, has_start, start_ns, name)?;
+    let info = thread.info(alloc)?;
     let whole = profiler.take(alloc);
-    let answer = newest_merged(alloc, &whole.view, frames, &thread);
+    let answer = newest_merged(alloc, &whole.view, frames, &info);
     profiler.put(whole);
-    answer?.give(merged, texts, sizes);
+    answer?.give(list);
     Ok(())
 }
 
-/// Merges the scopes of one thread over the newest `frames` of the view's recent frames, or over all of them if there are fewer: of the
-/// thread with this name and this start, or with this name and no start if `has_start` isn't set. Gives the merged scopes like
-/// [`puffin_merge_file`]. The frames stay as they are, and copies of packed ones are unpacked, all before the merge.
+/// Merges the scopes of one thread over the newest `frames` of the view's recent frames, or over all of them if there are fewer. Gives
+/// the merged scopes like [`puffin_merge_file`]. The frames stay as they are, and copies of packed ones are unpacked, all before the
+/// merge.
 ///
 /// Fails with the first of these that applies: `NotOpen`; `NotText` if the name isn't UTF-8; what refuses the merge, `TooDeep` at a
 /// scope nested in 1,024 others, or `TooLarge` if a start, a number of pieces, a total duration or the end of a merged scope doesn't
@@ -187,21 +167,13 @@ pub extern "C" fn puffin_merge_view(
     alloc: Global,
     profiler: &mut PuffinProfiler,
     frames: usize,
-    has_start: bool,
-    start_ns: i64,
-    name: &[u8],
-    merged: &mut [PuffinMerged],
-    texts: &mut [u8],
-    sizes: &mut PuffinLists,
+    thread: &PuffinThreadName<'_>,
+    list: &mut PuffinMergedList<'_>,
 ) -> u32
-    ensures merges { (answer : Result (Unit {0}) Fault)
-        × (result ≡ answer_code answer)
-        × MergesView (profiler_in profiler.old) frames (key_given has_start start_ns name.now)
-        merged.old merged.new texts.old texts.new sizes.old sizes.new answer }
+    ensures merges { Returns result (MergesView (profiler_in profiler.old) frames
+        (key_given thread.now) list.old list.new) }
     ensures same_profiler { profiler_in profiler.new ≡ profiler_in profiler.old }
 {
-    let answer = view_merged(
-        alloc, profiler, frames, has_start, start_ns, name, merged, texts, sizes,
-    );
+    let answer = view_merged(alloc, profiler, frames, thread, list);
     answer_code(answer)
 }

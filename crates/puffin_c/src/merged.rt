@@ -2,11 +2,10 @@
 
 ghost use Rattle.std.specs.Prelude.{◌≤◌, ◌∷◌, [], length, OnOk, IfOk};
 ghost use Rattle.puffin_merge.specs.Merge.Scopes.{forest_in};
-ghost use Rattle.puffin_c.specs.Lists.{GetsLists};
-ghost use Rattle.puffin_c.specs.Merges.{nodes_from, AppendsNodes, IsListOf};
+ghost use Rattle.puffin_merge.specs.Merge.Tree.{MergedForest};
+ghost use Rattle.puffin_c.specs.Merges.{nodes_from, AppendsNodes, IsListOf, GetsMerged};
 
-use crate::lists::PuffinLists;
-use crate::unread::lay_over;
+use crate::lists::give;
 use puffin_merge::merge::MergeScope;
 use std::alloc::{AllocError, Global};
 
@@ -32,6 +31,19 @@ pub struct PuffinMerged {
     pub text_size: u64,
     /// Identifies the pieces' details.
     pub id: u32,
+}
+
+/// Where a program gets merged scopes.
+#[repr(C)]
+pub struct PuffinMergedList<'a> {
+    /// The merged scopes, as many as there is room for.
+    pub rows: &'a mut [PuffinMerged],
+    /// The bytes of their texts, as many as there is room for.
+    pub bytes: &'a mut [u8],
+    /// The number of merged scopes.
+    pub num_rows: u64,
+    /// The number of bytes of all texts.
+    pub num_bytes: u64,
 }
 
 /// The merged scopes so far, each before its children, and their texts.
@@ -68,21 +80,11 @@ impl MergedList {
         Ok(())
     }
 
-    /// Copies the rows to the front of `merged` and the texts to the front of `texts`, as many of each as fit, and sets `sizes` to
-    /// how many there are.
-    pub(crate) fn give(
-        &self,
-        merged: &mut [PuffinMerged],
-        texts: &mut [u8],
-        sizes: &mut PuffinLists,
-    )
-        ensures { GetsLists self.now.rows.items self.now.texts.items merged.old merged.new
-            texts.old texts.new sizes.new }
+    /// Gives the list to a program.
+    pub(crate) fn give(&self, list: &mut PuffinMergedList<'_>)
+        ensures { (f : MergedForest) → IsListOf f self.now → GetsMerged f list.old list.new }
     {
-        lay_over(&self.rows, merged);
-        lay_over(&self.texts, texts);
-        sizes.rows = self.rows.len() as u64;
-        sizes.bytes = self.texts.len() as u64;
+        (list.num_rows, list.num_bytes) = give(&self.rows, &self.texts, list.rows, list.bytes);
     }
 }
 

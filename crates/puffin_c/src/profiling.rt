@@ -1,9 +1,8 @@
 //! Collects what threads report into frames.
 
-ghost use Rattle.std.specs.Prelude.{◌≡◌, None, Some, Result, is_some, true};
+ghost use Rattle.std.specs.Prelude.{◌≡◌, None, Some, is_some, true};
 ghost use Rattle.puffin_collector.specs.Collector.State.{after_wanting};
-ghost use Rattle.puffin_c.specs.declared.fault.Fault.{Fault};
-ghost use Rattle.puffin_c.specs.Faults.{answer_code};
+ghost use Rattle.puffin_c.specs.Faults.{Returns};
 ghost use Rattle.puffin_c.specs.Handles.{ids_in, profiler_in, thread_in, scopes_on};
 ghost use Rattle.puffin_c.specs.Recording.{Closes};
 ghost use Rattle.puffin_c.specs.Profiling.{OpensProfiler, Hands, IsTold, TakesFrame, Changes, with_collected};
@@ -44,10 +43,8 @@ pub extern "C" fn puffin_profiler_open(
     profiler: &mut PuffinProfiler,
     ids: &mut PuffinIds,
 ) -> u32
-    ensures opens { (answer : Result (Unit {0}) Fault)
-        × (result ≡ answer_code answer)
-        × OpensProfiler (profiler_in profiler.old) (is_some (ids_in ids.old))
-        (profiler_in profiler.new) answer }
+    ensures opens { Returns result (OpensProfiler (profiler_in profiler.old)
+        (is_some (ids_in ids.old)) (profiler_in profiler.new)) }
     ensures same_ids { ids_in ids.new ≡ ids_in ids.old }
 {
     let answer = opened(alloc, profiler, ids);
@@ -69,9 +66,7 @@ fn closed(alloc: Global, profiler: &mut PuffinProfiler) -> Result<(), Fault>
 /// Fails with `NotOpen`.
 #[unsafe(no_mangle)]
 pub extern "C" fn puffin_profiler_close(alloc: Global, profiler: &mut PuffinProfiler) -> u32
-    ensures { (answer : Result (Unit {0}) Fault)
-        × (result ≡ answer_code answer)
-        × Closes (profiler_in profiler.old) (profiler_in profiler.new) answer }
+    ensures { Returns result (Closes (profiler_in profiler.old) (profiler_in profiler.new)) }
 {
     let answer = closed(alloc, profiler);
     answer_code(answer)
@@ -115,10 +110,8 @@ pub extern "C" fn puffin_report(
     thread: &mut PuffinThread,
     profiler: &mut PuffinProfiler,
 ) -> u32
-    ensures hands { (answer : Result (Unit {0}) Fault)
-        × (result ≡ answer_code answer)
-        × Hands (thread_in thread.old) (profiler_in profiler.old) (thread_in thread.new)
-        (profiler_in profiler.new) answer }
+    ensures hands { Returns result (Hands (thread_in thread.old) (profiler_in profiler.old)
+        (thread_in thread.new) (profiler_in profiler.new)) }
     ensures same_switch { scopes_on thread.new ≡ scopes_on thread.old }
 {
     let answer = reported(alloc, thread, profiler);
@@ -165,10 +158,8 @@ pub extern "C" fn puffin_new_frame(
     profiler: &mut PuffinProfiler,
     frame: &mut PuffinFrame,
 ) -> u32
-    ensures { (answer : Result (Unit {0}) Fault)
-        × (result ≡ answer_code answer)
-        × TakesFrame (profiler_in profiler.old) (profiler_in profiler.new) frame.old frame.new
-        answer }
+    ensures { Returns result (TakesFrame (profiler_in profiler.old) (profiler_in profiler.new)
+        frame.old frame.new) }
 {
     let answer = taken(alloc, profiler, frame);
     answer_code(answer)
@@ -192,10 +183,8 @@ fn wanted(alloc: Global, profiler: &mut PuffinProfiler) -> Result<(), Fault>
 /// Fails with `NotOpen`.
 #[unsafe(no_mangle)]
 pub extern "C" fn puffin_snapshot(alloc: Global, profiler: &mut PuffinProfiler) -> u32
-    ensures { (answer : Result (Unit {0}) Fault)
-        × (result ≡ answer_code answer)
-        × Changes (λ q. with_collected q (after_wanting q.collector)) (profiler_in profiler.old)
-        (profiler_in profiler.new) answer }
+    ensures { Returns result (Changes (λ q. with_collected q (after_wanting q.collector))
+        (profiler_in profiler.old) (profiler_in profiler.new)) }
 {
     let answer = wanted(alloc, profiler);
     answer_code(answer)

@@ -1,20 +1,18 @@
 //! Lists the scopes of a stream.
 
-ghost use Rattle.std.specs.Prelude.{◌≡◌, [], Result, OnOk, IfOk, IfErr, ◌⊎◌};
+ghost use Rattle.std.specs.Prelude.{◌≡◌, [], OnOk, IfOk, IfErr, ◌⊎◌};
 ghost use Rattle.puffin_data.specs.declared.error.Error.TheVariants as error;
 ghost use Rattle.puffin_data.specs.Forest.{Forest};
 ghost use Rattle.puffin_data.specs.Forest.Spelling.{Spells};
 ghost use Rattle.puffin_data.specs.Walk.{IsFault};
 ghost use Rattle.puffin_data.specs.Walk.PlacedScopes.{nested_in};
-ghost use Rattle.puffin_c.specs.declared.fault.Fault.{Fault};
-ghost use Rattle.puffin_c.specs.Faults.{answer_code};
+ghost use Rattle.puffin_c.specs.Faults.{Returns};
 ghost use Rattle.puffin_c.specs.Counting.{form_given};
 ghost use Rattle.puffin_c.specs.Lists.{scope_rows, scope_texts, ListsScopes};
 
 use crate::fault::{Fault, answer_code};
-use crate::lists::PuffinLists;
+use crate::lists::give;
 use crate::stream::form_of;
-use crate::unread::lay_over;
 use puffin_data::Result as Answer;
 use puffin_data::data::{Form, RawScope, Visitor, walk_with};
 use std::alloc::Global;
@@ -35,6 +33,19 @@ pub struct PuffinScope {
     pub text_size: u64,
     /// Identifies the scope's details.
     pub id: u32,
+}
+
+/// Where a program gets the scopes of a stream.
+#[repr(C)]
+pub struct PuffinScopeList<'a> {
+    /// The scopes, as many as there is room for.
+    pub rows: &'a mut [PuffinScope],
+    /// The bytes of their texts, as many as there is room for.
+    pub bytes: &'a mut [u8],
+    /// The number of scopes.
+    pub num_rows: u64,
+    /// The number of bytes of all texts.
+    pub num_bytes: u64,
 }
 
 /// The scopes of a stream so far, and their texts.
@@ -99,24 +110,18 @@ fn listed(
     alloc: Global,
     bytes: &[u8],
     form: Form,
-    scopes: &mut [PuffinScope],
-    texts: &mut [u8],
-    sizes: &mut PuffinLists,
+    list: &mut PuffinScopeList<'_>,
 ) -> Result<(), Fault>
-    ensures { ListsScopes form bytes.now scopes.old scopes.new texts.old texts.new sizes.old
-        sizes.new result }
+    ensures { ListsScopes form bytes.now list.old list.new result }
 {
-    let list = list_of(alloc, form, bytes)?;
-    lay_over(&list.rows, scopes);
-    lay_over(&list.texts, texts);
-    sizes.rows = list.rows.len() as u64;
-    sizes.bytes = list.texts.len() as u64;
+    let made = list_of(alloc, form, bytes)?;
+    (list.num_rows, list.num_bytes) = give(&made.rows, &made.texts, list.rows, list.bytes);
     Ok(())
 }
 
-/// Lists the scopes of a stream of any origin, each before its children and with its depth. Copies them to the front of `scopes`
-/// and their texts, one behind the other, to the front of `texts`, as many of each as fit, and sets `sizes` to how many scopes
-/// and bytes of texts there are. See [`puffin_count`] for `bytes` and `long_texts`.
+/// Lists the scopes of a stream of any origin, each before its children and with its depth, and their texts, one behind the other.
+/// Copies as many scopes and bytes of texts as fit to the front of those of `list`, and sets its numbers to how many there are. See
+/// [`puffin_count`] for `bytes` and `long_texts`.
 ///
 /// Fails with the first fault in the bytes, or with `Memory`. Nothing changes then.
 ///
@@ -126,15 +131,10 @@ pub extern "C" fn puffin_scopes(
     alloc: Global,
     bytes: &[u8],
     long_texts: bool,
-    scopes: &mut [PuffinScope],
-    texts: &mut [u8],
-    sizes: &mut PuffinLists,
+    list: &mut PuffinScopeList<'_>,
 ) -> u32
-    ensures { (answer : Result (Unit {0}) Fault)
-        × (result ≡ answer_code answer)
-        × ListsScopes (form_given long_texts) bytes.now scopes.old scopes.new texts.old texts.new
-        sizes.old sizes.new answer }
+    ensures { Returns result (ListsScopes (form_given long_texts) bytes.now list.old list.new) }
 {
-    let answer = listed(alloc, bytes, form_of(long_texts), scopes, texts, sizes);
+    let answer = listed(alloc, bytes, form_of(long_texts), list);
     answer_code(answer)
 }

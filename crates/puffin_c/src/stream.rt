@@ -1,8 +1,7 @@
 //! Counts the scopes of a stream.
 
-ghost use Rattle.std.specs.Prelude.{◌≡◌, Result};
-ghost use Rattle.puffin_c.specs.declared.fault.Fault.{Fault};
-ghost use Rattle.puffin_c.specs.Faults.{answer_code};
+ghost use Rattle.std.specs.Prelude.{◌≡◌};
+ghost use Rattle.puffin_c.specs.Faults.{Returns};
 ghost use Rattle.puffin_c.specs.Counting.{IsCounted, form_given};
 
 use crate::count::PuffinCount;
@@ -40,9 +39,7 @@ pub extern "C" fn puffin_count(
     long_texts: bool,
     count: &mut PuffinCount,
 ) -> u32
-    ensures { (answer : Result (Unit {0}) Fault)
-        × (result ≡ answer_code answer)
-        × IsCounted (form_given long_texts) bytes.now count.old count.new answer }
+    ensures { Returns result (IsCounted (form_given long_texts) bytes.now count.old count.new) }
 {
     let answer = counted(alloc, bytes, form_of(long_texts), count);
     answer_code(answer)

@@ -1,6 +1,6 @@
 //! Lists the streams of a frame in a file, by thread.
 
-ghost use Rattle.std.specs.Prelude.{◌≡◌, ◌⊎◌, ◌++◌, ◌∷◌, [], Some, Result, Ok, Err, OnOk, OnErr, IfOk, IfErr, length};
+ghost use Rattle.std.specs.Prelude.{◌≡◌, ◌⊎◌, ◌++◌, ◌∷◌, [], Some, Ok, Err, OnOk, OnErr, IfOk, IfErr, length};
 ghost use Rattle.std.specs.Arc.{arc_value};
 ghost use Rattle.std.specs.FinMap as map;
 ghost use Rattle.puffin_data.specs.declared.error.Error.TheVariants as error;
@@ -9,16 +9,14 @@ ghost use Rattle.puffin_data.specs.declared.file_error.FileError.TheVariants as 
 ghost use Rattle.puffin_data.specs.Honesty.{facts_of};
 ghost use Rattle.puffin_threads.specs.Thread.ThreadKey.{key_of};
 ghost use Rattle.puffin_frames.specs.Frame.Contents.{packet_fields, frame_meta, streams_held};
-ghost use Rattle.puffin_c.specs.declared.fault.Fault.{Fault};
 ghost use Rattle.puffin_c.specs.declared.fault.Fault.TheVariants as fault;
-ghost use Rattle.puffin_c.specs.Faults.{answer_code, file_fault};
+ghost use Rattle.puffin_c.specs.Faults.{Returns, file_fault};
 ghost use Rattle.puffin_c.specs.Lists.{stream_row, stream_bytes, stream_rows, streams_bytes, streams_in_fields, IsFrom, IsFrameAt, LacksFrame, TellsStreams, ListsStreams};
 
 use crate::fault::{Fault, answer_code};
 use crate::frame::PuffinFrame;
-use crate::lists::PuffinLists;
+use crate::lists::give;
 use crate::memory_source::MemorySource;
-use crate::unread::lay_over;
 use puffin_data::data::{Form, StreamInfo};
 use puffin_data::{Error, FileError};
 use puffin_frames::frame_data::{FrameData, UnpackedFrameData};
@@ -49,6 +47,23 @@ pub struct PuffinStream {
     pub has_start: bool,
     /// Whether the stream has long texts.
     pub long_texts: bool,
+}
+
+/// Where a program gets a frame of a file, with its streams.
+#[repr(C)]
+pub struct PuffinStreamList<'a> {
+    /// The streams, as many as there is room for.
+    pub rows: &'a mut [PuffinStream],
+    /// The bytes of names and streams, as many as there is room for.
+    pub bytes: &'a mut [u8],
+    /// The number of streams.
+    pub num_rows: u64,
+    /// The number of bytes of all names and streams.
+    pub num_bytes: u64,
+    /// The offset at which the frame ends.
+    pub next: u64,
+    /// Describes the frame.
+    pub frame: PuffinFrame,
 }
 
 /// The streams of a frame so far, and their bytes: for each the name of its thread, and then its own.
@@ -152,32 +167,19 @@ pub(crate) fn unpacked(frame: &mut FrameData) -> Result<Arc<UnpackedFrameData>, 
 }
 
 /// Describes a frame, and lists its streams. Fails with `Compressed` or `BadStreams` if they can't be unpacked, and with `Memory`.
-fn told(
-    alloc: Global,
-    frame: FrameData,
-    description: &mut PuffinFrame,
-    streams: &mut [PuffinStream],
-    bytes: &mut [u8],
-    sizes: &mut PuffinLists,
-) -> Result<(), Fault>
-    ensures ok { OnOk result (TellsStreams (Some frame) description.old description.new streams.old
-        streams.new bytes.old bytes.new sizes.new) }
+fn told(alloc: Global, frame: FrameData, list: &mut PuffinStreamList<'_>) -> Result<(), Fault>
+    ensures ok { OnOk result (TellsStreams (Some frame) list.old list.new) }
     ensures err { IfErr result (λ f.
         (f ≡ fault.Refused error.Memory)
         ⊎ ((e : FileError) × (streams_in_fields (packet_fields frame) ≡ Err e)
         × (f ≡ file_fault e))) }
-    ensures unchanged { OnErr result (
-        (description.new ≡ description.old) × (streams.new ≡ streams.old) × (bytes.new ≡ bytes.old)
-        × (sizes.new ≡ sizes.old)) }
+    ensures unchanged { OnErr result (list.new ≡ list.old) }
 {
     let mut frame = frame;
     let data = unpacked(&mut frame)?;
-    let list = list_of(alloc, &data)?;
-    lay_over(&list.rows, streams);
-    lay_over(&list.bytes, bytes);
-    sizes.rows = list.rows.len() as u64;
-    sizes.bytes = list.bytes.len() as u64;
-    *description = PuffinFrame::of(*frame.meta());
+    let made = list_of(alloc, &data)?;
+    (list.num_rows, list.num_bytes) = give(&made.rows, &made.bytes, list.rows, list.bytes);
+    list.frame = PuffinFrame::of(*frame.meta());
     Ok(())
 }
 
@@ -186,32 +188,29 @@ fn listed(
     alloc: Global,
     file: &[u8],
     offset: u64,
-    frame: &mut PuffinFrame,
-    next: &mut u64,
-    streams: &mut [PuffinStream],
-    bytes: &mut [u8],
-    sizes: &mut PuffinLists,
+    list: &mut PuffinStreamList<'_>,
 ) -> Result<(), Fault>
-    ensures { ListsStreams file.now offset frame.old frame.new next.old next.new streams.old
-        streams.new bytes.old bytes.new sizes.old sizes.new result }
+    ensures { ListsStreams file.now offset list.old list.new result }
 {
     let mut end = 0;
     match frame_read(alloc, file, offset, &mut end)? {
-        Some(data) => told(alloc, data, frame, streams, bytes, sizes)?,
+        Some(data) => {
+            told(alloc, data, list)?;
+            list.next = end;
+            Ok(())
+        }
         None => {
-            frame.is_some = false;
-            *sizes = PuffinLists { rows: 0, bytes: 0 };
+            list.frame.is_some = false;
+            (list.num_rows, list.num_bytes, list.next) = (0, 0, end);
+            Ok(())
         }
     }
-    *next = end;
-    Ok(())
 }
 
-/// Reads the frame at an offset of a file of any origin, fills in `frame`, and sets `next` to the offset at which the frame ends and
-/// the next one begins. The first frame is at offset 0. Lists the frame's streams by thread, ordered by start and name: copies
-/// them to the front of `streams`, and the name of each thread, followed by its stream, to the front of `bytes`, as many of each
-/// as fit, and sets `sizes` to how many streams and bytes there are. At the file's end it sets `frame.is_some` to `false`, and
-/// `sizes` to 0.
+/// Reads the frame at an offset of a file of any origin, fills in `list.frame`, and sets `list.next` to the offset at which the frame
+/// ends and the next one begins. The first frame is at offset 0. Lists the frame's streams by thread, ordered by start and name,
+/// and the name of each thread, followed by its stream: copies as many streams and bytes as fit to the front of those of `list`,
+/// and sets its numbers to how many there are. At the file's end it sets `list.frame.is_some` to `false`, and the numbers to 0.
 ///
 /// Fails with `InvalidOffset` if `offset` is greater than the file's length; with the frame's fault; with `Compressed` or
 /// `BadStreams` if its streams can't be unpacked; or with `Memory`. Nothing changes then.
@@ -220,17 +219,10 @@ pub extern "C" fn puffin_frame_streams(
     alloc: Global,
     file: &[u8],
     offset: u64,
-    frame: &mut PuffinFrame,
-    next: &mut u64,
-    streams: &mut [PuffinStream],
-    bytes: &mut [u8],
-    sizes: &mut PuffinLists,
+    list: &mut PuffinStreamList<'_>,
 ) -> u32
-    ensures { (answer : Result (Unit {0}) Fault)
-        × (result ≡ answer_code answer)
-        × ListsStreams file.now offset frame.old frame.new next.old next.new streams.old
-        streams.new bytes.old bytes.new sizes.old sizes.new answer }
+    ensures { Returns result (ListsStreams file.now offset list.old list.new) }
 {
-    let answer = listed(alloc, file, offset, frame, next, streams, bytes, sizes);
+    let answer = listed(alloc, file, offset, list);
     answer_code(answer)
 }

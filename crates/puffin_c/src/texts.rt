@@ -3,14 +3,10 @@
 ghost use Rattle.std.specs.Prelude.{◌≡◌, OnOk, IfOk, IfErr, IsOkUnless, string_bytes};
 ghost use Rattle.std.specs.Str.{IsUtf8};
 ghost use Rattle.puffin_data.specs.declared.error.Error.TheVariants as error;
-ghost use Rattle.puffin_threads.specs.Thread.ThreadKey.{key_of};
 ghost use Rattle.puffin_c.specs.declared.fault.Fault.TheVariants as fault;
-ghost use Rattle.puffin_c.specs.Recording.{IsNoText};
-ghost use Rattle.puffin_c.specs.Reporting.{key_given};
 
 use crate::fault::Fault;
 use puffin_data::Error;
-use puffin_threads::thread_profiler::ThreadInfo;
 use std::alloc::Global;
 
 /// Returns these bytes as a text. Fails only with `NotText`. ASCII, which most texts are, is tested eight bytes at a
@@ -50,22 +46,4 @@ pub(crate) fn copied(alloc: Global, text: &str) -> Result<String, Fault>
         Ok(copy) => Ok(copy),
         Err(_) => Err(Fault::Refused(Error::Memory)),
     }
-}
-
-/// Returns the info of a thread. Fails with `NotText` if its name isn't UTF-8, otherwise only with `Memory`.
-pub(crate) fn named_thread(
-    alloc: Global,
-    has_start: bool,
-    start_ns: i64,
-    name: &[u8],
-) -> Result<ThreadInfo, Fault>
-    ensures ok { IfOk result (λ info. key_of info ≡ key_given has_start start_ns name.now) }
-    ensures text { OnOk result (IsUtf8 name.now) }
-    ensures err { IfErr result (IsNoText name.now) }
-{
-    let name = text(name)?;
-    Ok(ThreadInfo {
-        start_time_ns: if has_start { Some(start_ns) } else { None },
-        name: copied(alloc, name)?,
-    })
 }

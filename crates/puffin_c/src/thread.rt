@@ -1,9 +1,8 @@
 //! Records the scopes of one thread.
 
-ghost use Rattle.std.specs.Prelude.{◌≡◌, ◌≢◌, None, Some, Result, is_some, true, OnOk, OnErr, IfErr};
-ghost use Rattle.puffin_c.specs.declared.fault.Fault.{Fault};
+ghost use Rattle.std.specs.Prelude.{◌≡◌, ◌≢◌, None, Some, is_some, true, OnOk, OnErr, IfErr};
 ghost use Rattle.puffin_c.specs.declared.fault.Fault.TheVariants as fault;
-ghost use Rattle.puffin_c.specs.Faults.{answer_code};
+ghost use Rattle.puffin_c.specs.Faults.{Returns};
 ghost use Rattle.puffin_c.specs.Handles.{ids_in, thread_in, scopes_on};
 ghost use Rattle.puffin_c.specs.Counting.{form_given};
 ghost use Rattle.puffin_c.specs.Recording.{Opens, Closes, no_scope, Skips, BeginsIf, Ends, Discards, Keeps};
@@ -63,12 +62,11 @@ pub extern "C" fn puffin_thread_open(
     name: &[u8],
     long_texts: bool,
 ) -> u32
-    ensures opens { (answer : Result (Unit {0}) Fault)
-        × (result ≡ answer_code answer)
-        × Opens (thread_in thread.old) (is_some (ids_in ids.old)) name.now (form_given long_texts)
+    ensures opens { Returns result (λ answer.
+        Opens (thread_in thread.old) (is_some (ids_in ids.old)) name.now (form_given long_texts)
         (thread_in thread.new) answer
         × OnOk answer (scopes_on thread.new ≡ true)
-        × OnErr answer (scopes_on thread.new ≡ scopes_on thread.old) }
+        × OnErr answer (scopes_on thread.new ≡ scopes_on thread.old)) }
     ensures same_ids { ids_in ids.new ≡ ids_in ids.old }
 {
     let answer = opened(alloc, thread, ids, name, form_of(long_texts));
@@ -90,9 +88,7 @@ fn closed(alloc: Global, thread: &mut PuffinThread) -> Result<(), Fault>
 /// Fails with `NotOpen`.
 #[unsafe(no_mangle)]
 pub extern "C" fn puffin_thread_close(alloc: Global, thread: &mut PuffinThread) -> u32
-    ensures { (answer : Result (Unit {0}) Fault)
-        × (result ≡ answer_code answer)
-        × Closes (thread_in thread.old) (thread_in thread.new) answer }
+    ensures { Returns result (Closes (thread_in thread.old) (thread_in thread.new)) }
 {
     let answer = closed(alloc, thread);
     answer_code(answer)
@@ -124,9 +120,8 @@ pub extern "C" fn puffin_thread_discard(
     thread: &mut PuffinThread,
     scopes: &mut u64,
 ) -> u32
-    ensures discards { (answer : Result (Unit {0}) Fault)
-        × (result ≡ answer_code answer)
-        × Discards (thread_in thread.old) (thread_in thread.new) scopes.old scopes.new answer }
+    ensures discards { Returns result (Discards (thread_in thread.old) (thread_in thread.new)
+        scopes.old scopes.new) }
     ensures same_switch { scopes_on thread.new ≡ scopes_on thread.old }
 {
     let answer = discarded(alloc, thread, scopes);
@@ -151,11 +146,10 @@ fn switched(thread: &mut PuffinThread, is_on: bool) -> Result<(), Fault>
 /// Fails with `NotOpen`. Nothing changes then.
 #[unsafe(no_mangle)]
 pub extern "C" fn puffin_set_scopes_on(thread: &mut PuffinThread, is_on: bool) -> u32
-    ensures { (answer : Result (Unit {0}) Fault)
-        × (result ≡ answer_code answer)
-        × Keeps (thread_in thread.old) (thread_in thread.new) answer
+    ensures { Returns result (λ answer.
+        Keeps (thread_in thread.old) (thread_in thread.new) answer
         × OnOk answer (scopes_on thread.new ≡ is_on)
-        × OnErr answer (scopes_on thread.new ≡ scopes_on thread.old) }
+        × OnErr answer (scopes_on thread.new ≡ scopes_on thread.old)) }
 {
     let answer = switched(thread, is_on);
     answer_code(answer)
@@ -182,9 +176,7 @@ fn limited(alloc: Global, thread: &mut PuffinThread, bytes: u64) -> Result<(), F
 /// Fails with `NotOpen`. Allocates nothing.
 #[unsafe(no_mangle)]
 pub extern "C" fn puffin_set_max_bytes(alloc: Global, thread: &mut PuffinThread, bytes: u64) -> u32
-    ensures keeps { (answer : Result (Unit {0}) Fault)
-        × (result ≡ answer_code answer)
-        × Keeps (thread_in thread.old) (thread_in thread.new) answer }
+    ensures keeps { Returns result (Keeps (thread_in thread.old) (thread_in thread.new)) }
     ensures same_switch { scopes_on thread.new ≡ scopes_on thread.old }
 {
     let answer = limited(alloc, thread, bytes);
@@ -249,10 +241,8 @@ pub extern "C" fn puffin_begin(
     bytes: &[u8],
     scope: &mut u64,
 ) -> u32
-    ensures begins { (answer : Result (Unit {0}) Fault)
-        × (result ≡ answer_code answer)
-        × BeginsIf (scopes_on thread.old) (thread_in thread.old) now_ns id bytes.now
-        (thread_in thread.new) scope.old scope.new answer }
+    ensures begins { Returns result (BeginsIf (scopes_on thread.old) (thread_in thread.old) now_ns
+        id bytes.now (thread_in thread.new) scope.old scope.new) }
     ensures same_switch { scopes_on thread.new ≡ scopes_on thread.old }
 {
     let answer = begun(alloc, thread, now_ns, id, bytes, scope);
@@ -302,9 +292,8 @@ pub extern "C" fn puffin_end(
     now_ns: i64,
     scope: u64,
 ) -> u32
-    ensures ends { (answer : Result (Unit {0}) Fault)
-        × (result ≡ answer_code answer)
-        × Ends (thread_in thread.old) now_ns scope (thread_in thread.new) answer }
+    ensures ends { Returns result (Ends (thread_in thread.old) now_ns scope
+        (thread_in thread.new)) }
     ensures same_switch { scopes_on thread.new ≡ scopes_on thread.old }
 {
     let answer = ended(alloc, thread, now_ns, scope);

@@ -1,6 +1,6 @@
 //! Lists the threads of a file.
 
-ghost use Rattle.std.specs.Prelude.{◌≡◌, ◌⊎◌, ◌++◌, ◌∷◌, [], Ok, Err, Result, OnOk, IfOk, IfErr, IsOkUnless, unwrap_or, length};
+ghost use Rattle.std.specs.Prelude.{◌≡◌, ◌⊎◌, ◌++◌, ◌∷◌, [], Ok, Err, OnOk, IfOk, IfErr, IsOkUnless, unwrap_or, length};
 ghost use Rattle.std.specs.FinMap as map;
 ghost use Rattle.puffin_data.specs.declared.error.Error.TheVariants as error;
 ghost use Rattle.puffin_data.specs.declared.file_error.FileError.{FileError};
@@ -8,17 +8,15 @@ ghost use Rattle.puffin_data.specs.Honesty.{facts_of};
 ghost use Rattle.puffin_threads.specs.Thread.ThreadKey.{by_key, key_of};
 ghost use Rattle.puffin_frames.specs.Frame.Contents.{packet_fields, streams_held};
 ghost use Rattle.puffin_frames.specs.Frame.Streams.{Streams};
-ghost use Rattle.puffin_c.specs.declared.fault.Fault.{Fault};
 ghost use Rattle.puffin_c.specs.declared.fault.Fault.TheVariants as fault;
-ghost use Rattle.puffin_c.specs.Faults.{answer_code, file_fault};
+ghost use Rattle.puffin_c.specs.Faults.{Returns, file_fault};
 ghost use Rattle.puffin_c.specs.Lists.{streams_in_fields};
 ghost use Rattle.puffin_c.specs.Threads.{no_totals, totals_with, with_stream, with_frame, thread_row, thread_rows, thread_names, HasTotals, LacksTotals, ListsThreads};
 
 use crate::fault::{Fault, answer_code};
-use crate::lists::PuffinLists;
+use crate::lists::give;
 use crate::memory_source::MemorySource;
 use crate::streams::unpacked;
-use crate::unread::lay_over;
 use puffin_data::data::StreamInfo;
 use puffin_data::{Error, FileError, Result as Answer};
 use puffin_frames::frame_data::{FrameData, UnpackedFrameData};
@@ -43,6 +41,19 @@ pub struct PuffinFileThread {
     pub name_size: u64,
     /// Whether it is known when the thread's first scope began.
     pub has_start: bool,
+}
+
+/// Where a program gets the threads of a file.
+#[repr(C)]
+pub struct PuffinFileThreadList<'a> {
+    /// The threads, as many as there is room for.
+    pub rows: &'a mut [PuffinFileThread],
+    /// The bytes of their names, as many as there is room for.
+    pub bytes: &'a mut [u8],
+    /// The number of threads.
+    pub num_rows: u64,
+    /// The number of bytes of all names.
+    pub num_bytes: u64,
 }
 
 /// The numbers of a thread's frames and scopes.
@@ -206,28 +217,18 @@ fn list_of(alloc: Global, threads: &Threads) -> Result<ThreadList, AllocError>
     Ok(list)
 }
 
-fn listed(
-    alloc: Global,
-    file: &[u8],
-    threads: &mut [PuffinFileThread],
-    names: &mut [u8],
-    sizes: &mut PuffinLists,
-) -> Result<(), Fault>
-    ensures { ListsThreads file.now threads.old threads.new names.old names.new sizes.old sizes.new
-        result }
+fn listed(alloc: Global, file: &[u8], list: &mut PuffinFileThreadList<'_>) -> Result<(), Fault>
+    ensures { ListsThreads file.now list.old list.new result }
 {
     let totals = totals_in(alloc, file)?;
-    let list = list_of(alloc, &totals)?;
-    lay_over(&list.rows, threads);
-    lay_over(&list.names, names);
-    sizes.rows = list.rows.len() as u64;
-    sizes.bytes = list.names.len() as u64;
+    let made = list_of(alloc, &totals)?;
+    (list.num_rows, list.num_bytes) = give(&made.rows, &made.names, list.rows, list.bytes);
     Ok(())
 }
 
-/// Lists the threads of a file of any origin, ordered by start and name, and how many frames and scopes each has. Copies them to the
-/// front of `threads` and their names, one behind the other, to the front of `names`, as many of each as fit, and sets `sizes` to
-/// how many threads and bytes of names there are.
+/// Lists the threads of a file of any origin, ordered by start and name, with how many frames and scopes each has, and their names,
+/// one behind the other. Copies as many threads and bytes of names as fit to the front of those of `list`, and sets its numbers to
+/// how many there are.
 ///
 /// Fails with the first fault in the file; with `Compressed` or `BadStreams` if the streams of a frame can't be unpacked; or with
 /// `Memory`. Nothing changes then.
@@ -235,15 +236,10 @@ fn listed(
 pub extern "C" fn puffin_file_threads(
     alloc: Global,
     file: &[u8],
-    threads: &mut [PuffinFileThread],
-    names: &mut [u8],
-    sizes: &mut PuffinLists,
+    list: &mut PuffinFileThreadList<'_>,
 ) -> u32
-    ensures { (answer : Result (Unit {0}) Fault)
-        × (result ≡ answer_code answer)
-        × ListsThreads file.now threads.old threads.new names.old names.new sizes.old sizes.new
-        answer }
+    ensures { Returns result (ListsThreads file.now list.old list.new) }
 {
-    let answer = listed(alloc, file, threads, names, sizes);
+    let answer = listed(alloc, file, list);
     answer_code(answer)
 }

@@ -1,11 +1,10 @@
 //! Scopes that the program itself makes, under the name of any thread.
 
-ghost use Rattle.std.specs.Prelude.{◌≡◌, ◌⊎◌, Result, IfOk, IfErr};
+ghost use Rattle.std.specs.Prelude.{◌≡◌, ◌⊎◌, IfOk, IfErr};
 ghost use Rattle.puffin_data.specs.declared.error.Error.TheVariants as error;
 ghost use Rattle.puffin_data.specs.Honesty.{IsHonestReport};
 ghost use Rattle.puffin_data.specs.Walk.{IsFault};
-ghost use Rattle.puffin_c.specs.declared.fault.Fault.{Fault};
-ghost use Rattle.puffin_c.specs.Faults.{answer_code};
+ghost use Rattle.puffin_c.specs.Faults.{Returns};
 ghost use Rattle.puffin_c.specs.Handles.{profiler_in};
 ghost use Rattle.puffin_c.specs.Counting.{form_given};
 ghost use Rattle.puffin_c.specs.Reporting.{key_given};
@@ -14,7 +13,7 @@ ghost use Rattle.puffin_c.specs.Profiling.{TakesOwn};
 use crate::fault::{Fault, answer_code};
 use crate::handles::PuffinProfiler;
 use crate::stream::form_of;
-use crate::texts::named_thread;
+use crate::thread_name::PuffinThreadName;
 use puffin_data::data::{Form, StreamInfoRef, walk_forest};
 use std::alloc::Global;
 
@@ -39,19 +38,17 @@ fn counted(alloc: Global, form: Form, bytes: &[u8]) -> puffin_data::Result<Strea
 fn taken(
     alloc: Global,
     profiler: &mut PuffinProfiler,
-    has_start: bool,
-    start_ns: i64,
-    name: &[u8],
+    thread: &PuffinThreadName<'_>,
     bytes: &[u8],
     form: Form,
 ) -> Result<(), Fault>
-    ensures { TakesOwn (profiler_in profiler.old) (key_given has_start start_ns name.now) form
-        bytes.now (profiler_in profiler.new) result }
+    ensures { TakesOwn (profiler_in profiler.old) (key_given thread.now) form bytes.now
+        (profiler_in profiler.new) result }
 {
     if !profiler.is_open {
         return Err(Fault::NotOpen);
     }
-    let info = named_thread(alloc, has_start, start_ns, name)?;
+    let info = thread.info(alloc)?;
     let times = counted(alloc, form, bytes)?;
     let mut whole = profiler.take(alloc);
     let answer = whole.collector.report_user_scopes(info, &times);
@@ -62,8 +59,7 @@ fn taken(
     }
 }
 
-/// Appends the scopes of a stream of any origin to those that wait for the next frame. They are added under the thread with
-/// this name and this start, or with this name and no start if `has_start` isn't set. The thread needn't exist. See
+/// Appends the scopes of a stream of any origin to those that wait for the next frame, under a thread that needn't exist. See
 /// [`puffin_count`] for `bytes` and `long_texts`.
 ///
 /// Fails with the first of these that applies: `NotOpen`; `NotText` if the name isn't UTF-8; the first fault in the bytes;
@@ -76,18 +72,13 @@ fn taken(
 pub extern "C" fn puffin_user_scopes(
     alloc: Global,
     profiler: &mut PuffinProfiler,
-    has_start: bool,
-    start_ns: i64,
-    name: &[u8],
+    thread: &PuffinThreadName<'_>,
     bytes: &[u8],
     long_texts: bool,
 ) -> u32
-    ensures { (answer : Result (Unit {0}) Fault)
-        × (result ≡ answer_code answer)
-        × TakesOwn (profiler_in profiler.old) (key_given has_start start_ns name.now)
-        (form_given long_texts) bytes.now (profiler_in profiler.new) answer }
+    ensures { Returns result (TakesOwn (profiler_in profiler.old) (key_given thread.now)
+        (form_given long_texts) bytes.now (profiler_in profiler.new)) }
 {
-    let form = form_of(long_texts);
-    let answer = taken(alloc, profiler, has_start, start_ns, name, bytes, form);
+    let answer = taken(alloc, profiler, thread, bytes, form_of(long_texts));
     answer_code(answer)
 }

@@ -5,11 +5,12 @@ ghost use Rattle.std.specs.Prelude.{◌≡◌};
 use crate::count::PuffinCount;
 use crate::frame::PuffinFrame;
 use crate::handles::{PuffinIds, PuffinProfiler, PuffinThread};
-use crate::lists::PuffinLists;
-use crate::merged::PuffinMerged;
-use crate::scopes::PuffinScope;
-use crate::streams::PuffinStream;
-use crate::threads::PuffinFileThread;
+use crate::merged::{PuffinMerged, PuffinMergedList};
+use crate::naming::PuffinPlace;
+use crate::scopes::{PuffinScope, PuffinScopeList};
+use crate::streams::{PuffinStream, PuffinStreamList};
+use crate::thread_name::PuffinThreadName;
+use crate::threads::{PuffinFileThread, PuffinFileThreadList};
 use std::mem::size_of;
 
 /// The version of a library or of a header.
@@ -40,9 +41,9 @@ pub extern "C" fn puffin_version() -> PuffinVersion
 /// header has the same one may make other calls.
 #[unsafe(no_mangle)]
 pub extern "C" fn puffin_interface() -> u32
-    ensures { result ≡ 2 }
+    ensures { result ≡ 3 }
 {
-    2
+    3
 }
 
 // The sizes of the structs in `puffin.h`. A change of one is a change of the interface.
@@ -56,8 +57,6 @@ const _: () = prove!(size_of::<PuffinThread>() == 16);
 
 const _: () = prove!(size_of::<PuffinProfiler>() == 16);
 
-const _: () = prove!(size_of::<PuffinLists>() == 16);
-
 const _: () = prove!(size_of::<PuffinScope>() == 48);
 
 const _: () = prove!(size_of::<PuffinStream>() == 64);
@@ -65,3 +64,15 @@ const _: () = prove!(size_of::<PuffinStream>() == 64);
 const _: () = prove!(size_of::<PuffinFileThread>() == 48);
 
 const _: () = prove!(size_of::<PuffinMerged>() == 72);
+
+const _: () = prove!(size_of::<PuffinPlace<'static>>() == 56);
+
+const _: () = prove!(size_of::<PuffinThreadName<'static>>() == 32);
+
+const _: () = prove!(size_of::<PuffinScopeList<'static>>() == 48);
+
+const _: () = prove!(size_of::<PuffinStreamList<'static>>() == 104);
+
+const _: () = prove!(size_of::<PuffinFileThreadList<'static>>() == 48);
+
+const _: () = prove!(size_of::<PuffinMergedList<'static>>() == 48);

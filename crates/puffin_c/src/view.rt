@@ -1,8 +1,7 @@
 //! What a profiler may hold: the limits of its view and of what waits for a frame; dropping the view's frames.
 
-ghost use Rattle.std.specs.Prelude.{◌≡◌, Result};
-ghost use Rattle.puffin_c.specs.declared.fault.Fault.{Fault};
-ghost use Rattle.puffin_c.specs.Faults.{answer_code};
+ghost use Rattle.std.specs.Prelude.{◌≡◌};
+ghost use Rattle.puffin_c.specs.Faults.{Returns};
 ghost use Rattle.puffin_c.specs.Handles.{profiler_in};
 ghost use Rattle.puffin_c.specs.Profiling.{Changes, with_limits, without_view};
 ghost use Rattle.puffin_c.specs.Recording.{Keeps};
@@ -39,10 +38,8 @@ pub extern "C" fn puffin_set_limits(
     recent: usize,
     slow: usize,
 ) -> u32
-    ensures { (answer : Result (Unit {0}) Fault)
-        × (result ≡ answer_code answer)
-        × Changes (λ q. with_limits q recent slow) (profiler_in profiler.old)
-        (profiler_in profiler.new) answer }
+    ensures { Returns result (Changes (λ q. with_limits q recent slow) (profiler_in profiler.old)
+        (profiler_in profiler.new)) }
 {
     let answer = limited(alloc, profiler, recent, slow);
     answer_code(answer)
@@ -74,9 +71,7 @@ pub extern "C" fn puffin_set_max_pending(
     profiler: &mut PuffinProfiler,
     bytes: u64,
 ) -> u32
-    ensures { (answer : Result (Unit {0}) Fault)
-        × (result ≡ answer_code answer)
-        × Keeps (profiler_in profiler.old) (profiler_in profiler.new) answer }
+    ensures { Returns result (Keeps (profiler_in profiler.old) (profiler_in profiler.new)) }
 {
     let answer = pending_limited(alloc, profiler, bytes);
     answer_code(answer)
@@ -99,9 +94,8 @@ fn cleared(alloc: Global, profiler: &mut PuffinProfiler) -> Result<(), Fault>
 /// Fails with `NotOpen`.
 #[unsafe(no_mangle)]
 pub extern "C" fn puffin_view_clear(alloc: Global, profiler: &mut PuffinProfiler) -> u32
-    ensures { (answer : Result (Unit {0}) Fault)
-        × (result ≡ answer_code answer)
-        × Changes without_view (profiler_in profiler.old) (profiler_in profiler.new) answer }
+    ensures { Returns result (Changes without_view (profiler_in profiler.old)
+        (profiler_in profiler.new)) }
 {
     let answer = cleared(alloc, profiler);
     answer_code(answer)

@@ -1,9 +1,8 @@
 //! The file of a profiler's view, and the packet of its newest frame, read in pieces.
 
-ghost use Rattle.std.specs.Prelude.{◌≡◌, Result};
-ghost use Rattle.puffin_c.specs.declared.fault.Fault.{Fault};
+ghost use Rattle.std.specs.Prelude.{◌≡◌};
 ghost use Rattle.puffin_c.specs.declared.unread.Piece.TheVariants as piece;
-ghost use Rattle.puffin_c.specs.Faults.{answer_code};
+ghost use Rattle.puffin_c.specs.Faults.{Returns};
 ghost use Rattle.puffin_c.specs.Handles.{profiler_in};
 ghost use Rattle.puffin_c.specs.Profiling.{Makes, Reads};
 
@@ -66,10 +65,8 @@ pub extern "C" fn puffin_file_begin(
     profiler: &mut PuffinProfiler,
     size: &mut u64,
 ) -> u32
-    ensures { (answer : Result (Unit {0}) Fault)
-        × (result ≡ answer_code answer)
-        × Makes piece.File (profiler_in profiler.old) (profiler_in profiler.new) size.old size.new
-        answer }
+    ensures { Returns result (Makes piece.File (profiler_in profiler.old) (profiler_in profiler.new)
+        size.old size.new) }
 {
     let answer = begun(alloc, profiler, Piece::File, size);
     answer_code(answer)
@@ -86,10 +83,8 @@ pub extern "C" fn puffin_file_next(
     out: &mut [u8],
     size: &mut u64,
 ) -> u32
-    ensures { (answer : Result (Unit {0}) Fault)
-        × (result ≡ answer_code answer)
-        × Reads piece.File (profiler_in profiler.old) (profiler_in profiler.new) out.old out.new
-        size.old size.new answer }
+    ensures { Returns result (Reads piece.File (profiler_in profiler.old) (profiler_in profiler.new)
+        out.old out.new size.old size.new) }
 {
     let answer = read(alloc, profiler, Piece::File, out, size);
     answer_code(answer)
@@ -107,10 +102,8 @@ pub extern "C" fn puffin_frame_begin(
     profiler: &mut PuffinProfiler,
     size: &mut u64,
 ) -> u32
-    ensures { (answer : Result (Unit {0}) Fault)
-        × (result ≡ answer_code answer)
-        × Makes piece.Packet (profiler_in profiler.old) (profiler_in profiler.new) size.old size.new
-        answer }
+    ensures { Returns result (Makes piece.Packet (profiler_in profiler.old)
+        (profiler_in profiler.new) size.old size.new) }
 {
     let answer = begun(alloc, profiler, Piece::Packet, size);
     answer_code(answer)
@@ -127,10 +120,8 @@ pub extern "C" fn puffin_frame_next(
     out: &mut [u8],
     size: &mut u64,
 ) -> u32
-    ensures { (answer : Result (Unit {0}) Fault)
-        × (result ≡ answer_code answer)
-        × Reads piece.Packet (profiler_in profiler.old) (profiler_in profiler.new) out.old out.new
-        size.old size.new answer }
+    ensures { Returns result (Reads piece.Packet (profiler_in profiler.old)
+        (profiler_in profiler.new) out.old out.new size.old size.new) }
 {
     let answer = read(alloc, profiler, Piece::Packet, out, size);
     answer_code(answer)

@@ -1,4 +1,4 @@
-use Rattle.std.proofs.Common.{length, ap, ◌∙◌}
+use Rattle.std.proofs.Common.{ℕ, length, refl, ap, ◌∙◌}
 use Rattle.std.specs.Arc.{arc_value}
 use Rattle.std.specs.FinMap as map
 use Rattle.puffin_frames.specs.declared.frame_data.unpacked.UnpackedFrameData.{UnpackedFrameData}
@@ -10,15 +10,17 @@ use Rattle.puffin_c.proofs.streams.told.Goals as goal
 
 pub returns-clause-ok : goal.returns-clause-ok
 returns-clause-ok c =
-    let rows = c.in_ok-list.ensures.rows ∙ ap (λ (f : UnpackedFrameData). stream_rows 0 (map.entries (streams_held f))) c.deref.ensures in
-    let bytes = c.in_ok-list.ensures.bytes ∙ ap (λ (f : UnpackedFrameData). streams_bytes (map.entries (streams_held f))) c.deref.ensures in (
+    let rows = c.in_ok-made.ensures.rows ∙ ap (λ (f : UnpackedFrameData). stream_rows 0 (map.entries (streams_held f))) c.deref.ensures in
+    let bytes = c.in_ok-made.ensures.bytes ∙ ap (λ (f : UnpackedFrameData). streams_bytes (map.entries (streams_held f))) c.deref.ensures in (
       streams_held (arc_value c.in_ok-data.data),
       c.in_ok-data.ensures.ok,
-      c.of.ensures ∙ ap told_of (c.meta.ensures ∙ c.in_ok-data.ensures.meta),
+      c.of-list.ensures ∙ ap told_of (c.meta.ensures ∙ c.in_ok-data.ensures.meta),
       record {
-        given_rows = c.lay_over.ensures.out ∙ ap (laid_over c.args.streams.now) (c.deref-2.ensures.value ∙ rows);
-        given_bytes = c.lay_over-2.ensures.out ∙ ap (laid_over c.args.bytes.now) (c.deref-3.ensures.value ∙ bytes);
-        number = c.len.ensures ∙ c.in_ok-list.list.rows.ok.0 ∙ ap length rows;
-        size = c.len-2.ensures ∙ c.in_ok-list.list.bytes.ok.0 ∙ ap length bytes;
+        given_rows = c.give.ensures.rows ∙ ap (laid_over c.args.list.now.rows.now) (c.deref-2.ensures.value ∙ rows);
+        given_bytes = c.give.ensures.bytes ∙ ap (laid_over c.args.list.now.bytes.now) (c.deref-3.ensures.value ∙ bytes);
+        same_rows = refl;
+        same_bytes = refl;
+        number = ap (λ (p : ℕ × ℕ). p.0) c.give.ensures.numbers ∙ ap length (c.deref-2.ensures.value ∙ rows);
+        size = ap (λ (p : ℕ × ℕ). p.1) c.give.ensures.numbers ∙ ap length (c.deref-3.ensures.value ∙ bytes);
       },
     )
