@@ -160,11 +160,10 @@ class Tries:
             return
         for body in bodies:
             look, below = self.looks[body], wrong_below(body, bodies, self.copy.crate, said)
-            if below:
-                self.apart |= {frozenset((body, it)) for it in below}
-            elif look.rounds < ROUNDS and looked_at(body, said, self.text_of(body), look):
+            self.apart |= {frozenset((body, it)) for it in below}
+            if look.rounds < ROUNDS and looked_at(body, said, self.text_of(body), look):
                 look.rounds += 1
-            else:
+            elif not below:
                 verdict, clauses = judged(body, self.copy.crate, said, look)
                 if verdict != UNSURE or len(bodies) == 1:
                     self.end(body, verdict, clauses, said)

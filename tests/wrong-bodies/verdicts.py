@@ -26,7 +26,7 @@ UNKNOWN = re.compile(r"has no function|names? several|fits several")
 
 # How it names a goal that stays open: in the function's line, or in a note above.
 OPEN_GOALS = re.compile(r"`search` did not prove (`[^`]+`(?:, `[^`]+`)*)")
-OPEN_GOAL = re.compile(r"^note: \S+:\d+:\d+: .*\(`([^`\s]+)`\)$", re.M)
+OPEN_GOAL = re.compile(r"^note: \S+:\d+:\d+: it is not proved that .*\(`([^`\s]+)`\)", re.M)
 
 TYPE = re.compile(r"^\s*(?:pub(?:\(\w+\))? )?(?:struct|enum|union|type) (\w+)", re.M)
 
@@ -160,8 +160,10 @@ def clause_of(goal):
     returned = re.match(r"returns(?:-.*?)??(?:-clause-(\w+))?$", goal)
     if returned:
         return returned[1] or "ensures"
-    asked = re.match(r"(.*?-(?:preserved|init|smaller|requires)|invariant_of-[a-z_]+)(?:-.*?)??(-clause-\w+)?$", goal)
-    return asked[1] + (asked[2] or "").replace("-clause", "") if asked else goal
+    # (a call's goals have the name of what it is bound to between the call's and `requires`)
+    asked = re.match(r"([^-]+)(?:-.*)?(-requires)(?:-.*?)??(?:-clause-\w+)?$", goal)
+    held = asked or re.match(r"(.*?-(?:preserved|init|smaller)|invariant_of-[a-z_]+)()(?:-.*)?$", goal)
+    return held[1] + held[2] if held else goal
 
 
 def refusing(function, look, left_open):
