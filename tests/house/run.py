@@ -18,7 +18,7 @@ from .. import common
 from . import drawing, listings, promises, spec_files
 
 TOP = common.ROOT
-MOST_OF_THE_KIT, MOST_IN_THE_GATE = 12, 12
+MOST_OF_THE_KIT, MOST_IN_THE_GATE = 4, 12
 CLAUSE = re.compile(r"^\s*(?:requires|ensures)\*?(?: \w+)? \{|^\s*ghost \w+(?: =|:) \{", re.M)
 
 

@@ -208,8 +208,7 @@ def tried(crate, bodies, below):
 def wrong_of(crate):
     """The files of a crate's wrong bodies."""
     folder = common.crate(crate).folder()
-    named = [it for it in folder.glob("must-fail/*.edit") if "# function: " in it.read_text()]
-    return sorted([*named, *folder.glob("wrong/*.edit")])
+    return sorted([*folder.glob("must-fail/*.edit"), *folder.glob("wrong/*.edit")])
 
 
 def bodies_of(crate, paths):
