@@ -86,13 +86,13 @@ class Edit:
 
 
 def parsed(path, words=()):
-    """The edit that a file spells. Its lines are `file:`, `old:` and `new:`, and before them those with one of these words.
-    Raises a ValueError for any other."""
+    """The edit that a file spells. Its lines are `file:`, `old:` and `new:`, and before them those with one of these words; behind
+    a `#`, where `rt ci` reads the file too. Raises a ValueError for any other."""
     heads, changes, file, old = [], [], None, None
     for line in path.read_text().splitlines():
         word, colon, rest = line.partition(": ") if line != "new:" else ("new", ":", "")
-        if colon and word in words and file is None:
-            heads.append((word, rest))
+        if colon and word.removeprefix("# ") in words and file is None:
+            heads.append((word.removeprefix("# "), rest))
         elif colon and word == "file" and old is None:
             file = rest.strip()
         elif colon and word == "old" and file and old is None:

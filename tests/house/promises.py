@@ -22,7 +22,7 @@ TIES = common.ROOT / "tests/wrong-bodies/promises.txt"
 TESTED = common.ROOT / "tests/must-fail/README.md"
 HEAD = "promise | contract | definition"
 # The words before the changes of an edit of crates/*/wrong.
-HEADS = "function", "proved", "gate"
+HEADS = "function", "refused by", "proved", "gate"
 LINK = re.compile(r"\[([^\]]*)\]\(\.\./([^)#\s]+)\)")
 NAME = re.compile(r"`([\w:]+)`")
 DEFINED = re.compile(r"`([\w:./-]+)`")
@@ -331,6 +331,40 @@ def bodies_of_another_promise():
                 yield f"tests/wrong-bodies/promises.txt: {row.name}: {name} changes {changed}, to which its contract doesn't lead"
 
 
+def refusing(path):
+    """The functions and clauses that refuse an edit, as it names them."""
+    return [it.rpartition(": ")[::2] for it in common.parsed(path, HEADS).head("refused by")]
+
+
+@functools.cache
+def clauses_cited():
+    """What the rows cite: each piece with the labels behind it, of which an empty text stands for all clauses."""
+    found = {}
+    for row in rows():
+        for heads, labels in parts(row):
+            for piece in (it for pieces in heads.values() for it in pieces):
+                found.setdefault(piece, []).append(LINK.sub("", labels))
+    return found
+
+
+def is_cited(crate, function, clause):
+    """Whether a row cites a clause of a function. A function that no row cites is one that such functions call; and a goal within a
+    function, as of a loop or of what a call asks, is no clause."""
+    pieces = named(function, pieces_of_crates([crate]))
+    labels = [it for piece in pieces for it in clauses_cited().get(piece, ())]
+    is_clause = any(it.has_clause(clause) for it in pieces)
+    return bool(pieces) and (not labels or not is_clause or any(not it or f"`{clause}`" in it for it in labels))
+
+
+def clauses_of_no_promise():
+    """One of the clauses that refuse a wrong body is one that a row cites."""
+    for path in edits().values():
+        clauses = refusing(path) if is_of_crate(path) else []
+        if clauses and not any(is_cited(path.parents[1].name, *it) for it in clauses):
+            what = ", ".join(f"{clause} of {function}" for function, clause in clauses)
+            yield f"{path.relative_to(common.ROOT)}: no row of docs/PROOFS.md cites {what}"
+
+
 def text_alone(promise):
     """A promise without the targets of its links."""
     return re.sub(r"\[([^\]]*)\]\([^)]*\)", r"\1", promise)
@@ -346,6 +380,8 @@ def print_lists():
     for name, path in edits().items():
         promises = [it for it, tie in ties().items() if name in tie.edits]
         print(f"{path.relative_to(common.ROOT)}: {', '.join(promises) or tested().get(name, 'NO PROMISE')}")
+        for function, clause in refusing(path) if is_of_crate(path) else ():
+            print(f"    refused by {function}: {clause}")
 
 
 def print_numbers():

@@ -5,7 +5,7 @@
 Clauses have at most 100 columns; crates cite of those below them no proofs but `lemmas`; each wrong body, and each edit that a
 runner has to notice, can be applied, and the gate tries some of each crate; what the rows of docs/PROOFS.md cite is there;
 each wrong body is one of a promise's, each promise has one or a reason why not, and its contract leads to the functions that its
-wrong bodies change; each spec file begins with a line that says what it defines; each program has a file with what it prints;
+wrong bodies change; a row cites a clause that refuses it; each spec file begins with a line that says what it defines; each program has a file with what it prints;
 the listings of docs/C.md are parts of the programs of tests/c, and those of other pages stand in sources that they link; links
 in the documents lead somewhere. The last line is 'N passed, M failed'.
 """
@@ -18,7 +18,7 @@ from .. import common
 from . import drawing, listings, promises, spec_files
 
 TOP = common.ROOT
-MOST_OF_THE_KIT, MOST_IN_THE_GATE = 12, 12
+MOST_OF_THE_KIT, MOST_IN_THE_GATE = 4, 12
 CLAUSE = re.compile(r"^\s*(?:requires|ensures)\*?(?: \w+)? \{|^\s*ghost \w+(?: =|:) \{", re.M)
 
 
@@ -96,14 +96,14 @@ def edits():
 
 
 # The words before an edit's changes, by the name of its folder.
-HEADS = {"runners": ("runner", "fails", "gone"), "wrong": promises.HEADS}
+HEADS = {"runners": ("runner", "fails", "gone"), "wrong": promises.HEADS, "must-fail": promises.HEADS}
 
 
 def edits_that_do_not_apply():
     """Wrong bodies, and edits that the runners have to notice."""
     for path in [*edits(), *sorted(TOP.glob("tests/runners/*.edit"))]:
         of_tests = path.is_relative_to(TOP / "tests")
-        words = HEADS.get(path.parent.name, ("test",) if of_tests else ())
+        words = ("test",) if path.is_relative_to(TOP / "tests/must-fail") else HEADS[path.parent.name]
         folder = TOP if of_tests else path.parents[1]
         try:
             common.edited(common.parsed(path, words).changes, lambda file: (folder / file).read_text())
@@ -176,6 +176,7 @@ RULES = (
     promises.edits_without_a_promise,
     promises.promises_without_a_wrong_body,
     promises.bodies_of_another_promise,
+    promises.clauses_of_no_promise,
     spec_files_without_a_summary,
     crates_that_are_not_drawn,
     programs_without_what_they_print,

@@ -58,12 +58,14 @@ class Kept:
             self.folder = None
 
     def place(self, body):
-        return self.folder / "wrong-bodies" / sum_of([*self.sums, body])
+        return self.folder / "wrong-bodies" / sum_of([*self.sums, body.name, sorted(body.clauses), body.functions, body.changes, body.proved])
 
-    def was_refused(self, body):
-        return self.folder is not None and self.place(body).is_file()
+    def told(self, body):
+        """The verdict on a body that was refused, and what was said of it; or nothing."""
+        is_kept = self.folder is not None and self.place(body).is_file()
+        return [tuple(self.place(body).read_text().split("\n", 1))] if is_kept else []
 
-    def keep(self, body):
+    def keep(self, body, told):
         if self.folder is not None:
             self.place(body).parent.mkdir(exist_ok=True)
-            self.place(body).touch()
+            self.place(body).write_text("\n".join(told))

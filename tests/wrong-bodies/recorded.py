@@ -6,8 +6,9 @@ It reads the verdicts from outputs of checks that are kept in `recorded`, and co
 looks whether a refusal is forgotten once a file changes that it was read from, and whether the gate tries what it should.
 
 NAME.edit is a wrong body of the crate `heaps`, of which `recorded` has a source file, a definition and a proof, each with `.txt`
-after its name, since `rt ci` wants no source outside of crates; NAME.said is what a check of the body prints. A line `ends` in
-the edit is the verdict, if it isn't REFUSED. No prover runs. The last line is 'N passed, M failed'.
+after its name, since `rt ci` wants no source outside of crates; NAME.said is what a check of the body prints, and NAME.again what
+it prints without the answers that don't fit. A line `ends` in the edit is the verdict, if it isn't REFUSED BY ITS CLAUSE. The
+last line is 'N passed, M failed'.
 """
 
 import pathlib
@@ -18,7 +19,7 @@ import tempfile
 from .. import common
 from .kept import sum_of_crate
 from .run import parsed, texts_of, wrong_bodies
-from .verdicts import is_judged, judged
+from .verdicts import Look, held_to_names, is_judged, judged, looked_at
 
 FOLDER = pathlib.Path(__file__).resolve().parent / "recorded"
 CRATE = "heaps"
@@ -55,8 +56,12 @@ def main():
         crate = pathlib.Path(name)
         copy_sources(crate)
         for path in sorted(FOLDER.glob("*.edit")):
-            body, said = parsed(path, crate), path.with_suffix(".said").read_text()
-            verdict = judged(body, CRATE, said, texts_of(crate)) if is_judged(said) else "no end of a check"
+            body, look = parsed(path, crate), Look()
+            said = path.with_suffix(".said").read_text()
+            if looked_at(body, said, texts_of(crate), look) and path.with_suffix(".again").is_file():
+                said = path.with_suffix(".again").read_text()
+            verdict, clauses = judged(body, CRATE, said, look) if is_judged(said) else ("no end of a check", ())
+            verdict, _ = held_to_names(body, verdict, clauses)
             is_well = count.add(verdict == body.ends)
             print(f"recorded {path.stem} ... {'ok' if is_well else f'{verdict} in place of {body.ends}'}")
         for what, wrong in ("forgets", list(not_read_again(crate))), ("gate", not_in_the_gate()):

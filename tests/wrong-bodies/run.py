@@ -22,13 +22,13 @@ import time
 
 from .. import common
 from .kept import Kept
-from .verdicts import BAD, NOT_LOOKED_AT, REFUSED, UNKNOWN, UNSURE
-from .verdicts import WrongBody, changes_a_shape, is_judged, judged, wrong_below
+from .verdicts import BAD, NOT_LOOKED_AT, REFUSED, UNKNOWN, UNNAMED, UNSURE
+from .verdicts import Look, WrongBody, changes_a_shape, held_to_names, is_judged, judged, looked_at, wrong_below
 
 HERE = pathlib.Path(__file__).resolve().parent
 LANES = min(4, os.cpu_count() or 1)
-# How many wrong functions stand in one check.
-TOGETHER = 12
+# How many wrong functions stand in one check, and how often answers of one are left out.
+TOGETHER, ROUNDS = 12, 4
 
 
 def texts_of(folder):
@@ -36,10 +36,16 @@ def texts_of(folder):
     return lambda file: (folder / file).read_text()
 
 
+def clause(text):
+    """The function and the clause of a line `refused by`: `FUNCTION: CLAUSE`."""
+    function, _, name = text.rpartition(": ")
+    return function, name
+
+
 def parsed(path, folder):
     """The wrong body that a file spells, of the crate in a folder. Raises a ValueError if it names no function, or if it changes
     code with a definition, and names no function that stays proved."""
-    edit = common.parsed(path, ("function", "proved", "gate", "ends"))
+    edit = common.parsed(path, ("function", "refused by", "proved", "gate", "ends"))
     functions, proved, ends = map(edit.head, ("function", "proved", "ends"))
     if not functions or not edit.changes:
         raise ValueError(f"{path.name}: it names no function, or changes nothing")
@@ -51,7 +57,8 @@ def parsed(path, folder):
         # (it will be told as a bad edit)
         made = ()
     is_of_shape = any(file.endswith(".rt") and changes_a_shape((folder / file).read_text(), text) for file, text in made)
-    return WrongBody(edit.name, functions, edit.changes, is_of_shape, *(ends or (REFUSED,)), proved, bool(edit.head("gate")))
+    clauses = frozenset((function, name) for function, name in map(clause, edit.head("refused by")))
+    return WrongBody(edit.name, functions, edit.changes, is_of_shape, *(ends or (REFUSED,)), proved, clauses, bool(edit.head("gate")))
 
 
 class Copy:
@@ -76,10 +83,13 @@ class Copy:
             (self.folder / file).write_text(text)
         return texts
 
-    def checked(self, bodies):
-        """What the prover says of the functions of these bodies, all of them put in."""
+    def checked(self, bodies, others):
+        """What the prover says of the functions of these bodies, all of them put in, and of `others`, texts of proof files."""
         texts = self.put(bodies)
         try:
+            for file, text in others.items():
+                texts[file] = text
+                (self.folder / file).write_text(text)
             only = [word for body in bodies for it in (*body.functions, *body.proved) for word in ("--only", it)]
             ran = subprocess.run(
                 [*self.command, *only],
@@ -106,6 +116,7 @@ class Tries:
     def __init__(self, copy, bodies):
         self.copy = copy
         self.waiting = list(bodies)
+        self.looks = {body: Look() for body in bodies}
         self.apart = set()
         self.ended = {}
 
@@ -121,15 +132,22 @@ class Tries:
                 break
         return chosen
 
-    def end(self, body, verdict, said):
+    def end(self, body, verdict, clauses, said):
         self.waiting.remove(body)
+        verdict, why = held_to_names(body, verdict, clauses)
         errors = re.findall(r"^.*\berror(?:\[[\w-]+\])?: .*$", said, re.M)
-        self.ended[body] = verdict, "" if verdict == REFUSED or not errors else errors[0][:300]
+        self.ended[body] = verdict, why or "".join(errors[:1])[:300]
+
+    def text_of(self, body):
+        """What a body makes of a file."""
+        return lambda file: common.edited(body.changes, self.copy.text_of).get(file) or self.copy.text_of(file)
 
     def try_together(self, bodies):
-        """Tries bodies in one check; in two halves where they can't be compiled together."""
+        """Tries bodies in one check; in two halves where they can't be compiled together. Where answers have errors, what an
+        edit does to the goals is seen without them, in one more check."""
         try:
-            said = self.copy.checked(bodies)
+            others = {file: text for body in bodies for file, text in self.looks[body].texts.items()}
+            said = self.copy.checked(bodies, others)
         except (ValueError, OSError) as fault:
             said = f"error: {fault}"
         if not is_judged(said):
@@ -138,15 +156,19 @@ class Tries:
                 self.try_together(bodies[:half])
                 self.try_together(bodies[half:])
             else:
-                self.end(bodies[0], NOT_LOOKED_AT if UNKNOWN.search(said) else BAD, said)
+                self.end(bodies[0], NOT_LOOKED_AT if UNKNOWN.search(said) else BAD, (), said)
             return
         for body in bodies:
-            verdict = judged(body, self.copy.crate, said, self.copy.text_of)
-            if verdict != UNSURE or len(bodies) == 1:
-                self.end(body, verdict, said)
-            else:
-                below = wrong_below(body, bodies, self.copy.crate, said)
-                self.apart |= {frozenset((body, it)) for it in below or bodies if it is not body}
+            look, below = self.looks[body], wrong_below(body, bodies, self.copy.crate, said)
+            self.apart |= {frozenset((body, it)) for it in below}
+            if look.rounds < ROUNDS and looked_at(body, said, self.text_of(body), look):
+                look.rounds += 1
+            elif not below:
+                verdict, clauses = judged(body, self.copy.crate, said, look)
+                if verdict != UNSURE or len(bodies) == 1:
+                    self.end(body, verdict, clauses, said)
+                else:
+                    self.apart |= {frozenset((body, it)) for it in bodies if it is not body}
 
     def run(self):
         while self.waiting:
@@ -170,22 +192,23 @@ def tried(crate, bodies, below):
     """The lines on a crate's wrong bodies, and of each whether it ended as it must."""
     begun = time.monotonic()
     earlier = Kept(crate, below)
-    ended = {body: (REFUSED, "") for body in bodies if earlier.was_refused(body)}
+    ended = {body: told for body in bodies for told in earlier.told(body)}
     left = [body for body in bodies if body not in ended]
     with tempfile.TemporaryDirectory() as folder:
         ended |= Tries(Copy(crate, folder, below), left).run()
     for body in left:
-        if ended[body] == (REFUSED, ""):
-            earlier.keep(body)
+        if ended[body][0] in (REFUSED, UNNAMED):
+            earlier.keep(body, ended[body])
     lines = [f"{crate}/{body.name}: {verdict}{': ' if why else ''}{why}" for body, (verdict, why) in ended.items()]
     took = time.monotonic() - begun
-    are_well = [verdict == body.ends for body, (verdict, _) in ended.items()]
+    are_well = [verdict == body.ends or verdict == UNNAMED and body.ends == REFUSED for body, (verdict, _) in ended.items()]
     return [*sorted(lines), f"{crate}: {len(left)} tried in {took:.0f} seconds, and {len(bodies) - len(left)} earlier"], are_well
 
 
 def wrong_of(crate):
     """The files of a crate's wrong bodies."""
-    return sorted(common.crate(crate).folder().glob("wrong/*.edit"))
+    folder = common.crate(crate).folder()
+    return sorted([*folder.glob("must-fail/*.edit"), *folder.glob("wrong/*.edit")])
 
 
 def bodies_of(crate, paths):
