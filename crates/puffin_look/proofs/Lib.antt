@@ -19,3 +19,10 @@ mod StackRows
 mod Stacked
 mod StackLines
 mod StacksTaken
+mod Bucketing
+mod Ranked
+mod TallyRows
+mod Tallied
+mod RowsMade
+mod RowsTold
+mod TalliesTaken

@@ -4,6 +4,8 @@ use Rattle.std.specs.Option.{option_and_then}
 use Rattle.std.specs.Str.{bytes_eq, all_ascii_digits}
 use Rattle.std.specs.Str.Parse.{digits_value}
 use denote.Ref.{Bor}
+use Rattle.puffin_look.specs.declared.top.By.{By}
+use Rattle.puffin_look.specs.declared.top.By.TheVariants as by
 use Rattle.puffin_look.specs.declared.task.View.{View}
 use Rattle.puffin_look.specs.declared.task.View.TheVariants.{Threads, Frames, Slowest, Frame, Trace, Folded}
 
@@ -73,3 +75,12 @@ wish_of (Folded thread) = folded_stacks (option_map (λ t. t.now) thread)
 
 abbrev pub request_of : View × Bor (List ℕ) → Request
 request_of t = (wish_of t.0, t.1.now)
+
+-- ---- in what order scopes are shown by name
+
+abbrev pub order_in : List ℕ → Option By
+order_in word =
+    if bytes_eq word (codes "own") then Some by.Own else
+    if bytes_eq word (codes "total") then Some by.Total else
+    if bytes_eq word (codes "calls") then Some by.Calls else
+    if bytes_eq word (codes "max") then Some by.Greatest else None

@@ -11,5 +11,8 @@ pub mod Trace
 pub mod FrameTree
 pub mod Slowest
 pub mod Folded
+pub mod Buckets
+pub mod Top
+pub mod TopTable
 pub mod Arguments
 pub mod inner

@@ -9,3 +9,6 @@ pub mod TreeLines
 pub mod FrameTrees
 pub mod Stacks
 pub mod Foldings
+pub mod Counts
+pub mod Tallies
+pub mod Tops

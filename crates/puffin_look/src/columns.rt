@@ -35,7 +35,7 @@ pub(crate) fn push_text(text: &mut Vec<u8>, part: &str) -> Result<(), AllocError
 }
 
 /// Appends a share in percent, with a digit behind the point.
-fn push_share(text: &mut Vec<u8>, part: u64, whole: u64) -> Result<(), AllocError>
+pub(crate) fn push_share(text: &mut Vec<u8>, part: u64, whole: u64) -> Result<(), AllocError>
     ensures { OnOk result (text.new.items ≡ text.old.items ++ share_text part whole) }
 {
     if whole == 0 {

@@ -9,6 +9,7 @@
 //! | print a frame as a tree | [`print_frame`] |
 //! | write a trace for other tools | [`print_trace`] |
 //! | write the folded stacks for them | [`print_folded`] |
+//! | list the scopes by name, with their times | [`read_top`], [`Top::sort_by`], [`print_top`] |
 #![tactic(auto)]
 
 mod columns;
@@ -17,16 +18,21 @@ mod events;
 mod folded;
 mod frame_tree;
 mod frames;
+mod histogram;
+pub mod laws;
 mod listing;
 mod names;
 mod overview;
 mod quoting;
 mod slowest;
 mod stacks;
+mod tallies;
 mod task;
 mod text;
 mod thread_names;
 mod threads;
+mod top;
+mod top_table;
 mod trace;
 mod tree;
 
@@ -35,7 +41,9 @@ pub use frame_tree::print_frame;
 pub use frames::print_frames;
 pub use overview::{Overview, read_overview};
 pub use slowest::print_slowest;
-pub use task::{View, read_words};
+pub use task::{TopChoice, View, read_top_words, read_words};
 pub use thread_names::threads_named;
 pub use threads::print_threads;
+pub use top::{By, Top, TopRow, read_top};
+pub use top_table::print_top;
 pub use trace::print_trace;

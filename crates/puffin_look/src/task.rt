@@ -2,8 +2,9 @@
 
 ghost use Rattle.std.specs.Prelude.{◌≡◌, ◌^◌, option_map, map};
 ghost use Rattle.std.specs.String.{string_bytes};
-ghost use Rattle.puffin_look.specs.Arguments.{number_in, list_in, frame_in, detailed_in, request_in, wish_of, request_of};
+ghost use Rattle.puffin_look.specs.Arguments.{number_in, list_in, frame_in, detailed_in, request_in, wish_of, request_of, order_in};
 
+use crate::top::By;
 use puffin_data::FrameIndex;
 
 /// What the program shows of a file.
@@ -79,6 +80,84 @@ pub fn read_words(words: &[String]) -> Option<(View<'_>, &str)>
             frame_of(word.as_str(), index.as_str(), Some(thread.as_str()))?,
             path.as_str(),
         )),
+        _ => None,
+    }
+}
+
+/// Which scopes `top` shows, and in what order.
+#[derive(Clone, Copy, Debug, PartialEq, Eq)]
+pub struct TopChoice<'w> {
+    /// The text of a thread, or `None` for all threads.
+    pub thread: Option<&'w str>,
+    pub order: By,
+    /// The number of rows, at most.
+    pub limit: usize,
+    /// Whether texts are kept apart.
+    pub texts: bool,
+}
+
+/// Parses the name of an order.
+fn order_of(word: &str) -> Option<By>
+    ensures { result ≡ order_in word.now }
+{
+    match word {
+        "own" => Some(By::Own),
+        "total" => Some(By::Total),
+        "calls" => Some(By::Calls),
+        "max" => Some(By::Greatest),
+        _ => None,
+    }
+}
+
+/// Parses the words behind the path, one after the other.
+fn choose<'w>(choice: TopChoice<'w>, words: &'w [String]) -> Option<TopChoice<'w>> {
+    match words {
+        [] => Some(choice),
+        [word, rest @ ..] if word.as_str() == "--texts" => choose(
+            TopChoice {
+                texts: true,
+                ..choice
+            },
+            rest,
+        ),
+        [word, order, rest @ ..] if word.as_str() == "--by" => choose(
+            TopChoice {
+                order: order_of(order.as_str())?,
+                ..choice
+            },
+            rest,
+        ),
+        [word, limit, rest @ ..] if word.as_str() == "--limit" => choose(
+            TopChoice {
+                limit: number(limit.as_str())? as usize,
+                ..choice
+            },
+            rest,
+        ),
+        [word, rest @ ..] if choice.thread.is_none() => choose(
+            TopChoice {
+                thread: Some(word.as_str()),
+                ..choice
+            },
+            rest,
+        ),
+        _ => None,
+    }
+}
+
+/// Parses the program's arguments `top FILE [THREAD]`, with `--by`, `--limit` and `--texts` anywhere behind the path: what is shown,
+/// and the path. Returns `None` if they are anything else. The first word that is none of these options is the thread.
+pub fn read_top_words(words: &[String]) -> Option<(TopChoice<'_>, &str)> {
+    match words {
+        [word, path, rest @ ..] if word.as_str() == "top" => {
+            let all = TopChoice {
+                thread: None,
+                order: By::Own,
+                limit: usize::MAX,
+                texts: false,
+            };
+            Some((choose(all, rest)?, path.as_str()))
+        }
         _ => None,
     }
 }

@@ -18,7 +18,7 @@ use std::io;
 
 /// A writer to which nothing is written.
 #[derive(Drop)]
-struct Nowhere;
+pub(crate) struct Nowhere;
 
 impl Drain for Nowhere {
     ghost use Rattle.std.specs.Prelude.{length};

@@ -11,8 +11,9 @@ use crate::skimmed::Skimmed;
 use puffin_data::data::{Buffered, Counted};
 use puffin_data::{FileError, FrameIndex};
 use puffin_look::{
-    Overview, View, print_folded, print_frame, print_frames, print_slowest, print_threads,
-    print_trace, read_overview, read_words, threads_named,
+    Overview, TopChoice, View, print_folded, print_frame, print_frames, print_slowest,
+    print_threads, print_top, print_trace, read_overview, read_top, read_top_words, read_words,
+    threads_named,
 };
 use puffin_threads::thread_profiler::ThreadInfo;
 use std::fs::File;
@@ -32,6 +33,10 @@ const HELP: &str = "puffin-look shows what is in a file of frames.
   puffin-look frame FILE INDEX [THREAD]  a frame as a tree of scopes
   puffin-look trace FILE                 a trace, for ui.perfetto.dev, chrome://tracing and speedscope.app
   puffin-look folded FILE [THREAD]       folded stacks, for flamegraph.pl
+  puffin-look top FILE [THREAD]          its scopes by name, those that take the most time first
+    --by own|total|calls|max             the greatest of this first
+    --limit N                            the first N rows
+    --texts                              a row for each text of a name
   puffin-look --help, --version          this text; the version
 
 THREAD is START:NAME as `threads` lists it, or a name that only one thread has.";
@@ -41,7 +46,7 @@ const VERSION: &str = "puffin-look 0.20.0";
 
 /// What is told of words that are no request.
 const USAGE: &str =
-    "usage: puffin-look threads FILE | frames FILE [N] | frame FILE INDEX [THREAD] | trace FILE | folded FILE [THREAD]";
+    "usage: puffin-look threads FILE | frames FILE [N] | frame FILE INDEX [THREAD] | trace FILE | folded FILE [THREAD] | top FILE [THREAD] [--by own|total|calls|max] [--limit N] [--texts]";
 
 /// The status of a tool that writes to a pipe that nobody reads any more, as a shell tells it.
 const UNREAD: u8 = 141;
@@ -269,6 +274,35 @@ fn show<'w>(rt: &HostRuntime, view: View<'w>, path: &'w str) -> Result<(), LookF
     }
 }
 
+/// Prints the scopes of the file at a path by name.
+fn rank<'w>(rt: &HostRuntime, choice: &TopChoice<'w>, path: &'w str) -> Result<(), LookFault<'w>> {
+    let file = open(rt, path)?;
+    let overview = first_reading(rt, path, &file)?;
+    let thread = match choice.thread {
+        Some(word) => Some(thread_in(rt, path, &file, word)?),
+        None => None,
+    };
+    let mut source = reader(rt, path, &file)?;
+    let mut top = match read_top(
+        rt.alloc(),
+        &overview,
+        &mut source,
+        thread.as_ref(),
+        choice.texts,
+    ) {
+        Ok(top) => top,
+        Err(error) => return Err(fault_of(path, error, source.last_error(), None)),
+    };
+    if top.sort_by(choice.order, choice.limit).is_err() {
+        return Err(LookFault::Memory);
+    }
+    let mut out = Counted::new(rt.stdout());
+    match print_top(rt.alloc(), &mut out, &top) {
+        Ok(()) => Ok(()),
+        Err(error) => Err(fault_of(path, error, None, out.last_error())),
+    }
+}
+
 /// Does what the arguments ask for.
 fn run<'w>(rt: &HostRuntime, words: &'w [String]) -> Result<(), LookFault<'w>> {
     match words {
@@ -277,9 +311,10 @@ fn run<'w>(rt: &HostRuntime, words: &'w [String]) -> Result<(), LookFault<'w>> {
             "--version" => tell(rt, VERSION),
             _ => Err(LookFault::Words),
         },
-        _ => match read_words(words) {
-            Some((view, path)) => show(rt, view, path),
-            None => Err(LookFault::Words),
+        _ => match (read_words(words), read_top_words(words)) {
+            (Some((view, path)), _) => show(rt, view, path),
+            (None, Some((choice, path))) => rank(rt, &choice, path),
+            (None, None) => Err(LookFault::Words),
         },
     }
 }

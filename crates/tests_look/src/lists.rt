@@ -2,8 +2,9 @@ use crate::equal::equal;
 use puffin_data::FileError;
 use puffin_data::data::Counted;
 use puffin_look::{
-    Overview, View, print_folded, print_frame, print_frames, print_slowest, print_threads,
-    print_trace, read_overview, read_words, threads_named,
+    By, Overview, Top, TopChoice, View, print_folded, print_frame, print_frames, print_slowest,
+    print_threads, print_top, print_trace, read_overview, read_top, read_top_words, read_words,
+    threads_named,
 };
 use puffin_threads::thread_profiler::ThreadInfo;
 use std::alloc::AllocGlobal;
@@ -40,6 +41,17 @@ const TRACE: &[u8] = b"{\"displayTimeUnit\":\"ns\",\"traceEvents\":[\n\
 
 /// Where the events of the second frame begin.
 const SECOND_FRAME: usize = 377;
+
+/// The table of [`FILE`].
+const TABLE: &[u8] =
+    b"         calls       total         own       least      median         p95         p99    greatest   share  name\n\
+\x20            2      201 ns      201 ns        1 ns        1 ns      200 ns      200 ns      200 ns  100.0%  #1\n";
+
+/// The same with texts kept apart, those that take the most time first.
+const TEXTS: &[u8] =
+    b"         calls       total         own       least      median         p95         p99    greatest   share  name\n\
+\x20            1      200 ns      200 ns      200 ns      200 ns      200 ns      200 ns      200 ns   99.5%  #1 (data)\n\
+\x20            1        1 ns        1 ns        1 ns        1 ns        1 ns        1 ns        1 ns    0.4%  #1 (a)\n";
 
 /// Where the line of the second frame begins.
 const SECOND_LINE: usize = 54;
@@ -108,6 +120,19 @@ fn folded_of<R: AllocGlobal + Abort>(
         thread,
     );
     (answer, out.into_inner())
+}
+
+/// Returns the scopes of a file by name.
+fn top_of<R: AllocGlobal + Abort>(rt: &R, file: &[u8], texts: bool) -> Result<Top, FileError> {
+    let overview = overview_of(rt, file);
+    read_top(rt.alloc(), &overview, &mut Counted::new(file), None, texts)
+}
+
+/// Prints rows as a table.
+fn table_of<R: AllocGlobal + Abort>(rt: &R, top: &Top) -> Vec<u8> {
+    let mut out = Counted::new(Vec::new(rt.alloc()));
+    print_top(rt.alloc(), &mut out, top).expect(rt, "a table");
+    out.into_inner()
 }
 
 /// Returns the info of a thread named `main`.
@@ -206,6 +231,45 @@ fn a_path_has_its_own_time_in_all_frames(rt: HostRuntime) {
     let cut = folded_of(&rt, &FILE[..ONE_FRAME + 20], None);
     equal(&rt, cut.0, Err(FileError::Truncated));
     equal(&rt, cut.1.len(), 0);
+}
+
+#[test]
+fn a_name_has_the_times_of_its_scopes(rt: HostRuntime) {
+    let mut top = top_of(&rt, &FILE, false).expect(&rt, "a file");
+    equal(&rt, top.whole, 201);
+    equal(&rt, table_of(&rt, &top).as_slice(), TABLE);
+    top.sort_by(By::Calls, 0).expect(&rt, "memory");
+    equal(&rt, top.rows.len(), 0);
+    let cut = top_of(&rt, &FILE[..ONE_FRAME + 20], false);
+    equal(&rt, cut.err(), Some(FileError::Truncated));
+}
+
+#[test]
+fn texts_are_kept_apart(rt: HostRuntime) {
+    let mut top = top_of(&rt, &FILE, true).expect(&rt, "a file");
+    top.sort_by(By::Own, 9).expect(&rt, "memory");
+    equal(&rt, table_of(&rt, &top).as_slice(), TEXTS);
+}
+
+#[test]
+fn words_choose_what_comes_first(rt: HostRuntime) -> Result<(), Fail> {
+    let alloc = rt.alloc();
+    let words = [
+        String::from_str(alloc, "top")?,
+        String::from_str(alloc, "a.puffin")?,
+        String::from_str(alloc, "--by")?,
+        String::from_str(alloc, "max")?,
+        String::from_str(alloc, "main")?,
+    ];
+    let choice = TopChoice {
+        thread: Some("main"),
+        order: By::Greatest,
+        limit: usize::MAX,
+        texts: false,
+    };
+    equal(&rt, read_top_words(&words), Some((choice, "a.puffin")));
+    equal(&rt, read_top_words(&words[..1]), None);
+    Ok(())
 }
 
 #[test]

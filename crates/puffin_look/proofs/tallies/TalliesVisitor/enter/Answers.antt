@@ -1,0 +1,16 @@
+-- The scope was added to its name, and to the name that it is in.
+use Rattle.std.proofs.Common.{◌-ℤ◌, ◌∙◌, w64, arith, ap}
+use Rattle.std.specs.Prelude.{Some, unsigned_abs}
+use Rattle.std.proofs.lemmas.Int.{ints, to_z-of_z}
+use Rattle.puffin_data.specs.Walk.FoundScopes.{found_of}
+use Rattle.puffin_look.proofs.TalliesTaken.{renamed, entered}
+use Rattle.puffin_look.proofs.tallies.TalliesVisitor.enter.Goals as goal
+
+pub returns-clause-ok : goal.returns-clause-ok
+returns-clause-ok c = λ around stands.
+    let start = to_z-of_z w64 c.args.scope.now.start (omega (arith, ints)) in
+    let stop = to_z-of_z w64 c.args.scope.now.stop (omega (arith, ints)) in
+    let time = c.abs_diff-time.ensures ∙ (λ i. unsigned_abs (stop i -ℤ start i)) in
+    let set = c.in_ok-set_name.ensures in
+    let more = renamed c.args.self.now c.set_name.new.self c.add_scope.new.self c.args.within _ _ set.rows set.known set.texts set.name c.in_ok-place.ensures.added in
+    entered c.args.self.now c.add_scope.new.self c.args.within c.in_ok-place.place around (found_of c.args.scope.now).span _ time more (c.in_ok-place.ensures.place ∙ ap Some set.name) stands

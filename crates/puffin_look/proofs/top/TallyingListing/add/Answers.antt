@@ -1,0 +1,41 @@
+-- What was added is the frame's wanted threads, and its duration.
+use Rattle.std.proofs.Common.{rules, ◌≡◌, map, inl, inr, ap, subst, arith, refl}
+use Rattle.std.proofs.lemmas.Result.{err_from_is_err_and}
+use Rattle.std.proofs.lemmas.Map.Iter.{rest_more}
+use Rattle.std.specs.Map.{keys_of}
+use Rattle.std.specs.Map.Iter.{deref_pair}
+use Rattle.std.specs.List.Sorted.{IsStrictlySortedBy}
+use Rattle.puffin_data.specs.Honesty.{StreamFacts, facts_of}
+use Rattle.puffin_data.specs.Walk.{IsFault}
+use Rattle.puffin_threads.specs.Thread.ThreadKey.{key_of, thread_cmp}
+use Rattle.puffin_look.specs.OpenFrame.{open_of}
+use Rattle.puffin_look.specs.inner.Tops.{StepsTally}
+use Rattle.puffin_look.proofs.HeldStreams.{entry_of, entries_held}
+use Rattle.puffin_look.proofs.TalliesTaken.{tallying_at, tallying_more, tallying_unread, frame_tallied, frame_unread}
+use Rattle.puffin_look.proofs.top.TallyingListing.add.Goals as goal
+
+pub streams-init : goal.streams-init
+streams-init c =
+    let same : c.into_iter-thread-iterator.result ≡ c.args.frame.now.thread_streams.entries = search rules in
+    tallying_at _ _ _ (ap (map entry_of) same)
+
+pub streams-preserved : goal.streams-preserved
+streams-preserved c =
+    let left = ap (map entry_of) (rest_more deref_pair _ _ _ _ c.in-Some.is c.next.ensures.steps) in
+    tallying_more _ _ _ _ _ _ _ left c.streams.invariant (subst (λ (r : StreamFacts). StepsTally c.streams.self c.add_stream.new.self (key_of c.in-Some.thread.now) r) (ap facts_of c.deref.ensures) c.in_ok-add_stream.ensures.ok)
+
+pub returns-in_err-add_stream-clause-err : goal.returns-in_err-add_stream-clause-err
+returns-in_err-add_stream-clause-err c =
+    let p = err_from_is_err_and c.from_residual.result c.from_residual.ensures.1 in
+    let sorted : IsStrictlySortedBy thread_cmp (keys_of c.args.frame.now.thread_streams.entries) = search rules in
+    let left = ap (map entry_of) (rest_more deref_pair _ _ _ _ c.in-Some.is c.next.ensures.steps) in
+    let fault_of = subst (λ (r : StreamFacts). IsFault r.form r.bytes c.in_err-add_stream.field-0.0) (ap facts_of c.deref.ensures) in
+    rw (p.1, p.2) (elim (c.in_err-add_stream.ensures.err) [
+      | inl memory ↦ inl memory
+      | inr fault ↦ inr (frame_unread c.args.self.now (open_of c.args.frame.now) _ _ (entries_held c.args.frame.now.thread_streams.entries sorted) (tallying_unread _ _ _ _ _ _ _ left c.streams.invariant fault.0 (fault_of fault.1)))
+    ])
+
+pub returns-clause-ok : goal.returns-clause-ok
+returns-clause-ok c =
+    let sorted : IsStrictlySortedBy thread_cmp (keys_of c.args.frame.now.thread_streams.entries) = search rules in
+    frame_tallied c.args.self.now (open_of c.args.frame.now) _ _ _ _ (ap (map entry_of) c.in-None.ensures.steps.0) c.streams.invariant (entries_held c.args.frame.now.thread_streams.entries sorted) refl refl (omega (arith, c.saturating_add-self.ensures, c.length_of.ensures))

@@ -1,0 +1,126 @@
+-- What the tallies of names take from frames, one after the other, and the rows that they end in.
+use Rattle.std.specs.Prelude.{◌≡◌, ◌⊎◌, ℕ, ◌-◌, min, true, false, List, [], ◌∷◌, ◌++◌, fold, Option, option_map}
+use Rattle.std.proofs.Common.{refl, sym, ap, subst, ◌∙◌}
+use Rattle.std.proofs.lemmas.List.Sums.{fold-append}
+use Rattle.std.proofs.lemmas.List.Concat.{flat_map-append}
+use denote.Ref.{Bor}
+use Rattle.puffin_data.specs.declared.error.Error.{Error}
+use Rattle.puffin_data.specs.Forest.{Forest}
+use Rattle.puffin_data.specs.Forest.Spelling.{Spells}
+use Rattle.puffin_data.specs.Honesty.{StreamFacts}
+use Rattle.puffin_data.specs.Walk.{IsFault}
+use Rattle.puffin_threads.specs.declared.thread_profiler.thread_info.ThreadInfo.{ThreadInfo}
+use Rattle.puffin_threads.specs.Thread.ThreadKey.{ThreadKey, key_of}
+use Rattle.puffin_look.specs.OpenFrame.{OpenFrame}
+use Rattle.puffin_look.specs.Trees.{TreeFrame, AreRead, AreUnread}
+use Rattle.puffin_look.specs.FrameTree.{is_wanted, wanted_streams}
+use Rattle.puffin_look.specs.Buckets.{last_of}
+use Rattle.puffin_look.specs.Top.{rank_of, forest_pieces, frame_pieces, pieces, with_length}
+use Rattle.puffin_look.specs.inner.Counts.{bucket_at}
+use Rattle.puffin_look.specs.inner.Reads.{AreRead-append}
+use Rattle.puffin_look.specs.inner.Tallies.{Counted, Row, rows_of, with_piece_in, HasMorePieces}
+use Rattle.puffin_look.specs.declared.top.Tallying.{Tallying}
+use Rattle.puffin_look.specs.declared.top.TopRow.{TopRow}
+
+-- the thread that is wanted
+abbrev pub wanted_of : Tallying → Option ThreadKey
+wanted_of v = option_map (λ t. key_of t.now) v.thread
+
+-- ---- a thread
+
+pub record AddsTally (v u : Tallying) (r : StreamFacts) : Type 0 where
+  pub forest : Forest
+  pub spells : Spells r.form r.bytes forest
+  pub pieces : HasMorePieces v.tallies u.tallies (
+      forest_pieces v.tallies.known.now v.tallies.texts forest)
+  pub whole : u.whole ≡ v.whole
+  pub thread : u.thread ≡ v.thread
+
+-- a thread's scopes were added, unless the thread isn't wanted
+abbrev pub StepsTally : Tallying → Tallying → ThreadKey → StreamFacts → Type 0
+StepsTally v u key r =
+    ((is_wanted (wanted_of v) key ≡ true) × AddsTally v u r)
+    ⊎ ((is_wanted (wanted_of v) key ≡ false) × (u ≡ v))
+
+abbrev pub IsTallyFault : Tallying → ThreadKey → StreamFacts → Error → Type 0
+IsTallyFault v key r fault = (is_wanted (wanted_of v) key ≡ true) × IsFault r.form r.bytes fault
+
+-- ---- frames
+
+-- these frames were read, their scopes were added, and nothing was printed
+pub record TakesTallies (v : Tallying) (frames : List OpenFrame) (text : List ℕ) (u : Tallying) : Type 0 where
+  pub none : text ≡ []
+  pub trees : List TreeFrame
+  pub read : AreRead (wanted_streams (wanted_of v)) frames trees
+  pub rows : rows_of u.tallies
+      ≡ fold with_piece_in (rows_of v.tallies) (pieces v.tallies.known.now v.tallies.texts trees)
+  pub known : u.tallies.known ≡ v.tallies.known
+  pub texts : u.tallies.texts ≡ v.tallies.texts
+  pub whole : u.whole ≡ fold with_length v.whole trees
+  pub thread : u.thread ≡ v.thread
+
+abbrev pub RefusesFrame : Tallying → OpenFrame → Error → Type 0
+RefusesFrame v frame cause = AreUnread (wanted_streams (wanted_of v) frame) cause
+
+-- ---- rows
+
+-- what so many percent of the calls don't exceed
+abbrev pub percentile : ℕ → Counted → ℕ
+percentile percent t =
+    min (last_of (bucket_at t.1 (rank_of percent t.0.calls))) t.0.greatest
+
+-- the row of a name
+pub record HasTally (named : Row) (row : TopRow) : Type 0 where
+  pub name : row.name.items ≡ named.0
+  pub calls : row.calls ≡ named.1.0.calls
+  pub total : row.total ≡ named.1.0.total
+  pub own : row.own ≡ named.1.0.total - named.1.0.nested
+  pub least : row.least ≡ named.1.0.least
+  pub median : row.median ≡ percentile 50 named.1
+  pub p95 : row.p95 ≡ percentile 95 named.1
+  pub p99 : row.p99 ≡ percentile 99 named.1
+  pub greatest : row.greatest ≡ named.1.0.greatest
+
+abbrev pub HaveTallies : List Row → List TopRow → Type 0
+HaveTallies [] [] = Unit {0}
+HaveTallies [] (row ∷ rows) = ⊥
+HaveTallies (named ∷ rest) [] = ⊥
+HaveTallies (named ∷ rest) (row ∷ rows) = HasTally named row × HaveTallies rest rows
+
+-- ---- laws
+
+pub tallies_none : (v : Tallying) → TakesTallies v [] [] v
+tallies_none v = record {
+  none = refl;
+  trees = [];
+  read = tt;
+  rows = refl;
+  known = refl;
+  texts = refl;
+  whole = refl;
+  thread = refl;
+}
+
+pub tallies_more : (u v w : Tallying) (xs ys : List OpenFrame) (s t : List ℕ) → TakesTallies u xs s v →
+    TakesTallies v ys t w → TakesTallies u (xs ++ ys) (s ++ t) w
+tallies_more u v w xs ys s t a b =
+    let thread = ap (option_map (λ (t : Bor ThreadInfo). key_of t.now)) a.thread in
+    let known = u.tallies.known.now in
+    let texts = u.tallies.texts in
+    record {
+      none = ap (λ (r : List ℕ). r ++ t) a.none ∙ b.none;
+      trees = a.trees ++ b.trees;
+      read = AreRead-append (wanted_streams (wanted_of u)) xs ys a.trees b.trees a.read (
+          subst (λ (p : Option ThreadKey). AreRead (wanted_streams p) ys b.trees) thread b.read);
+      rows = b.rows
+          ∙ (λ i. fold with_piece_in (a.rows i) (pieces (a.known i).now (a.texts i) b.trees))
+          ∙ sym (fold-append with_piece_in (rows_of u.tallies) (pieces known texts a.trees)
+          (pieces known texts b.trees))
+          ∙ ap (fold with_piece_in (rows_of u.tallies)) (
+          sym (flat_map-append (frame_pieces known texts) a.trees b.trees));
+      known = b.known ∙ a.known;
+      texts = b.texts ∙ a.texts;
+      whole = b.whole ∙ ap (λ (n : ℕ). fold with_length n b.trees) a.whole
+          ∙ sym (fold-append with_length u.whole a.trees b.trees);
+      thread = b.thread ∙ a.thread;
+    }
