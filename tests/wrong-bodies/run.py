@@ -2,9 +2,11 @@
 
     python3 -m tests.wrong-bodies.run [CRATE[/WORD]..]
     python3 -m tests.wrong-bodies.run --gate [CRATE[/WORD]..]
+    python3 -m tests.wrong-bodies.run --write [CRATE[/WORD]..]
     python3 -m tests.wrong-bodies.run --shown
 
-With a word it tries those of the crate whose names have it, and with --gate only those with a line `gate`.
+With a word it tries those of the crate whose names have it, with --gate only those with a line `gate`, and with --write it writes
+into edits that name no clause those that refuse them.
 
 README.md says what a wrong body looks like, how several are tried at once, what is kept of a run, and what --shown tries. The
 last line is 'N passed, M failed'.
@@ -199,10 +201,22 @@ def tried(crate, bodies, below):
     for body in left:
         if ended[body][0] in (REFUSED, UNNAMED):
             earlier.keep(body, ended[body])
+    if "--write" in sys.argv:
+        for body in (body for body, (verdict, _) in ended.items() if verdict == UNNAMED):
+            write_clauses(next(it for it in wrong_of(crate) if it.stem == body.name), ended[body][1])
     lines = [f"{crate}/{body.name}: {verdict}{': ' if why else ''}{why}" for body, (verdict, why) in ended.items()]
     took = time.monotonic() - begun
     are_well = [verdict == body.ends or verdict == UNNAMED and body.ends == REFUSED for body, (verdict, _) in ended.items()]
     return [*sorted(lines), f"{crate}: {len(left)} tried in {took:.0f} seconds, and {len(bodies) - len(left)} earlier"], are_well
+
+
+def write_clauses(path, told):
+    """Writes the clauses that refuse a body behind the functions of its edit."""
+    mark = "# " if path.parent.name == "must-fail" else ""
+    lines = path.read_text().splitlines()
+    behind = max(number for number, line in enumerate(lines) if line.startswith(f"{mark}function: ")) + 1
+    lines[behind:behind] = [f"{mark}refused by: {it}" for it in told.split("; ")]
+    path.write_text("".join(f"{line}\n" for line in lines))
 
 
 def wrong_of(crate):
@@ -221,7 +235,7 @@ def wrong_bodies(words):
     shown = [("puffin_data", bodies_of("puffin_data", sorted(HERE.glob("shown/*.edit"))))]
     if words == ["--shown"]:
         return shown
-    of_gate, words = words[:1] == ["--gate"], [it for it in words if it != "--gate"]
+    of_gate, words = "--gate" in words, [it for it in words if it not in ("--gate", "--write")]
     found = []
     for word in words or [it for it in common.crates() if any(wrong_of(it))]:
         crate, _, part = word.partition("/")

@@ -19,14 +19,22 @@ OF_A_NAME = re.compile(r"has no field|is not in scope|has no `")
 # The same of a proof that takes apart or builds a value of a type that has other fields now.
 OF_A_SHAPE = re.compile(r"(?:missing|unknown|duplicate) field|field\(s\)|is given as field|come after all its fields|is not a constructor")
 
-NOT_ADMITTED = re.compile(r"`([^`]+)` was not admitted")
+# What it says of items that rest on one that has an error.
+ABOVE = re.compile(r"declarations? that depends? on `([^`]+)`, which was rejected, w(?:as|ere) not checked: (.*)")
+
+# Where it names values at which a goal is false.
+AT_VALUES = re.compile(r"the goal fails, at|allow values at which this goal is false")
 
 # What the check says of a name that is no function's, or several functions'.
 UNKNOWN = re.compile(r"has no function|names? several|fits several")
 
 # How it names a goal that stays open: in the function's line, or in a note above.
 OPEN_GOALS = re.compile(r"`search` did not prove (`[^`]+`(?:, `[^`]+`)*)")
-OPEN_GOAL = re.compile(r"^note: \S+:\d+:\d+: it is not proved that .*\(`([^`\s]+)`\)", re.M)
+OPEN_GOAL = re.compile(r"^note: \S+:\d+:\d+: it is not proved that .*\(`([^`\s]+)`\)(.*)$", re.M)
+
+# What an error or an open goal says, the weakest first: an answer names what isn't there; it is of another type; the goal is false at
+# values.
+NAMES, OTHER_TYPE, VALUES = range(3)
 
 TYPE = re.compile(r"^\s*(?:pub(?:\(\w+\))? )?(?:struct|enum|union|type) (\w+)", re.M)
 
@@ -87,12 +95,14 @@ def lines_on(crate, said):
 
 
 def open_goals(crate, said):
-    """The goals of each function that stay open. Notes on them stand above its line."""
+    """The goals of each function that stay open, and whether values are named at which one is false. Notes on them stand above the
+    function's line."""
     found, above = {}, 0
     for line in re.finditer(rf"^fn {crate}::(\S+): (.*)$", said, re.M):
         told = OPEN_GOALS.search(line[2])
-        found[line[1]] = {*OPEN_GOAL.findall(said[above : line.start()]), *re.findall(r"`([^`]+)`", told[1] if told else "")}
-        above = line.end()
+        goals = dict.fromkeys(re.findall(r"`([^`]+)`", told[1] if told else ""), False)
+        goals |= {goal: bool(AT_VALUES.search(rest)) for goal, rest in OPEN_GOAL.findall(said[above : line.start()])}
+        found[line[1]], above = goals, line.end()
     return found
 
 
@@ -106,13 +116,18 @@ def is_of_names(error):
     return bool(OF_A_NAME.search(error) or OF_A_SHAPE.search(error))
 
 
+def errors_in(said):
+    """The errors in proof files: file, line, and what is said, with the lines below that belong to it."""
+    found = re.findall(r"^(?:\./)?(proofs/\S+?):(\d+):\d+: error: (.*(?:\n  .*)*)", said, re.M)
+    return [(file, int(line), error) for file, line, error in found]
+
+
 def errors_of(function, said):
     """What is wrong in the proof of a function: file, line and error."""
-    folder, _, name = function.replace("::", "/").rpartition("/")
+    folder, _, name = f"proofs/{function}".replace("::", "/").rpartition("/")
     # (of a function that calls itself the proof stands in a folder with a plus)
-    place = rf"{re.escape(folder)}/\+?{re.escape(name)}" if folder else rf"\+?{re.escape(name)}"
-    found = re.findall(rf"^(?:\./)?(proofs/{place}/\w+\.antt):(\d+):\d+: error: (.*)$", said, re.M)
-    return [(file, int(line), error) for file, line, error in found]
+    places = f"{folder}/{name}", f"{folder}/+{name}"
+    return [it for it in errors_in(said) if it[0].rpartition("/")[0] in places]
 
 
 def items_of(text):
@@ -129,30 +144,41 @@ def items_of(text):
     return [(word, start, end) for (word, start), end in zip(found, ends)]
 
 
-def real_lemmas(said):
-    """The items of all proof files whose errors are not only about names."""
-    found = re.findall(r"^(?:\./)?proofs/\S+:\d+:\d+: error: `([^`]+)`: (.*)$", said, re.M)
-    return {name for name, error in found if not is_of_names(error) and not NOT_ADMITTED.search(error)}
+def kind_of(error):
+    """What an error says: of names, of another type, or of values at which a goal is false."""
+    return NAMES if is_of_names(error) else VALUES if AT_VALUES.search(error) else OTHER_TYPE
 
 
-def without(text, errors, is_of_shape, real):
-    """A file of answers without the items that have errors, and of each of these whether its errors are only of names. None where
-    an error stands in none. The lemmas in `real` have others. A lemma may fail for a type's other shape alone."""
-    items, kinds = items_of(text), {}
-    for line, error in errors:
-        name = next((word for word, start, end in items if start < line <= end and word != "use"), None)
-        if name is None:
-            return None, kinds
-        lost = NOT_ADMITTED.search(error)
-        is_lemma = not re.search(rf"^(?:abbrev )?pub {re.escape(name)} : goal\.", text, re.M)
-        is_of_name = is_of_names(error) or is_of_shape and is_lemma
-        if lost:
-            is_of_name = kinds.get(lost[1], lost[1].split(".")[-1] not in real)
-        kinds[name] = kinds.get(name, False) or is_of_name
-    lines = text.split("\n")
-    for _, start, end in reversed([it for it in items if it[0] in kinds]):
-        del lines[start:end]
-    return "\n".join(lines), kinds
+def named_kinds(said):
+    """The kinds of the errors of all items, the weakest of each."""
+    found = {}
+    for _, _, error in errors_in(said):
+        for name in re.findall(r"\A`([^`]+)`: ", error):
+            found[name] = min(kind_of(error), found.get(name, VALUES))
+    return found
+
+
+def kinds_in(text, errors, lemmas, is_of_shape):
+    """The kinds of the errors of a file's items, the weakest of each. What rests on a lemma has the kind of that. Where a type has
+    another shape, a lemma may fail for that alone."""
+    goals, found = re.findall(r"^(?:abbrev )?pub (\S+) : goal\.", text, re.M), {}
+    for error in errors:
+        above, name = ABOVE.search(error), re.match(r"`([^`]+)`: ", error)
+        names = above[2].split(", ") if above else [name[1]] if name else []
+        kind = found.get(above[1], lemmas.get(above[1], NAMES)) if above else kind_of(error)
+        for it in names:
+            found[it] = min(NAMES if is_of_shape and it not in goals else kind, found.get(it, VALUES))
+    return found
+
+
+def without(text, kinds):
+    """A file of answers without the items that have errors, and what these are."""
+    lines, gone = text.split("\n"), {}
+    for word, start, end in reversed(items_of(text)):
+        if word in kinds:
+            gone[word] = kinds[word]
+            del lines[start:end]
+    return "\n".join(lines), gone
 
 
 def clause_of(goal):
@@ -166,11 +192,16 @@ def clause_of(goal):
     return held[1] + held[2] if held else goal
 
 
-def refusing(function, look, left_open):
-    """The clauses whose goals stay open, and those of which the answers only don't fit: an answer names what isn't there."""
-    left_out = look.left_out.get(function, {})
-    unfit = {clause_of(it) for it, is_of_name in left_out.items() if is_of_name}
-    real = {clause_of(it) for it in left_open if left_out.get(it) is False or it not in left_out and clause_of(it) not in unfit}
+def refusing(left_out, left_open):
+    """The clauses whose goals stay open for what they ask, and the others. An answer that names what isn't there may fit under other
+    names, and so those of its clause; and beside such a one, an answer of another type may have been given what other names had."""
+    unfit = {clause_of(it) for it, kind in left_out.items() if kind == NAMES}
+    real = set()
+    for goal, is_false in left_open.items():
+        kind = left_out.get(goal)
+        is_without = kind is None and clause_of(goal) not in unfit
+        if is_false or kind == VALUES or kind == OTHER_TYPE and not unfit or is_without:
+            real.add(clause_of(goal))
     return real, {clause_of(it) for it in left_open} - real
 
 
@@ -178,16 +209,13 @@ def looked_at(body, said, text_of, look):
     """Whether something of a body's answers has to be left out, and the check made again. Notes what that is."""
     is_new = False
     for function in body.functions:
-        files = {}
-        for file, line, error in errors_of(function, said):
-            if file.endswith("/Answers.antt"):
-                files.setdefault(file, []).append((line, error))
-        for file, errors in files.items():
-            text, kinds = without(look.texts.get(file) or text_of(file), errors, body.is_of_shape, real_lemmas(said))
-            if text is not None and kinds:
-                look.texts[file] = text
-                look.left_out.setdefault(function, {}).update(kinds)
-                is_new = True
+        errors = [it for it in errors_of(function, said) if it[0].endswith("/Answers.antt")]
+        for file in {it[0] for it in errors}:
+            text = look.texts.get(file) or text_of(file)
+            kinds = kinds_in(text, [error for it, _, error in errors if it == file], named_kinds(said), body.is_of_shape)
+            look.texts[file], gone = without(text, kinds)
+            look.left_out.setdefault(function, {}).update(gone)
+            is_new = is_new or bool(gone)
     return is_new
 
 
@@ -198,7 +226,7 @@ def verdict_on(function, crate, said, look):
         return NOT_LOOKED_AT, set()
     if line == "proved":
         return TAKEN, set()
-    real, unfit = refusing(function, look, open_goals(crate, said)[function])
+    real, unfit = refusing(look.left_out.get(function, {}), open_goals(crate, said)[function])
     errors = errors_of(function, said)
     if errors and all(file.endswith("/Proof.antt") and not is_of_names(error) for file, _, error in errors):
         return REFUSED, {"proof"}
@@ -241,8 +269,7 @@ def verdict_on_all(said):
     """What a check comes to as a whole, whichever proof or lemma is refused."""
     if re.search(r"^logic=proved", said, re.M):
         return TAKEN
-    errors = re.findall(r"^(?:\./)?\S+:\d+:\d+: error: (.*)$", said, re.M)
-    is_real = OPEN_GOALS.search(said) or any(not is_of_names(it) and not NOT_ADMITTED.search(it) for it in errors)
+    is_real = OPEN_GOALS.search(said) or any(not is_of_names(it) and not ABOVE.search(it) for _, _, it in errors_in(said))
     return REFUSED if is_real else UNSURE
 
 
