@@ -289,7 +289,7 @@ fn three(alloc: Global) -> Result<Frames> {
 fn most_tries(frames: &Frames) -> u128 {
     let mut most = 0u128;
     for frame in frames {
-        most += frame.meta.num_bytes as u128 / 31 + 1;
+        most = most.wrapping_add(frame.meta.num_bytes as u128 / 31 + 1);
     }
     most
 }
