@@ -220,9 +220,10 @@ def write_clauses(path, told):
 
 
 def wrong_of(crate):
-    """The files of a crate's wrong bodies."""
+    """The files of a crate's wrong bodies; of those that `rt ci` tries, only the ones that name a function."""
     folder = common.crate(crate).folder()
-    return sorted([*folder.glob("must-fail/*.edit"), *folder.glob("wrong/*.edit")])
+    of_kit = [it for it in folder.glob("must-fail/*.edit") if "# function: " in it.read_text()]
+    return sorted([*of_kit, *folder.glob("wrong/*.edit")])
 
 
 def bodies_of(crate, paths):
