@@ -15,19 +15,19 @@ const PIECE: usize = 512;
 /// A file of frames in which packed streams read as zeros, so that they needn't be read. In a packet only they come behind a
 /// single byte, their kind: what is read behind one byte is skipped over.
 #[derive(Drop)]
-pub struct Skimmed<'f> {
+pub(crate) struct Skimmed<'f> {
     reader: BufReader<&'f File>,
     /// The file's length.
     len: u64,
     /// Whether one byte alone was read last.
     is_behind_a_byte: bool,
-    pub faults: u64,
+    pub(crate) faults: u64,
     last: Option<io::Error>,
 }
 
 impl<'f> Skimmed<'f> {
     /// Skims a file from where it stands.
-    pub fn new(alloc: Global, file: &'f File) -> io::Result<Skimmed<'f>>
+    pub(crate) fn new(alloc: Global, file: &'f File) -> io::Result<Skimmed<'f>>
         ensures { IfOk result (λ skimmed. skimmed.faults < 2 ^ 64 - 1) }
     {
         let len = file.metadata()?.len();
@@ -42,7 +42,7 @@ impl<'f> Skimmed<'f> {
     }
 
     /// Returns the system's error of the last read that failed, or `None` if none has failed.
-    pub fn last_error(&self) -> Option<io::Error> {
+    pub(crate) fn last_error(&self) -> Option<io::Error> {
         self.last
     }
 }
