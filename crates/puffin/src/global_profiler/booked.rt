@@ -201,21 +201,15 @@ impl<L: Ledger + History, M: Ledger> Booked<L, M> {
         ensures unchanged { OnErr result (
             (share.new ≡ share.old) × (entries_of self.new ≡ entries_of self.old)) }
     {
-        let Emitted { frame, refused } = self.profiler.new_frame(rt)?;
-        let Some(frame) = frame else {
-            return Ok(Emitted {
-                frame: None,
-                refused,
-            });
+        let emitted = self.profiler.new_frame(rt)?;
+        let Some(frame) = &emitted.frame else {
+            return Ok(emitted);
         };
         self.handed
             .add(&mut share.handed, frame.meta().num_scopes as u64);
         self.log
-            .add::<Arc<FrameData>, Frames>(&mut share.author, &frame);
-        Ok(Emitted {
-            frame: Some(frame),
-            refused,
-        })
+            .add::<Arc<FrameData>, Frames>(&mut share.author, frame);
+        Ok(emitted)
     }
 
     /// Hands a frame that was made elsewhere to the sinks, as [`GlobalProfiler::add_frame`] does. No share counts it, and it is no

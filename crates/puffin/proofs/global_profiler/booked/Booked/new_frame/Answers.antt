@@ -15,8 +15,8 @@ pub invariant_of-self-2 : goal.invariant_of-self-2
 invariant_of-self-2 g c =
     let old = c.args.self.now in let f = c.in-Some.frame in
     let a : Collected = collected_of old.profiler in let b : Collected = collected_of c.new_frame.new.self in
-    let is : c.in_ok-frame.field-0.frame ≡ Some f = search rules in
-    let collects : Collects a (Some f) b = subst (λ o. Collects a o b) is c.in_ok-frame.ensures.collected.ok in
+    let is : c.in_ok-emitted.emitted.frame ≡ Some f = search rules in
+    let collects : Collects a (Some f) b = subst (λ o. Collects a o b) is c.in_ok-emitted.ensures.collected.ok in
     record {
       reported_is = old.reported_is ∙ ap (λ (x : Collected). x.reported) (sym collects.2);
       handed_is = search rules;
@@ -29,7 +29,7 @@ pub returns-clause-taken : goal.returns-clause-taken
 returns-clause-taken g c =
     let old = c.args.self.now in let f = c.in-Some.frame in
     let a : Collected = collected_of old.profiler in let b : Collected = collected_of c.new_frame.new.self in
-    let is : c.in_ok-frame.field-0.frame ≡ Some f = search rules in
-    let collects : Collects a (Some f) b = subst (λ o. Collects a o b) is c.in_ok-frame.ensures.collected.ok in
+    let is : c.in_ok-emitted.emitted.frame ≡ Some f = search rules in
+    let collects : Collects a (Some f) b = subst (λ o. Collects a o b) is c.in_ok-emitted.ensures.collected.ok in
     let due = pending_there a.streams (events old.log.entries) old.stands in
-    (old.log.entries, a.streams, due, frame_due f a b collects, told_frame _ _ (unpacked_in (arc_value f)) _ _ (search rules) (unpacked_is f a b collects))
+    rw is (old.log.entries, a.streams, due, frame_due f a b collects, told_frame _ _ (unpacked_in (arc_value f)) _ _ (search rules) (unpacked_is f a b collects))
