@@ -62,8 +62,9 @@ def main():
                 said = path.with_suffix(".again").read_text()
             verdict, clauses = judged(body, CRATE, said, look) if is_judged(said) else ("no end of a check", ())
             verdict, _ = held_to_names(body, verdict, clauses)
-            is_well = count.add(verdict == body.ends)
-            print(f"recorded {path.stem} ... {'ok' if is_well else f'{verdict} in place of {body.ends}'}")
+            are_whole = all(text.count("(") == text.count(")") for text in look.texts.values())
+            is_well = count.add(verdict == body.ends and are_whole)
+            print(f"recorded {path.stem} ... {'ok' if is_well else f'{verdict} in place of {body.ends}, or half an answer is left'}")
         for what, wrong in ("forgets", list(not_read_again(crate))), ("gate", not_in_the_gate()):
             print(f"recorded {what} ... {'ok' if count.add(not wrong) else f'wrong: {chr(32).join(wrong)}'}")
     return count.end()

@@ -134,7 +134,7 @@ def items_of(text):
     """The items of a proof file: the name of each, its first line and the one behind its last, numbered from 0."""
     found, lines = [], text.split("\n")
     for number, line in enumerate(lines):
-        if not line or line[0].isspace() or line.startswith("--"):
+        if not line or line[0].isspace() or line.startswith(("--", ")", "]", "}")):
             continue
         word = re.match(r"(?:(?:abbrev|unfoldable|pub) )*(\S+)", line)[1]
         if found and (word == "unfolding" or word == found[-1][0] and word != "use"):
