@@ -33,7 +33,7 @@ ran_well : {X E : Type 0} (is : Code → Type 0) (name : List ℕ) (known : ℕ)
 ran_well is name known (Ok x) after waiting well ran = ran
 ran_well is name known (Err e) after waiting well ran = absurd cc
 
-module _ {C W : Type 0} (states : W → Bool) (runs : W → ℕ → Code → Type 0) (leads : W → Code → Type 0) (takes : W → List Streams → Type 0) where
+module _ (C : Type 0) {W : Type 0} (states : W → Bool) (runs : W → ℕ → Code → Type 0) (leads : W → Code → Type 0) (takes : W → List Streams → Type 0) where
   abbrev tells : Ready C → W → ℕ → Ended → List Happening → List Happening → Type 0
   tells ready program number ended before after = HasRunAs (states program) (runs program number) (string_bytes ready.name) Short (num_known ready.scopes) ended.result before after ended.left.unreported
 

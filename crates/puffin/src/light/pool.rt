@@ -105,8 +105,20 @@ impl<C: Clock + Copy + Drop, W: Pool> AnyProgram<Ready<SystemClock<C>>> for Jobs
         for _ in rt.forever() {
             let (name, job) = match self.pool.next(rt) {
                 Ok(Some(next)) => next,
-                Ok(None) => return (Ended { result: Ok(()), left }, reporter),
-                Err(e) => return (Ended { result: Err(e), left }, reporter),
+                Ok(None) => return (
+                    Ended {
+                        result: Ok(()),
+                        left,
+                    },
+                    reporter,
+                ),
+                Err(e) => return (
+                    Ended {
+                        result: Err(e),
+                        left,
+                    },
+                    reporter,
+                ),
             };
             let ready = Ready::new(alloc, name, clock.another(), scopes, max_bytes);
             let mut thread = ready.start(reporter);
