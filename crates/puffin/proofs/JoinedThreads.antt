@@ -125,8 +125,8 @@ module _ {A T W : Type 0} (tells : T → W → ℕ → Ended → List Happening 
   joined_none taker leader failed shares is = record { rest = []; shares_are = is; as_many = refl; each = λ k h e. absurd cc }
 
 -- the leader led, and all threads are joined
-module _ {A T D W J E : Type 0} (tells : T → W → ℕ → Ended → List Happening → List Happening → Type 0) (leads : D → W → ℕ → List Happening → List Happening → Type 0) (takes : D → W → List Streams → Type 0) where
-  pub all_told : (handles : List (PromisedHandle A (Works T W))) (threads : List T) (leader : D) (program : W) (taker own : Member) (counted : ThreadCounts) (frames : ℕ) (r : Result J E)
+module _ {A T W J E : Type 0} (tells : T → W → ℕ → Ended → List Happening → List Happening → Type 0) (leads : T → W → ℕ → List Happening → List Happening → Type 0) (takes : T → W → List Streams → Type 0) where
+  pub all_told : (handles : List (PromisedHandle A (Works T W))) (threads : List T) (leader : T) (program : W) (taker own : Member) (counted : ThreadCounts) (frames : ℕ) (r : Result J E)
       (failed : J → Option Failed) (counts : J → List ThreadCounts) (led : J → ThreadCounts) (taken missed : J → ℕ) (n : ℕ) (shares : J → List Member)
       → AreStarted handles threads program
       → IfOk r (λ j. AreJoined tells handles taker own (failed j) (counts j) (shares j))

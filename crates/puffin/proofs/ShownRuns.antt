@@ -17,7 +17,7 @@ use Rattle.puffin.specs.Recounted.{Recounts}
 use Rattle.puffin.specs.Telling.{HasRun, HasRunAs, HasLedAs}
 use Rattle.puffin.specs.Joined.{EachTells, HasTold}
 use Rattle.puffin_frames.specs.Frame.Contents.{Streams}
-use Rattle.puffin.specs.Shown.{AreNamed, RanEach, ShowsProgram, Shows, leader_first}
+use Rattle.puffin.specs.Shown.{AreNamed, NamedTold, RanEach, ShowsProgram, Shows, leader_first}
 use Rattle.puffin.proofs.ShownCode.{frames_show}
 
 there : {A : Type 0} (xs : List A) (k : ℕ) → k < length xs → (x : A) × (slice_get xs k ≡ Some x)
@@ -33,7 +33,7 @@ ran_well : {X E : Type 0} (is : Code → Type 0) (name : List ℕ) (known : ℕ)
 ran_well is name known (Ok x) after waiting well ran = ran
 ran_well is name known (Err e) after waiting well ran = absurd cc
 
-module _ {C W : Type 0} (states : W → Bool) (runs : W → ℕ → Code → Type 0) (leads : W → Code → Type 0) (takes : W → List Streams → Type 0) where
+module _ (C : Type 0) {W : Type 0} (states : W → Bool) (runs : W → ℕ → Code → Type 0) (leads : W → Code → Type 0) (takes : W → List Streams → Type 0) where
   abbrev tells : Ready C → W → ℕ → Ended → List Happening → List Happening → Type 0
   tells ready program number ended before after = HasRunAs (states program) (runs program number) (string_bytes ready.name) Short (num_known ready.scopes) ended.result before after ended.left.unreported
 
@@ -81,41 +81,49 @@ module _ {C W : Type 0} (states : W → Bool) (runs : W → ℕ → Code → Typ
       )
   ran_all known names leader_name leader program counts led own shares stated its_name its_known told each (suc k) name at = each k name at
 
-  shown : (known : ℕ) (names : List (List ℕ)) (leader_name : List ℕ) (threads : List (Ready C)) (leader : Ready C) (program : W) (outcome : Outcome) → length threads ≡ length names → AreNamed known names threads
-      → string_bytes leader.name ≡ leader_name → num_known leader.scopes ≡ known
-      → HasTold tells led_tells took threads leader program outcome → states program ≡ true → outcome.failed ≡ None
+  shown : (known : ℕ) (leader_name : List ℕ) (names : List (List ℕ)) (program : W) (outcome : Outcome)
+      → NamedTold tells led_tells took known leader_name names program outcome → states program ≡ true → outcome.failed ≡ None
       → ShowsProgram (takes program) known (leader_first (leads program) (runs program)) (leader_name ∷ names) outcome
-  shown known names leader_name threads leader program outcome same named its_name its_known told stated none =
-      let a = told.are in
+  shown known leader_name names program outcome told stated none =
+      let t = told.told in
+      let a = t.are in
       let is = leader_first (leads program) (runs program) in
       let counts = outcome.leader ∷ outcome.threads.items in
-      let ran = ran_all known names leader_name leader program outcome.threads.items outcome.leader a.own a.rest stated its_name its_known a.led
-      (ran_each known names threads program outcome.failed outcome.threads.items a.rest stated none same named a.each) in
+      let ran = ran_all known names leader_name told.leader program outcome.threads.items outcome.leader a.own a.rest stated told.leader_named.0 told.leader_named.1 a.led
+      (ran_each known names told.threads program outcome.failed outcome.threads.items a.rest stated none told.as_many told.named a.each) in
       record {
         frames = frames_in a.taker.own;
-        pending = told.pending;
+        pending = t.pending;
         taken = a.taken;
         as_many = a.took.as_many;
-        handed = told.handed ∙ a.handed ∙ a.took.handed;
-        left = told.left;
+        handed = t.handed ∙ a.handed ∙ a.took.handed;
+        left = t.left;
         each =
-            frames_show known (length told.shares) is (leader_name ∷ names) (a.own ∷ a.rest) counts a.taker told.log told.pending ran (ap suc (a.as_many ∙ same)) a.took.quiet
-            (subst (λ (ms : List Member). Recounts (length told.shares) (accounts_of ms) told.log told.pending) a.shares_are told.recounts);
+            frames_show known (length t.shares) is (leader_name ∷ names) (a.own ∷ a.rest) counts a.taker t.log t.pending ran (ap suc (a.as_many ∙ told.as_many)) a.took.quiet
+            (subst (λ (ms : List Member). Recounts (length t.shares) (accounts_of ms) t.log t.pending) a.shares_are t.recounts);
       }
 
-  shows : (known : ℕ) (names : List (List ℕ)) (leader_name : List ℕ) (threads : List (Ready C)) (leader : Ready C) (program : W) (outcome : Outcome) → length threads ≡ length names → AreNamed known names threads
-      → string_bytes leader.name ≡ leader_name → num_known leader.scopes ≡ known
-      → HasTold tells led_tells took threads leader program outcome
+  shows : (known : ℕ) (leader_name : List ℕ) (names : List (List ℕ)) (program : W) (outcome : Outcome)
+      → NamedTold tells led_tells took known leader_name names program outcome
       → Shows (states program) (takes program) known (leader_first (leads program) (runs program)) (leader_name ∷ names) outcome
-  shows known names leader_name threads leader program outcome same named its_name its_known told = by (states program) refl
+  shows known leader_name names program outcome told = by (states program) refl
     where
       by : (b : Bool) → states program ≡ b → Shows b (takes program) known (leader_first (leads program) (runs program)) (leader_name ∷ names) outcome
       by false is = tt
-      by true is = shown known names leader_name threads leader program outcome same named its_name its_known told is
+      by true is = shown known leader_name names program outcome told is
 
-  pub shows_if : {E : Type 0} (known : ℕ) (names : List (List ℕ)) (leader_name : List ℕ) (threads : List (Ready C)) (leader : Ready C) (program : W) (r : Result Outcome E) → length threads ≡ length names → AreNamed known names threads
-      → string_bytes leader.name ≡ leader_name → num_known leader.scopes ≡ known
-      → IfOk r (λ outcome. HasTold tells led_tells took threads leader program outcome)
+  pub shows_if : {E : Type 0} (known : ℕ) (leader_name : List ℕ) (names : List (List ℕ)) (program : W) (r : Result Outcome E)
+      → IfOk r (λ outcome. NamedTold tells led_tells took known leader_name names program outcome)
       → IfOk r (λ outcome. Shows (states program) (takes program) known (leader_first (leads program) (runs program)) (leader_name ∷ names) outcome)
-  shows_if known names leader_name threads leader program (Ok outcome) same named its_name its_known told = shows known names leader_name threads leader program outcome same named its_name its_known told
-  shows_if known names leader_name threads leader program (Err e) same named its_name its_known told = tt
+  shows_if known leader_name names program (Ok outcome) told = shows known leader_name names program outcome told
+  shows_if known leader_name names program (Err e) told = tt
+
+-- the names of threads that told
+pub named_told : {C W E : Type 0} (tells : Ready C → W → ℕ → Ended → List Happening → List Happening → Type 0) (leads : Ready C → W → ℕ → List Happening → List Happening → Type 0) (takes : Ready C → W → List Streams → Type 0)
+    (known : ℕ) (leader_name : List ℕ) (names : List (List ℕ)) (program : W) (threads : List (Ready C)) (leader : Ready C) (r : Result Outcome E)
+    → length threads ≡ length names → AreNamed known names threads → (string_bytes leader.name ≡ leader_name) × (num_known leader.scopes ≡ known)
+    → IfOk r (λ outcome. HasTold tells leads takes threads leader program outcome)
+    → IfOk r (λ outcome. NamedTold tells leads takes known leader_name names program outcome)
+named_told tells leads takes known leader_name names program threads leader (Ok outcome) same named its told =
+    record { threads = threads; leader = leader; as_many = same; named = named; leader_named = its; told = told }
+named_told tells leads takes known leader_name names program threads leader (Err e) same named its told = tt

@@ -67,10 +67,10 @@ AreStarted {A} {T} {W} handles threads program =
 
 -- These are the two shares of the leader, of which one took this number of frames, and one for each thread; all told what their
 -- types say.
-pub record AreTold {T D W : Type 0}
+pub record AreTold {T W : Type 0}
     (tells : T → W → ℕ → Ended → List Happening → List Happening → Type 0)
-    (leads : D → W → ℕ → List Happening → List Happening → Type 0)
-    (takes : D → W → List Streams → Type 0) (threads : List T) (leader : D) (program : W)
+    (leads : T → W → ℕ → List Happening → List Happening → Type 0)
+    (takes : T → W → List Streams → Type 0) (threads : List T) (leader : T) (program : W)
     (failed : Option Failed) (counts : List ThreadCounts) (leader_counts : ThreadCounts)
     (frames : ℕ) (shares : List Member) : Type 0 where
   pub taker : Member
@@ -85,10 +85,10 @@ pub record AreTold {T D W : Type 0}
   pub handed : all_handed shares ≡ taker.counts.handed
 
 -- the history of all shares of a run, each of which told what its thread's type says
-pub record HasTold {T D W : Type 0}
+pub record HasTold {T W : Type 0}
     (tells : T → W → ℕ → Ended → List Happening → List Happening → Type 0)
-    (leads : D → W → ℕ → List Happening → List Happening → Type 0)
-    (takes : D → W → List Streams → Type 0) (threads : List T) (leader : D) (program : W)
+    (leads : T → W → ℕ → List Happening → List Happening → Type 0)
+    (takes : T → W → List Streams → Type 0) (threads : List T) (leader : T) (program : W)
     (outcome : Outcome) : Type 0 where
   pub shares : List Member
   pub log : History

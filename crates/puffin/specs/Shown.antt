@@ -9,10 +9,12 @@ use Rattle.puffin_frames.specs.Frame.Contents.{Streams}
 use Rattle.puffin_frames.specs.Frame.Sums.{total_scopes}
 use Rattle.puffin.specs.declared.light.outcome.Outcome.{Outcome}
 use Rattle.puffin.specs.declared.light.outcome.ThreadCounts.{ThreadCounts}
+use Rattle.puffin.specs.declared.light.ready.Ended.{Ended}
 use Rattle.puffin.specs.declared.light.ready.Ready.{Ready}
 use Rattle.puffin.specs.Places.{num_known}
 use Rattle.puffin.specs.Code.{Code, AreScopesOf}
-use Rattle.puffin.specs.Happenings.{History, frames_in}
+use Rattle.puffin.specs.Happenings.{Happening, History, frames_in}
+use Rattle.puffin.specs.Joined.{HasTold}
 use Rattle.puffin.specs.Leaving.{accounts_of}
 use Rattle.puffin.specs.Members.{Member}
 use Rattle.puffin.specs.Recounted.{SpellInTurn, streams_under, ReportsNothing, Recounts}
@@ -96,3 +98,16 @@ abbrev pub AreNamed : {C : Type 0} → (known : ℕ) → (names : List (List ℕ
 AreNamed {C} known names threads =
     (k : ℕ) (thread : Ready C) → slice_get threads k ≡ Some thread →
     (slice_get names k ≡ Some (string_bytes thread.name)) × (num_known thread.scopes ≡ known)
+
+-- threads of these names, and a leader of this name, told what their program says
+pub record NamedTold {C W : Type 0}
+    (tells : Ready C → W → ℕ → Ended → List Happening → List Happening → Type 0)
+    (leads : Ready C → W → ℕ → List Happening → List Happening → Type 0)
+    (takes : Ready C → W → List Streams → Type 0) (known : ℕ) (leader_name : List ℕ)
+    (names : List (List ℕ)) (program : W) (outcome : Outcome) : Type 0 where
+  pub threads : List (Ready C)
+  pub leader : Ready C
+  pub as_many : length threads ≡ length names
+  pub named : AreNamed known names threads
+  pub leader_named : (string_bytes leader.name ≡ leader_name) × (num_known leader.scopes ≡ known)
+  pub told : HasTold tells leads takes threads leader program outcome

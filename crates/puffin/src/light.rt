@@ -38,7 +38,6 @@ pub mod settings;
 mod started;
 mod taker;
 pub mod thread;
-mod worker;
 
 pub use files::{SaveCause, SaveError, save};
 pub use guard::{Guard, GuardState, Records};

@@ -7,7 +7,7 @@ use crate::global_profiler::Share;
 use crate::light::counted::CountedShare;
 use crate::light::leader::Led;
 use crate::light::outcome::{Failed, ThreadCounts};
-use crate::light::ready::AnyReady;
+use crate::light::ready::AnyProgram;
 use crate::light::started::{Worked, Works};
 use crate::light::taker::Taken;
 use history::History;
@@ -62,7 +62,7 @@ fn failure(number: usize, ended: io::Result<()>) -> Option<Failed>
 }
 
 /// Joins all threads, and appends their shares to the leader's two.
-pub(crate) fn join_all<L: Ledger + History, M: Ledger, R: Threads, T: AnyReady<W>, W>(
+pub(crate) fn join_all<L: Ledger + History, M: Ledger, R: Threads, T, W: AnyProgram<T>>(
     rt: &R,
     started: Vec<PromisedHandle<Worked<L, M>, Works<T, W>>>,
     led: Led<L, M>,
@@ -73,7 +73,7 @@ pub(crate) fn join_all<L: Ledger + History, M: Ledger, R: Threads, T: AnyReady<W
     ensures frames { IfOk result (λ joined.
         (joined.frames ≡ led.taken.frames) × (joined.missed ≡ led.taken.missed)) }
     ensures each { IfOk result (λ joined.
-        AreJoined T.tells started.items led.taken.share led.counted.share joined.failed
+        AreJoined W.tells started.items led.taken.share led.counted.share joined.failed
         joined.counts.items joined.shares.items) }
     ensures handed { IfOk result (λ joined.
         all_handed joined.shares.items ≡ led.taken.share.counts.handed) }

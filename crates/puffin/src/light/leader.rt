@@ -5,8 +5,7 @@ ghost use Rattle.puffin.specs.Happenings.{frames_in};
 
 use crate::global_profiler::{Share, SharedProfiler, SharedReporter};
 use crate::light::counted::{CountedShare, Counting};
-use crate::light::gate::Gated;
-use crate::light::ready::AnyLeader;
+use crate::light::ready::AnyProgram;
 use crate::light::taker::{Taken, Taker};
 use history::History;
 use std::rt::Clock;
@@ -34,16 +33,15 @@ pub(crate) struct Led<L: Ledger + History, M: Ledger> {
 }
 
 /// Runs a program's leader on this thread, with what its seat holds.
-pub(crate) fn lead<
-    L: Ledger + History,
-    M: Ledger,
-    R: Wait + Clock + Copy,
-    D: AnyLeader<W>,
-    W: Gated,
->(rt: R, seat: Seat<L, M>, leader: D, program: &W) -> Led<L, M>
-    ensures tells { D.tells leader program.now result.counted.counts.unreported []
+pub(crate) fn lead<L: Ledger + History, M: Ledger, R: Wait + Clock + Copy, T, W: AnyProgram<T>>(
+    rt: R,
+    seat: Seat<L, M>,
+    leader: T,
+    program: &W,
+) -> Led<L, M>
+    ensures tells { W.leads leader program.now result.counted.counts.unreported []
         result.counted.share.own }
-    ensures takes { D.takes leader program.now (frames_in result.taken.share.own) }
+    ensures takes { W.takes leader program.now (frames_in result.taken.share.own) }
 {
     let Seat {
         frames,
@@ -55,15 +53,15 @@ pub(crate) fn lead<
         rt,
         profiler: frames,
         taken: Taken::new(taking),
-        program,
+        gate: program.gate(),
     };
     let reporter = Counting::new(SharedReporter::new(rt, reports, reporting));
-    let (left, reporter) = leader.lead(&rt, reporter, &mut taker, program);
+    let (left, reporter) = program.lead(&rt, leader, reporter, &mut taker);
     let Taker {
         rt: _,
         profiler: _,
         taken,
-        program: _,
+        gate: _,
     } = taker;
     Led {
         taken,

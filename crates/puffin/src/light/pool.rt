@@ -1,24 +1,18 @@
 //! Pools: threads that take jobs, each of which is recorded under a name of its own.
 
 ghost use Rattle.std.specs.Prelude.{◌≡◌, IfOk, vec_len};
-ghost use Rattle.puffin.specs.Clocks.{AgreeWith};
 
 use crate::light::gate::Gate;
 use crate::light::guard::Records;
 use crate::light::outcome::Outcome;
-use crate::light::program::{Frames, ready};
-use crate::light::ready::Crew;
+use crate::light::program::{Frames, run_named};
+use crate::light::ready::{AnyProgram, Ended, Left, Ready, end};
 use crate::light::scopes::Scopes;
 use crate::light::settings::Settings;
-use crate::light::started::run;
-use crate::light::worker::{Head, Worker};
-use crate::thread_profiler::SystemClock;
-use history::NewLog;
+use crate::thread_profiler::{Reporter, SystemClock};
 use std::io;
-use std::marker::Brand;
 use std::rt::Clock;
 use std::sync::Wait;
-use std::sync::ledger::Blank;
 use std::thread::Threads;
 
 /// A program whose work comes in jobs, for example the connections of a server. Each job is recorded under a name of its own, as
@@ -69,34 +63,89 @@ pub trait Pool {
     fn lead<R: Wait, T: Records, F: Frames>(&self, rt: &R, thread: &mut T, frames: &mut F);
 }
 
-/// Prepares the thread of a leader, and this number of workers. All have the same clock, the system's.
-fn all_ready<R: AllocGlobal + Clock + Copy>(
-    rt: R,
-    settings: &Settings,
-    workers: usize,
-    scopes: &Scopes,
-) -> io::Result<Crew<Head<R>, Worker<R>>>
-    ensures threads { IfOk result (λ crew. vec_len crew.threads ≡ workers) }
-    ensures clocks { IfOk result (λ crew.
-        AgreeWith (λ worker. worker.clock) crew.leader.ready.clock crew.threads.items) }
-{
-    let clock = SystemClock::new(rt)?;
-    let mut threads = Vec::new(rt.alloc());
-    for _ in 0..workers {
-        let Ok(scopes) = scopes.for_thread() else {
-            return Err(io::Error::from(io::ErrorKind::OutOfMemory));
-        };
-        threads.push(Worker {
-            alloc: rt.alloc(),
-            clock: clock.another(),
-            scopes,
-            max_bytes: settings.max_thread_bytes,
-        })?;
+/// A pool whose threads wait at a gate.
+struct Jobs<'p, W> {
+    pool: &'p W,
+    gate: Gate,
+}
+
+impl<C: Clock + Copy + Drop, W: Pool> AnyProgram<Ready<SystemClock<C>>> for Jobs<'_, W> {
+    /// Nothing is stated of the jobs, nor of the leader.
+    ghost tells = { λ ready jobs number ended before after. Unit {0} };
+
+    ghost leads = { λ ready jobs unreported before after. Unit {0} };
+
+    ghost takes = { λ ready jobs frames. Unit {0} };
+
+    fn gate(&self) -> &Gate {
+        &self.gate
     }
-    let leader = Head {
-        ready: ready(rt, settings.leader, &clock, scopes, settings)?,
-    };
-    Ok(Crew { leader, threads })
+
+    /// Does one job after the other, until there is none or one fails. The thread goes on under the name of each.
+    fn run<R: Wait, P: Reporter>(
+        &self,
+        rt: &R,
+        _number: usize,
+        thread: Ready<SystemClock<C>>,
+        reporter: P,
+    ) -> (Ended, P) {
+        let mut reporter = reporter;
+        let Ready {
+            alloc,
+            name: _,
+            clock,
+            mut scopes,
+            max_bytes,
+        } = thread;
+        let mut left = Left::none();
+        if !self.gate.may_begin(rt) {
+            let result = Err(io::Error::from(io::ErrorKind::Interrupted));
+            return (Ended { result, left }, reporter);
+        }
+        for _ in rt.forever() {
+            let (name, job) = match self.pool.next(rt) {
+                Ok(Some(next)) => next,
+                Ok(None) => return (
+                    Ended {
+                        result: Ok(()),
+                        left,
+                    },
+                    reporter,
+                ),
+                Err(e) => return (
+                    Ended {
+                        result: Err(e),
+                        left,
+                    },
+                    reporter,
+                ),
+            };
+            let ready = Ready::new(alloc, name, clock.another(), scopes, max_bytes);
+            let mut thread = ready.start(reporter);
+            let result = self.pool.work(rt, job, &mut thread);
+            let (of_job, back, known) = end(thread);
+            left = left.and(of_job);
+            reporter = back;
+            scopes = known;
+            if result.is_err() {
+                return (Ended { result, left }, reporter);
+            }
+        }
+        unreachable!()
+    }
+
+    fn lead<R: Wait, P: Reporter, F: Frames>(
+        &self,
+        rt: &R,
+        thread: Ready<SystemClock<C>>,
+        reporter: P,
+        frames: &mut F,
+    ) -> (Left, P) {
+        let mut thread = thread.start(reporter);
+        self.pool.lead(rt, &mut thread, frames);
+        let (left, reporter, _scopes) = end(thread);
+        (left, reporter)
+    }
 }
 
 /// Runs a pool: starts this number of threads, which take and do jobs until there is no other, runs the pool's leader on the
@@ -117,20 +166,12 @@ pub fn pooled<R: AllocGlobal + Threads + Wait + Clock + Copy + Send + Sync, W: P
 ) -> io::Result<Outcome>
     ensures threads { IfOk result (λ outcome. vec_len outcome.threads ≡ workers) }
 {
-    let crew = all_ready(rt, settings, workers, scopes)?;
-    let parts = crew.threads.len() + 2;
-    let gate = Gate::new(pool, workers);
-    let outcome = run::<Brand, Brand, R, Head<R>, Worker<R>, Gate<W>>(
-        rt,
-        scopes,
-        settings,
-        crew,
-        &gate,
-        parts,
-        Blank::new(parts as u64),
-        Blank::new(parts as u64),
-        NewLog::new(),
-    );
-    gate.end();
+    let names = vec![in rt.alloc(); ""; workers]?;
+    let jobs = Jobs {
+        pool,
+        gate: Gate::new(workers),
+    };
+    let outcome = run_named(rt, &names, scopes, settings, &jobs);
+    let Jobs { pool: _, gate: _ } = jobs;
     outcome
 }

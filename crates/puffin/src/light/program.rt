@@ -1,7 +1,7 @@
 //! Programs whose threads are profiled.
 ghost use Rattle.std.specs.Prelude.{◌≡◌, ◌∷◌, IfOk, IfErr, vec_len, length, map, string_bytes};
 ghost use Rattle.puffin.specs.Places.{details_in, num_known};
-ghost use Rattle.puffin.specs.Shown.{AreNamed, Shows, leader_first};
+ghost use Rattle.puffin.specs.Shown.{AreNamed, NamedTold, Shows, leader_first};
 ghost use Rattle.puffin.specs.Shares.{SpellsItsScopes};
 ghost use Rattle.puffin.specs.SharedCauses.{IsFrameCause};
 ghost use Rattle.puffin.specs.Clocks.{StartsAt, AgreeWith};
@@ -11,11 +11,11 @@ use crate::global_profiler::Emitted;
 use crate::light::gate::Gate;
 use crate::light::guard::Records;
 use crate::light::outcome::Outcome;
-use crate::light::ready::{Crew, Ready};
+use crate::light::ready::{AnyProgram, Crew, Ended, Left, Ready, end};
 use crate::light::scopes::Scopes;
 use crate::light::settings::Settings;
 use crate::light::started::run;
-use crate::thread_profiler::SystemClock;
+use crate::thread_profiler::{NsSource, Reporter, SystemClock};
 use history::NewLog;
 use puffin_data::Result;
 use std::io;
@@ -161,8 +161,77 @@ pub trait Program {
         ensures takes { F.taken frames.old ≡ [] → takes self.now (F.taken frames.new) };
 }
 
+/// A program whose threads wait at a gate.
+struct Gated<'p, W> {
+    program: &'p W,
+    gate: Gate,
+}
+
+impl<W: Program> Gated<'_, W> {
+    ghost use Rattle.puffin.specs.Telling.{RunsAs};
+
+    /// Does the work of one thread, once the gate is open.
+    fn work<R: Wait, T: Records>(&self, rt: &R, number: usize, thread: &mut T) -> io::Result<()>
+        ensures { RunsAs (W.states self.now.program.now) (W.runs self.now.program.now number)
+            T.begins T.ends thread.old result thread.new }
+    {
+        if !self.gate.may_begin(rt) {
+            return Err(io::Error::from(io::ErrorKind::Interrupted));
+        }
+        self.program.work(rt, number, thread)
+    }
+}
+
+impl<C: NsSource + Drop, W: Program> AnyProgram<Ready<C>> for Gated<'_, W> {
+    ghost use Rattle.std.specs.Prelude.{string_bytes};
+    ghost use Rattle.puffin_data.specs.declared.data.form.Form.{Form};
+    ghost use Rattle.puffin.specs.Places.{num_known};
+    ghost use Rattle.puffin.specs.Telling.{HasRunAs, HasLedAs};
+
+    ghost tells = { λ ready gated number ended before after.
+        HasRunAs (W.states gated.program.now) (W.runs gated.program.now number)
+        (string_bytes ready.name) Form.Short (num_known ready.scopes) ended.result before after
+        ended.left.unreported };
+
+    ghost leads = { λ ready gated unreported before after.
+        HasLedAs (W.states gated.program.now) (W.leads gated.program.now)
+        (string_bytes ready.name) Form.Short (num_known ready.scopes) before after unreported };
+
+    ghost takes = { λ ready gated frames. W.takes gated.program.now frames };
+
+    fn gate(&self) -> &Gate {
+        &self.gate
+    }
+
+    fn run<R: Wait, P: Reporter>(
+        &self,
+        rt: &R,
+        number: usize,
+        thread: Ready<C>,
+        reporter: P,
+    ) -> (Ended, P) {
+        let mut thread = thread.start(reporter);
+        let result = self.work(rt, number, &mut thread);
+        let (left, reporter, _scopes) = end(thread);
+        (Ended { result, left }, reporter)
+    }
+
+    fn lead<R: Wait, P: Reporter, F: Frames>(
+        &self,
+        rt: &R,
+        thread: Ready<C>,
+        reporter: P,
+        frames: &mut F,
+    ) -> (Left, P) {
+        let mut thread = thread.start(reporter);
+        self.program.lead(rt, &mut thread, frames);
+        let (left, reporter, _scopes) = end(thread);
+        (left, reporter)
+    }
+}
+
 /// Prepares a thread under this name and with these settings, with a clock that has the start of this one.
-pub(crate) fn ready<R: AllocGlobal + Clock + Copy>(
+fn ready<R: AllocGlobal + Clock + Copy>(
     rt: R,
     name: &str,
     clock: &SystemClock<R>,
@@ -189,7 +258,7 @@ fn all_ready<R: AllocGlobal + Clock + Copy>(
     settings: &Settings,
     names: &[&str],
     scopes: &Scopes,
-) -> io::Result<Crew<Ready<SystemClock<R>>, Ready<SystemClock<R>>>>
+) -> io::Result<Crew<Ready<SystemClock<R>>>>
     ensures threads { IfOk result (λ crew. vec_len crew.threads ≡ length names.now) }
     ensures clocks { IfOk result (λ crew.
         AgreeWith (λ thread. thread.clock) crew.leader.clock crew.threads.items) }
@@ -207,6 +276,31 @@ fn all_ready<R: AllocGlobal + Clock + Copy>(
     }
     let leader = ready(rt, settings.leader, &clock, scopes, settings)?;
     Ok(Crew { leader, threads })
+}
+
+/// Runs a program or a pool with a thread for each of these names, and a leader.
+pub(crate) fn run_named<
+    R: AllocGlobal + Threads + Wait + Clock + Copy + Send + Sync,
+    W: AnyProgram<Ready<SystemClock<R>>> + Sync,
+>(rt: R, names: &[&str], scopes: &Scopes, settings: &Settings, program: &W) -> io::Result<Outcome>
+    ensures threads { IfOk result (λ outcome. vec_len outcome.threads ≡ length names.now) }
+    ensures told { IfOk result (λ outcome.
+        NamedTold W.tells W.leads W.takes (length (details_in scopes.now)) settings.now.leader.now
+        (map (λ name. name.now) names.now) program.now outcome) }
+{
+    let crew = all_ready(rt, settings, names, scopes)?;
+    let parts = names.len() + 2;
+    run::<Brand, Brand, R, Ready<SystemClock<R>>, W>(
+        rt,
+        scopes,
+        settings,
+        crew,
+        program,
+        parts,
+        Blank::new(parts as u64),
+        Blank::new(parts as u64),
+        NewLog::new(),
+    )
 }
 
 /// Runs a program: starts a thread for each of these names, runs the program's leader on the calling thread, joins all threads
@@ -234,20 +328,14 @@ pub fn profiled<R: AllocGlobal + Threads + Wait + Clock + Copy + Send + Sync, W:
         (leader_first (W.leads program.now) (W.runs program.now))
         (settings.now.leader.now ∷ map (λ name. name.now) names.now) outcome) }
 {
-    let crew = all_ready(rt, settings, names, scopes)?;
-    let parts = names.len() + 2;
-    let gate = Gate::new(program, names.len());
-    let outcome = run::<Brand, Brand, R, Ready<SystemClock<R>>, Ready<SystemClock<R>>, Gate<W>>(
-        rt,
-        scopes,
-        settings,
-        crew,
-        &gate,
-        parts,
-        Blank::new(parts as u64),
-        Blank::new(parts as u64),
-        NewLog::new(),
-    );
-    gate.end();
+    let gated = Gated {
+        program,
+        gate: Gate::new(names.len()),
+    };
+    let outcome = run_named(rt, names, scopes, settings, &gated);
+    let Gated {
+        program: _,
+        gate: _,
+    } = gated;
     outcome
 }

@@ -14,11 +14,10 @@ use crate::global_profiler::{
     Event, GlobalFrameView, GlobalProfiler, Share, SharedProfiler, SharedReporter,
 };
 use crate::light::counted::{CountedShare, Counting};
-use crate::light::gate::Gated;
 use crate::light::joined::{Joined, Room, join_all};
 use crate::light::leader::{Seat, lead};
 use crate::light::outcome::Outcome;
-use crate::light::ready::{AnyLeader, AnyReady, Crew, Ended};
+use crate::light::ready::{AnyProgram, Crew, Ended};
 use crate::light::scopes::Scopes;
 use crate::light::settings::Settings;
 use history::{History, NewLog};
@@ -44,17 +43,17 @@ pub(crate) struct Works<T, W> {
     program: Snapshot<W>,
 }
 
-impl<L: Ledger + History, M: Ledger, T: AnyReady<W>, W> Promise<Worked<L, M>> for Works<T, W> {
+impl<L: Ledger + History, M: Ledger, T, W: AnyProgram<T>> Promise<Worked<L, M>> for Works<T, W> {
     ghost use Rattle.std.specs.Prelude.{◌≡◌, []};
 
     ghost kept_by = { λ works worked.
-        T.tells works.thread.value works.program.value works.number worked.ended []
+        W.tells works.thread.value works.program.value works.number worked.ended []
         worked.counted.share.own
         × (worked.counted.counts.unreported ≡ worked.ended.left.unreported) };
 }
 
 /// Does a thread's work, tells the gate that the thread has ended, and returns its share.
-fn work<L: Ledger + History, M: Ledger, R: Wait + Copy, T: AnyReady<W>, W: Gated>(
+fn work<L: Ledger + History, M: Ledger, R: Wait + Copy, T, W: AnyProgram<T>>(
     rt: R,
     number: usize,
     profiler: SharedProfiler<L, M>,
@@ -63,13 +62,13 @@ fn work<L: Ledger + History, M: Ledger, R: Wait + Copy, T: AnyReady<W>, W: Gated
     program: &W,
 ) -> Worked<L, M>
     requires { IsNewMember share }
-    ensures tells { T.tells thread program.now number result.ended []
+    ensures tells { W.tells thread program.now number result.ended []
         result.counted.share.own }
     ensures unreported { result.counted.counts.unreported ≡ result.ended.left.unreported }
 {
     let reporter = Counting::new(SharedReporter::new(rt, profiler, share));
-    let (ended, reporter) = thread.run(&rt, number, reporter, program);
-    program.leave(&rt);
+    let (ended, reporter) = program.run(&rt, number, thread, reporter);
+    program.gate().leave(&rt);
     Worked {
         counted: reporter.into_share(ended.left),
         ended,
@@ -83,8 +82,8 @@ fn start<
     L: Ledger + History + Send + 's,
     M: Ledger + Send + 's,
     R: Wait + Copy + Send + 's,
-    T: AnyReady<W> + Drop + Send + 's,
-    W: Gated + Sync,
+    T: Drop + Send + 's,
+    W: AnyProgram<T> + Sync,
 >(
     rt: R,
     scope: &Scope<'s, E>,
@@ -108,7 +107,7 @@ fn start<
         works,
         move || -> Worked<L, M>
             requires { IsNewMember share }
-            ensures tells { T.tells thread program.entry.now number result.ended []
+            ensures tells { W.tells thread program.entry.now number result.ended []
                 result.counted.share.own }
             ensures unreported { result.counted.counts.unreported
                 ≡ result.ended.left.unreported }
@@ -128,8 +127,8 @@ fn start_all<
     L: Ledger + History + Send + 's,
     M: Ledger + Send + 's,
     R: AllocGlobal + Threads + Wait + Copy + Send + 's,
-    T: AnyReady<W> + Drop + Send + 's,
-    W: Gated + Sync,
+    T: Drop + Send + 's,
+    W: AnyProgram<T> + Sync,
 >(
     rt: R,
     scope: &Scope<'s, E>,
@@ -167,28 +166,27 @@ fn run_all<
     L: Ledger + History + Send + 's,
     M: Ledger + Send + 's,
     R: AllocGlobal + Threads + Wait + Clock + Copy + Send + 's,
-    D: AnyLeader<W> + Drop,
-    T: AnyReady<W> + Drop + Send + 's,
-    W: Gated + Sync,
+    T: Drop + Send + 's,
+    W: AnyProgram<T> + Sync,
 >(
     rt: R,
     scope: &Scope<'s, E>,
     profiler: &SharedProfiler<L, M>,
     seat: Seat<L, M>,
     shares: Vec<Share<L, M>>,
-    crew: Crew<D, T>,
+    crew: Crew<T>,
     program: &'s W,
 ) -> io::Result<Joined<L, M>>
     requires { All IsNewMember shares.items }
     ensures threads { IfOk result (λ joined. vec_len joined.counts ≡ vec_len crew.threads) }
     ensures told { IfOk result (λ joined.
-        AreTold T.tells D.tells D.takes crew.threads.items crew.leader program.now joined.failed
+        AreTold W.tells W.leads W.takes crew.threads.items crew.leader program.now joined.failed
         joined.counts.items joined.leader joined.frames joined.shares.items) }
 {
     let Crew { leader, threads } = crew;
     let room = Room::new(&rt, threads.len())?;
     let started = start_all(rt, scope, profiler, shares, threads, program);
-    program.open(&rt, started.is_ok());
+    program.gate().open(&rt, started.is_ok());
     let started = started?;
     let led = lead(rt, seat, leader, program);
     join_all(&rt, started, led, room)
@@ -199,21 +197,20 @@ fn scoped<
     L: Ledger + History + Send + Sync,
     M: Ledger + Send + Sync,
     R: AllocGlobal + Threads + Wait + Clock + Copy + Send + Sync,
-    D: AnyLeader<W> + Drop + Send,
-    T: AnyReady<W> + Drop + Send,
-    W: Gated + Sync,
+    T: Drop + Send,
+    W: AnyProgram<T> + Sync,
 >(
     rt: R,
     profiler: &SharedProfiler<L, M>,
     seat: Seat<L, M>,
     shares: Vec<Share<L, M>>,
-    crew: Crew<D, T>,
+    crew: Crew<T>,
     program: &W,
 ) -> io::Result<Joined<L, M>>
     requires { All IsNewMember shares.items }
     ensures threads { IfOk result (λ joined. vec_len joined.counts ≡ vec_len crew.threads) }
     ensures told { IfOk result (λ joined.
-        AreTold T.tells D.tells D.takes crew.threads.items crew.leader program.now joined.failed
+        AreTold W.tells W.leads W.takes crew.threads.items crew.leader program.now joined.failed
         joined.counts.items joined.leader joined.frames joined.shares.items) }
 {
     thread::scope(
@@ -224,7 +221,7 @@ fn scoped<
             ensures threads { IfOk result (λ joined.
                 vec_len joined.counts ≡ vec_len crew.threads) }
             ensures told { IfOk result (λ joined.
-                AreTold T.tells D.tells D.takes crew.threads.items crew.leader
+                AreTold W.tells W.leads W.takes crew.threads.items crew.leader
                 program.entry.now joined.failed joined.counts.items joined.leader
                 joined.frames joined.shares.items) }
         { run_all(rt, scope, profiler, seat, shares, crew, program) },
@@ -345,14 +342,13 @@ pub(crate) fn run<
     L: Ledger + History + Send + Sync,
     M: Ledger + Send + Sync,
     R: AllocGlobal + Threads + Wait + Clock + Copy + Send + Sync,
-    D: AnyLeader<W> + Drop + Send,
-    T: AnyReady<W> + Drop + Send,
-    W: Gated + Sync,
+    T: Drop + Send,
+    W: AnyProgram<T> + Sync,
 >(
     rt: R,
     scopes: &Scopes,
     settings: &Settings,
-    crew: Crew<D, T>,
+    crew: Crew<T>,
     program: &W,
     parts: usize,
     reported: Blank,
@@ -366,7 +362,7 @@ pub(crate) fn run<
     ensures threads { IfOk result (λ outcome.
         vec_len outcome.threads ≡ vec_len crew.threads) }
     ensures told { IfOk result (λ outcome.
-        HasTold T.tells D.tells D.takes crew.threads.items crew.leader program.now outcome) }
+        HasTold W.tells W.leads W.takes crew.threads.items crew.leader program.now outcome) }
 {
     let opened = Opened::<L, M>::new(&rt, scopes, settings, parts, reported, handed, log)?;
     let Opened {

@@ -3,7 +3,7 @@ ghost use Rattle.std.specs.Prelude.{◌≡◌, ◌≤◌, ◌<◌, ◌^◌};
 ghost use Rattle.puffin.specs.Taking.{CountsTaken, TookAll};
 
 use crate::global_profiler::{Emitted, Share, SharedProfiler};
-use crate::light::gate::Gated;
+use crate::light::gate::Gate;
 use crate::light::program::Frames;
 use history::History;
 use puffin_data::Result;
@@ -57,14 +57,14 @@ fn counted(emitted: &Emitted, frames: u64, missed: u64) -> (u64, u64)
 }
 
 /// Takes frames of a shared profiler, whose only sink is a view, while the threads of a program work.
-pub(crate) struct Taker<'p, L: Ledger + History, M: Ledger, R: Wait, W> {
+pub(crate) struct Taker<'p, L: Ledger + History, M: Ledger, R: Wait> {
     pub(crate) rt: R,
     pub(crate) profiler: SharedProfiler<L, M>,
     pub(crate) taken: Taken<L, M>,
-    pub(crate) program: &'p W,
+    pub(crate) gate: &'p Gate,
 }
 
-impl<L: Ledger + History, M: Ledger, R: Wait + Clock, W: Gated> Frames for Taker<'_, L, M, R, W> {
+impl<L: Ledger + History, M: Ledger, R: Wait + Clock> Frames for Taker<'_, L, M, R> {
     ghost use Rattle.std.specs.Prelude.{◌≡◌, IfOk, IfErr, OnErr};
     ghost use Rattle.puffin.specs.SharedCauses.{IsFrameCause};
     ghost use Rattle.puffin.specs.Shares.{SpellsItsScopes, CountsFrame};
@@ -109,10 +109,10 @@ impl<L: Ledger + History, M: Ledger, R: Wait + Clock, W: Gated> Frames for Taker
     }
 
     fn num_working(&self) -> usize {
-        self.program.num_working(&self.rt)
+        self.gate.num_working(&self.rt)
     }
 
     fn wait(&self, limit: Duration) -> bool {
-        self.program.wait(&self.rt, limit)
+        self.gate.wait(&self.rt, limit)
     }
 }

@@ -16,6 +16,6 @@ loop-thread-preserved g c =
       counted = rw (shares, counts) (counted_more led.counted.counts.reported so_far.shares.items so_far.counts.items w.counted.share w.counted.counts i.counted w.counted.counted);
       handed = rw shares (handed_more so_far.shares.items w.counted.share led.taken.share.counts.handed i.handed w.counted.none_handed);
       each =
-          rw (shares, counts) (joined_more g.T.AnyReady.tells so_far.yielded c.in-Some.thread led.taken.share led.counted.share so_far.failed c.or-failed.result so_far.counts.items so_far.shares.items w.counted.counts w.counted.share w.ended i.each (sym so_far.counts.ok.0 ∙ i.counts)
+          rw (shares, counts) (joined_more g.W.AnyProgram.tells so_far.yielded c.in-Some.thread led.taken.share led.counted.share so_far.failed c.or-failed.result so_far.counts.items so_far.shares.items w.counted.counts w.counted.share w.ended i.each (sym so_far.counts.ok.0 ∙ i.counts)
           (λ none. (failed none).0) (λ none. is_well (λ error. record { number = c.len.result; error = error }) w.ended.result c.failure.result c.failure.ensures.err (failed none).1) kept.1 kept.0);
     }

@@ -6,12 +6,12 @@ use Rattle.puffin.specs.LightThread.{scopes_of}
 use Rattle.puffin.specs.Places.{num_known}
 use Rattle.puffin.specs.Telling.{HasRunAs}
 use Rattle.puffin.proofs.TellingCode.{has_run_as}
-use Rattle.puffin.proofs.light.ready.ReadyAnyReady.run.Goals as goal
+use Rattle.puffin.proofs.light.program.GatedAnyProgramReady.run.Goals as goal
 
 pub returns : goal.returns
 returns g c told keeps =
-    let s = c.start-thread.ensures in let e = c.end-reporter.ensures.reports in let name = string_bytes c.args.self.name in
-    let states = g.W.Program.states c.args.program.now in let is = g.W.Program.runs c.args.program.now c.args.number in
+    let s = c.start-thread.ensures in let e = c.end-reporter.ensures.reports in let name = string_bytes c.args.thread.name in
+    let states = g.W.Program.states c.args.self.now.program.now in let is = g.W.Program.runs c.args.self.now.program.now c.args.number in
     let r = c.work-result.result in let after = told c.end-reporter.result.1 in let waiting = c.end-reporter.result.0.unreported in
     subst (λ (known : ℕ). HasRunAs states is name Short known r (told c.args.reporter) after waiting) (ap num_known s.scopes)
     (subst (λ (before : List Happening). HasRunAs states is name Short (num_known (scopes_of c.start-thread.result)) r before after waiting) (ap told s.reporter)

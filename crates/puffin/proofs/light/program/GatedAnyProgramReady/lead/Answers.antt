@@ -6,12 +6,12 @@ use Rattle.puffin.specs.LightThread.{scopes_of}
 use Rattle.puffin.specs.Places.{num_known}
 use Rattle.puffin.specs.Telling.{HasLedAs}
 use Rattle.puffin.proofs.TellingCode.{has_led_as}
-use Rattle.puffin.proofs.light.ready.ReadyAnyLeader.lead.Goals as goal
+use Rattle.puffin.proofs.light.program.GatedAnyProgramReady.lead.Goals as goal
 
 pub returns-clause-tells : goal.returns-clause-tells
 returns-clause-tells g c told keeps =
-    let s = c.start-thread.ensures in let e = c.end-reporter.ensures.reports in let name = string_bytes c.args.self.name in
-    let states = g.W.Program.states c.args.program.now in let is = g.W.Program.leads c.args.program.now in
+    let s = c.start-thread.ensures in let e = c.end-reporter.ensures.reports in let name = string_bytes c.args.thread.name in
+    let states = g.W.Program.states c.args.self.now.program.now in let is = g.W.Program.leads c.args.self.now.program.now in
     let after = told c.end-reporter.result.1 in let waiting = c.end-reporter.result.0.unreported in
     subst (λ (known : ℕ). HasLedAs states is name Short known (told c.args.reporter) after waiting) (ap num_known s.scopes)
     (subst (λ (before : List Happening). HasLedAs states is name Short (num_known (scopes_of c.start-thread.result)) before after waiting) (ap told s.reporter)
