@@ -82,7 +82,7 @@ enum {
     PUFFIN_MISSING_ID = 10,       /* only of a file: scope details without an id */
     PUFFIN_IDS_EXHAUSTED = 11,    /* all ids are used up */
     PUFFIN_INDEX_EXHAUSTED = 12,  /* the frame's index is the last one */
-    PUFFIN_TOO_DEEP = 14,         /* only of a report or a merge: a scope is nested in 1,024 others */
+    PUFFIN_TOO_DEEP = 14,         /* only of a merge: a scope is nested in 1,024 others */
     PUFFIN_MEMORY = 16,           /* an allocation failed, or a limit that was set is reached */
     PUFFIN_UNLIKE_FORMS = 17,     /* long and short texts under one thread's name and start */
     PUFFIN_NOT_TEXT = 32,         /* a text isn't UTF-8 */

@@ -10,7 +10,7 @@ use Rattle.puffin_c.specs.declared.fault.Fault.{Fault}
 use Rattle.puffin_c.specs.declared.fault.Fault.TheVariants as fault
 use Rattle.puffin_c.specs.Faults.{answer_code}
 
-abbrev Answer : Type 0
+abbrev pub Answer : Type 0
 Answer = Result (Unit {0}) Fault
 
 abbrev error_at : ℕ → Error
@@ -37,23 +37,6 @@ error_at n =
 abbrev answer_at : ℕ → ℕ → Answer
 answer_at r q =
     if r == 0 then Ok tt else
-    if r == 1 then Err (fault.Refused error.PrematureEnd) else
-    if r == 2 then Err (fault.Refused error.InvalidStream) else
-    if r == 3 then Err (fault.Refused error.ScopeNeverEnded) else
-    if r == 4 then Err (fault.Refused error.InvalidOffset) else
-    if r == 5 then Err (fault.Refused error.Empty) else
-    if r == 6 then Err (fault.Refused error.TooLarge) else
-    if r == 7 then Err (fault.Refused error.RangeTooLong) else
-    if r == 8 then Err (fault.Refused error.MismatchedEnd) else
-    if r == 9 then Err (fault.Refused error.ScopesOpen) else
-    if r == 10 then Err (fault.Refused error.MissingId) else
-    if r == 11 then Err (fault.Refused error.IdsExhausted) else
-    if r == 12 then Err (fault.Refused error.IndexExhausted) else
-    if r == 13 then Err (fault.Refused error.SinkIdsExhausted) else
-    if r == 14 then Err (fault.Refused error.TooDeep) else
-    if r == 15 then Err (fault.Refused error.NoThread) else
-    if r == 16 then Err (fault.Refused error.Memory) else
-    if r == 17 then Err (fault.Refused error.UnlikeForms) else
     if r == 32 then Err fault.NotText else
     if r == 33 then Err fault.NoId else
     if r == 34 then Err fault.NotOpen else
@@ -63,15 +46,16 @@ answer_at r q =
     if r == 67 then Err (fault.File file.Truncated) else
     if r == 68 then Err (fault.File file.Legacy) else
     if r == 69 then Err (fault.File file.Newer) else
+    if r == 70 then Err (fault.File (file.UnknownKind q)) else
+    if r == 71 then Err (fault.File (file.Compressed q)) else
     if r == 72 then Err (fault.File file.BadMeta) else
     if r == 73 then Err (fault.File file.BadStreams) else
     if r == 74 then Err (fault.File file.BadScopes) else
     if r == 75 then Err (fault.File file.BadRange) else
     if r == 76 then Err (fault.File file.PartTooLong) else
+    if r == 77 then Err (fault.File (file.Refused (error_at q))) else
     if r == 78 then Err (fault.File file.Memory) else
-    if r == 70 then Err (fault.File (file.UnknownKind q)) else
-    if r == 71 then Err (fault.File (file.Compressed q)) else
-    Err (fault.File (file.Refused (error_at q)))
+    Err (fault.Refused (error_at r))
 
 abbrev answer_of : ℕ → Answer
 answer_of n = answer_at (n % 256) (n / 256)
@@ -82,70 +66,28 @@ high a q low =
     let times : (a + 256 * q) / 256 ≡ q = omega (arith, low) in
     ap (λ (r : ℕ). answer_at r ((a + 256 * q) / 256)) rest ∙ ap (answer_at a) times
 
-refused : (e : Error) → answer_of (64 + (13 + 256 * error_number e)) ≡ Err (fault.File (file.Refused e))
-refused error.PrematureEnd = refl
-refused error.InvalidStream = refl
-refused error.ScopeNeverEnded = refl
-refused error.InvalidOffset = refl
-refused error.Empty = refl
-refused error.TooLarge = refl
-refused error.RangeTooLong = refl
-refused error.MismatchedEnd = refl
-refused error.ScopesOpen = refl
-refused error.MissingId = refl
-refused error.IdsExhausted = refl
-refused error.IndexExhausted = refl
-refused error.SinkIdsExhausted = refl
-refused error.TooDeep = refl
-refused error.NoThread = refl
-refused error.Memory = refl
-refused error.UnlikeForms = refl
+again : (e : Error) → error_at (error_number e) ≡ e
+again e = grind arith
 
 of_file : (f : FileError) → answer_of (answer_code (Err (fault.File f))) ≡ Err (fault.File f)
-of_file file.Io = refl
-of_file file.NoMagic = refl
-of_file file.Truncated = refl
-of_file file.Legacy = refl
-of_file file.Newer = refl
-of_file file.BadMeta = refl
-of_file file.BadStreams = refl
-of_file file.BadScopes = refl
-of_file file.BadRange = refl
-of_file file.PartTooLong = refl
-of_file file.Memory = refl
 of_file (file.UnknownKind k) =
     let same : 64 + (6 + 256 * k) ≡ 70 + 256 * k = omega arith in ap answer_of same ∙ high 70 k (omega arith)
 of_file (file.Compressed k) =
     let same : 64 + (7 + 256 * k) ≡ 71 + 256 * k = omega arith in ap answer_of same ∙ high 71 k (omega arith)
-of_file (file.Refused e) = refused e
+of_file (file.Refused e) =
+    let n = error_number e in
+    let same : 64 + (13 + 256 * n) ≡ 77 + 256 * n = omega arith in
+    ap answer_of same ∙ high 77 n (omega arith) ∙ ap (λ (x : Error). Err (fault.File (file.Refused x))) (again e)
+of_file other = grind arith
 
 of_error : (e : Error) → answer_of (answer_code (Err (fault.Refused e))) ≡ Err (fault.Refused e)
-of_error error.PrematureEnd = refl
-of_error error.InvalidStream = refl
-of_error error.ScopeNeverEnded = refl
-of_error error.InvalidOffset = refl
-of_error error.Empty = refl
-of_error error.TooLarge = refl
-of_error error.RangeTooLong = refl
-of_error error.MismatchedEnd = refl
-of_error error.ScopesOpen = refl
-of_error error.MissingId = refl
-of_error error.IdsExhausted = refl
-of_error error.IndexExhausted = refl
-of_error error.SinkIdsExhausted = refl
-of_error error.TooDeep = refl
-of_error error.NoThread = refl
-of_error error.Memory = refl
-of_error error.UnlikeForms = refl
+of_error e = grind arith
 
 read_back : (answer : Answer) → answer_of (answer_code answer) ≡ answer
 read_back (Ok tt) = refl
 read_back (Err (fault.Refused e)) = of_error e
 read_back (Err (fault.File f)) = of_file f
-read_back (Err fault.NotText) = refl
-read_back (Err fault.NoId) = refl
-read_back (Err fault.NotOpen) = refl
-read_back (Err fault.IsOpen) = refl
+read_back other = grind arith
 
 pub distinct : (one other : Answer) → answer_code one ≡ answer_code other → one ≡ other
 distinct one other same = sym (read_back one) ∙ ap answer_of same ∙ read_back other

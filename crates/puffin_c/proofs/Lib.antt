@@ -1,3 +1,4 @@
+pub mod Causes
 pub mod Codes
 pub mod Frames
 pub mod GivenFrames

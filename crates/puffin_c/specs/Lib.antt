@@ -1,5 +1,4 @@
 pub mod Counting
-pub mod FaultNames
 pub mod Faults
 pub mod Handles
 pub mod Lists

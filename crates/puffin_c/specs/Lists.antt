@@ -1,4 +1,5 @@
 -- Lists that a program gets: rows, and the bytes of their texts, one behind the other.
+pub use Rattle.puffin_report.specs.Summary.{streams_in_fields}
 use Rattle.std.specs.Prelude.{◌≡◌, ◌≢◌, ◌⊎◌, ℕ, ◌+◌, ◌<◌, ◌≤◌, ℤ, pos, Bool, true, false, List, [], ◌∷◌, ◌++◌, length, drop, Option, Some, None, Result, Ok, Err, is_some}
 use Rattle.std.specs.List.{flat_map}
 use Rattle.std.specs.Borrow.{MutBor}
@@ -18,9 +19,7 @@ use Rattle.puffin_data.specs.Walk.PlacedScopes.{ScopeInContext, nested_in}
 use Rattle.puffin_threads.specs.Thread.ThreadKey.{ThreadKey}
 use Rattle.puffin_frames.specs.declared.frame_data.frame.FrameData.{FrameData}
 use Rattle.puffin_frames.specs.Frame.Contents.{packet_fields, frame_meta}
-use Rattle.puffin_frames.specs.Frame.Holding.{unpacking}
 use Rattle.puffin_frames.specs.Frame.Streams.{Streams}
-use Rattle.puffin_frames.specs.Packet.Stored.{PacketFields}
 use Rattle.puffin_view.specs.View.File.{file_at, FailsToRead}
 use Rattle.puffin_view.specs.View.FrameFile.{GivesNext, HasGiven, frame_at}
 use Rattle.puffin_c.specs.declared.fault.Fault.{Fault}
@@ -114,10 +113,6 @@ stream_rows at (e ∷ rest) = stream_row at e ∷ stream_rows (at + length (stre
 
 abbrev pub streams_bytes : List (ThreadKey × StreamFacts) → List ℕ
 streams_bytes entries = flat_map stream_bytes entries
-
--- the streams of a frame with these fields, or why they can't be unpacked
-abbrev pub streams_in_fields : PacketFields → Result Streams FileError
-streams_in_fields c = unpacking (record { form = c.form; kind = c.kind; bytes = c.streams })
 
 -- the bytes from an offset of a file on; from its beginning, those after its four letters
 abbrev pub IsFrom : List ℕ → ℕ → List ℕ → Type 0

@@ -2,8 +2,7 @@
 
 ghost use Rattle.std.specs.Prelude.{◌≡◌, ℕ, ◌&&◌, nat_lt, List, [], IfSome, IfNone, length};
 ghost use Rattle.puffin_c.specs.declared.fault.Fault.{Fault};
-ghost use Rattle.puffin_c.specs.Faults.{code_of};
-ghost use Rattle.puffin_c.specs.FaultNames.{fault_name, IsNameOf};
+ghost use Rattle.puffin_c.specs.Faults.{code_of, fault_name, IsNameOf};
 ghost use Rattle.puffin_c.specs.Reporting.{laid_over};
 
 use crate::fault::Fault::{self, File};

@@ -47,6 +47,7 @@ fn checked(
 /// Fails with the first fault in the file, or with `Memory`. `frames` is then the number of frames that were read before the
 /// fault, or before memory ran out. The fault is in the next frame, which begins at `offset`; it is at the file's beginning if
 /// `offset` is 0. It is in the bytes before `read`, in the last part of the frame that was read, whatever follows them.
+#[tactic(auto, using(crate::proofs::Causes::check_named))]
 #[unsafe(no_mangle)]
 pub extern "C" fn puffin_check_file(
     alloc: Global,

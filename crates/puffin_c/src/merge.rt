@@ -58,6 +58,7 @@ fn file_merged(
 ///
 /// Fails with `NotText` if the name isn't UTF-8, whatever the file contains. Otherwise fails with the first fault in the file, which
 /// is that of its merge if every frame is sound; or with `Memory`. Nothing changes then.
+#[tactic(auto, using(crate::proofs::Causes::file_merge_named))]
 #[unsafe(no_mangle)]
 pub extern "C" fn puffin_merge_file(
     alloc: Global,
@@ -162,6 +163,7 @@ fn view_merged(
 /// scope nested in 1,024 others, or `TooLarge` if a start, a number of pieces, a total duration or the end of a merged scope doesn't
 /// fit. Can also fail with `Memory`, but not in place of `NotOpen` or `NotText`. Nothing changes in either case. The contract also
 /// allows for faults of the frames' own bytes, which no frame that a profiler made has.
+#[tactic(auto, using(crate::proofs::Causes::view_merge_named))]
 #[unsafe(no_mangle)]
 pub extern "C" fn puffin_merge_view(
     alloc: Global,

@@ -126,6 +126,7 @@ fn listed(
 /// Fails with the first fault in the bytes, or with `Memory`. Nothing changes then.
 ///
 /// [`puffin_count`]: crate::stream::puffin_count
+#[tactic(auto, using(crate::proofs::Causes::scopes_named))]
 #[unsafe(no_mangle)]
 pub extern "C" fn puffin_scopes(
     alloc: Global,

@@ -32,6 +32,7 @@ fn counted(alloc: Global, bytes: &[u8], form: Form, count: &mut PuffinCount) -> 
 /// set.
 ///
 /// Fails with the first fault in the bytes, or with `Memory`. Nothing changes then.
+#[tactic(auto, using(crate::proofs::Causes::count_named))]
 #[unsafe(no_mangle)]
 pub extern "C" fn puffin_count(
     alloc: Global,

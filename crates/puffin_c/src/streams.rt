@@ -214,6 +214,7 @@ fn listed(
 ///
 /// Fails with `InvalidOffset` if `offset` is greater than the file's length; with the frame's fault; with `Compressed` or
 /// `BadStreams` if its streams can't be unpacked; or with `Memory`. Nothing changes then.
+#[tactic(auto, using(crate::proofs::Causes::streams_named))]
 #[unsafe(no_mangle)]
 pub extern "C" fn puffin_frame_streams(
     alloc: Global,

@@ -232,6 +232,7 @@ fn listed(alloc: Global, file: &[u8], list: &mut PuffinFileThreadList<'_>) -> Re
 ///
 /// Fails with the first fault in the file; with `Compressed` or `BadStreams` if the streams of a frame can't be unpacked; or with
 /// `Memory`. Nothing changes then.
+#[tactic(auto, using(crate::proofs::Causes::threads_named))]
 #[unsafe(no_mangle)]
 pub extern "C" fn puffin_file_threads(
     alloc: Global,

@@ -68,6 +68,7 @@ fn taken(
 ///
 /// [`puffin_count`]: crate::stream::puffin_count
 /// [`puffin_report`]: crate::profiling::puffin_report
+#[tactic(auto, using(crate::proofs::Causes::own_named))]
 #[unsafe(no_mangle)]
 pub extern "C" fn puffin_user_scopes(
     alloc: Global,
