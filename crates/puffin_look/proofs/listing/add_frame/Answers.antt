@@ -17,14 +17,24 @@ told cause = inr refl
 pub returns-clause-ok : goal.returns-clause-ok
 returns-clause-ok g c =
     let added = c.in_ok-add.ensures.ok in
-    let same = ap open_of c.deref.ensures in
+    let frame = open_of (arc_value c.in_ok-unpacked.unpacked) in
+    let same = ap open_of c.deref-2.ensures in
     record {
-      frame = open_of (arc_value c.in_ok-unpacked.unpacked);
+      frame = frame;
       opens = c.in_ok-unpacked.ensures.ok;
       more = added.0;
       pending = added.1;
-      taken = subst (λ (f : OpenFrame). g.L.Listing.takes c.args.listing.now (f ∷ []) added.0 c.add.new.self) same added.2;
+      taken = subst (λ (fs : List OpenFrame). g.L.Listing.takes c.args.listing.now fs added.0 c.add.new.self) (ap (λ (f : OpenFrame). f ∷ []) same ∙ one_left_in c.args.indices frame (there c)) added.2;
     }
+
+pub returns-then-clause-ok : goal.returns-then-clause-ok
+returns-then-clause-ok g c = record {
+  frame = open_of (arc_value c.in_ok-unpacked.unpacked);
+  opens = c.in_ok-unpacked.ensures.ok;
+  more = [];
+  pending = sym (append-nil (g.L.Listing.text c.args.listing.now));
+  taken = subst (λ (fs : List OpenFrame). g.L.Listing.takes c.args.listing.now fs [] c.args.listing.now) (none_left_in c.args.indices (open_of (arc_value c.in_ok-unpacked.unpacked)) (other c)) (g.met.L.Listing.takes_none c.args.listing.now);
+}
 
 pub returns-in_err-add-clause-err : goal.returns-in_err-add-clause-err
 returns-in_err-add-clause-err g c =
@@ -35,6 +45,6 @@ returns-in_err-add-clause-err g c =
       | inl memory ↦ inl (ap file_error_of memory)
       | inr refused ↦ elim (told cause) [
         | inl memory ↦ inl memory
-        | inr is ↦ inr (inr (open_of (arc_value c.in_ok-unpacked.unpacked), cause, c.in_ok-unpacked.ensures.ok, is, subst (λ (f : OpenFrame). g.L.Listing.refuses c.args.listing.now f cause) same refused))
+        | inr is ↦ inr (inr (open_of (arc_value c.in_ok-unpacked.unpacked), cause, c.in_ok-unpacked.ensures.ok, is, there, subst (λ (f : OpenFrame). g.L.Listing.refuses c.args.listing.now f cause) same refused))
       ]
     ])
