@@ -91,7 +91,7 @@ module _ (old new : Threads) (unread left before mid : Option (List ℕ)) where
         | inr (inr added) ↦ elim (added.3) [
           | inl memory ↦ absurd (not_memory memory)
           | inr (inl packed) ↦ (read_of (sym packed.1) (subst (Appends before mid) quiet added.0), inr (inl (inr (added.1, added.2, subst (λ (r : Result OpenFrame FileError). IsRefused RefusesNone h.listed.frames r e) (sym packed.0) refl))))
-          | inr (inr bad) ↦ absurd bad.4
+          | inr (inr bad) ↦ absurd bad.5
         ]
       ]
 

@@ -153,5 +153,5 @@ frame_shown old v new frame all left text known range found wanted none h same =
       },
     )
 
-pub frame_unread : (old v : Trees) (frame : OpenFrame) (entries : List Entry) (fault : Error) → v.wanted ≡ old.wanted → all_streams frame ≡ entries → AreUnread (wanted_in v entries) fault → AreUnread (wanted_streams old.wanted.now frame) fault
-frame_unread old v frame entries fault wanted same u = subst (λ (es : List Entry). AreUnread es fault) (λ i. filter (λ d. is_wanted (wanted i).now d.0) (sym same i)) u
+pub frame_unread : (old : Trees) (frame : OpenFrame) (entries : List Entry) (fault : Error) → all_streams frame ≡ entries → AreUnread (wanted_in old entries) fault → AreUnread (wanted_streams old.wanted.now frame) fault
+frame_unread old frame entries fault same u = subst (λ (es : List Entry). AreUnread (wanted_in old es) fault) (sym same) u

@@ -119,8 +119,8 @@ pub fn print_frames<S: Source, D: Drain>(
         IsPrinted (AreFrameLines indices) (S.remaining source.old) (S.remaining source.new)
         (D.contents drain.old) (D.contents drain.new)) }
     ensures err { IfErr result (λ e.
-        IsStopped (AreFrameLines indices) RefusesNone (S.remaining source.old) (S.remaining source.new)
-        (D.contents drain.old) (D.contents drain.new) e) }
+        IsStopped (AreFrameLines indices) RefusesNone (S.remaining source.old)
+        (S.remaining source.new) (D.contents drain.old) (D.contents drain.new) e) }
     // `Io` means that the reader or the writer failed in this call, or that the writer took no bytes.
     ensures io { (result ≡ Err FileError.Io) → (S.failures source.new ≡ S.failures source.old + 1)
         ⊎ ((D.failures drain.new ≡ D.failures drain.old + 1) ⊎ TookNothing D.takes drain.new) }

@@ -1,8 +1,8 @@
 //! The program's arguments.
 
-ghost use Rattle.std.specs.Prelude.{◌≡◌, ◌^◌, option_map, map};
+ghost use Rattle.std.specs.Prelude.{◌≡◌, ◌^◌, ◌<◌, length, Some, option_map, map, IfSome};
 ghost use Rattle.std.specs.String.{string_bytes};
-ghost use Rattle.puffin_look.specs.Arguments.{number_in, list_in, frame_in, detailed_in, request_in, wish_of, request_of, range_in, frames_in, order_in};
+ghost use Rattle.puffin_look.specs.Arguments.{number_in, list_in, frame_in, detailed_in, request_in, wish_of, request_of, behind_dot, from_to, range_in, frames_in, order_in};
 
 use crate::top::By;
 use crate::wanted::Indices;
@@ -37,12 +37,17 @@ fn number(word: &str) -> Option<u64>
     word.parse::<u64>().ok()
 }
 
-/// Parses `A..B`: the indices from `A` on and below `B`. There has to be one.
-pub fn range(word: &str) -> Option<Indices>
-    ensures { result ≡ range_in word.now }
+/// Returns what is behind a point.
+fn behind_dot(word: &str) -> Option<&str>
+    ensures { option_map (λ t. t.now) result ≡ behind_dot word.now }
 {
-    let (first, rest) = word.split_once('.')?;
-    let (first, end) = (number(first)?, number(rest.strip_prefix('.')?)?);
+    word.strip_prefix('.')
+}
+
+/// Returns the indices from the first on and below the end, if there is one.
+fn from_to(first: u64, end: u64) -> Option<Indices>
+    ensures { result ≡ from_to (Some first) (Some end) }
+{
     if first < end {
         Some(Indices {
             first,
@@ -51,6 +56,14 @@ pub fn range(word: &str) -> Option<Indices>
     } else {
         None
     }
+}
+
+/// Parses `A..B`: the indices from `A` on and below `B`. There has to be one.
+pub fn range(word: &str) -> Option<Indices>
+    ensures { result ≡ range_in word.now }
+{
+    let (first, rest) = word.split_once('.')?;
+    from_to(number(first)?, number(behind_dot(rest)?)?)
 }
 
 /// Parses what follows the path behind `frames`: how many of the slowest frames are listed, or which ones.
@@ -147,10 +160,15 @@ impl Options {
     }
 }
 
-/// Returns the place of the first such word behind the path.
-fn place_of(words: &[String], name: &str) -> Option<usize> {
-    let place = words.iter().skip(2).position(|word| word.as_str() == name)?;
-    Some(place + 2)
+/// Returns the place of the first such word, if that is behind the path.
+fn place_of(words: &[String], name: &str) -> Option<usize>
+    ensures { IfSome result (λ place. place < length words.now) }
+{
+    let place = words.iter().position(|word| word.as_str() == name)?;
+    if place < 2 {
+        return None;
+    }
+    Some(place)
 }
 
 /// Removes the first such word. Returns whether there was one.
@@ -191,7 +209,11 @@ pub fn take_options(words: &mut Vec<String>) -> Option<Options> {
         None => None,
     };
     let texts = take_flag(words, "--texts");
-    if words.iter().skip(2).any(|word| word.as_str().starts_with("--")) {
+    if words
+        .iter()
+        .skip(2)
+        .any(|word| word.as_str().starts_with("--"))
+    {
         return None;
     }
     Some(Options {

@@ -48,11 +48,7 @@ pub(crate) enum Naming {
 }
 
 /// Appends so many bytes of a thread's name, or all if it has fewer, and a `*`.
-fn push_beginning(
-    text: &mut Vec<u8>,
-    count: usize,
-    thread: &ThreadInfo,
-) -> Result<(), AllocError>
+fn push_beginning(text: &mut Vec<u8>, count: usize, thread: &ThreadInfo) -> Result<(), AllocError>
     ensures { OnOk result (
         text.new.items ≡ text.old.items ++ (take count (key_of thread.now).name ++ codes "*")) }
 {

@@ -1,7 +1,7 @@
 //! Which frames of a file are shown, and which of their threads.
 
 ghost use Rattle.std.specs.Prelude.{◌≡◌};
-ghost use Rattle.puffin_threads.specs.Thread.ThreadKey.{key_of};
+ghost use Rattle.puffin_threads.specs.Thread.ThreadKey.{key_of, has_same_key};
 ghost use Rattle.puffin_look.specs.Wanted.{is_within, is_one_of, is_wanted};
 
 use puffin_data::FrameIndex;
@@ -48,12 +48,18 @@ impl Wanted {
     }
 }
 
+/// Returns whether two are the same thread.
+fn is_same(one: &ThreadInfo, other: &ThreadInfo) -> bool
+    ensures { result ≡ has_same_key (key_of one.now) (key_of other.now) }
+{
+    one == other
+}
+
 /// Returns whether a thread is one of these.
-#[tactic(auto, using(puffin_threads::proofs::lemmas::ThreadKeys::same_parts))]
 fn is_one_of(threads: &[ThreadInfo], thread: &ThreadInfo) -> bool
     ensures { result ≡ is_one_of threads.now (key_of thread.now) }
 {
-    threads.iter().any(|it| it == thread)
+    threads.iter().any(|it| is_same(it, thread))
 }
 
 /// Returns whether an index is one of these, or of all.

@@ -272,7 +272,9 @@ fn draw<'w>(
         View::Top(_) => {
             rank(rt, &overview, &mut source, &mut out, &wanted, options).map(|()| true)
         }
-        _ => print_trace(rt.alloc(), &overview, &mut source, &mut out, wanted.frames).map(|()| true),
+        _ => print_trace(rt.alloc(), &overview, &mut source, &mut out, wanted.frames).map(
+            |()| true,
+        ),
     };
     match printed {
         Ok(is_found) => found(path, view, is_found),
@@ -292,7 +294,10 @@ fn rank(
     requires { failed_reads source.old < 2 ^ 64 - 1 }
 {
     let mut top = read_top(rt.alloc(), overview, source, wanted, options.texts)?;
-    top.sort_by(options.order.unwrap_or(By::Own), options.limit.unwrap_or(usize::MAX))?;
+    top.sort_by(
+        options.order.unwrap_or(By::Own),
+        options.limit.unwrap_or(usize::MAX),
+    )?;
     print_top(rt.alloc(), out, &top)
 }
 

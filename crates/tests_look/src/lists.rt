@@ -308,7 +308,12 @@ fn frames_are_chosen_by_their_indices(rt: HostRuntime) {
     let mut out = Counted::new(Vec::new(rt.alloc()));
     let second = Some(Indices::only(1));
     let answer = print_frames(rt.alloc(), &mut Counted::new(&FILE[..]), &mut out, second);
-    prints(&rt, &(answer, out.into_inner()), Ok(()), &FRAMES[SECOND_LINE..]);
+    prints(
+        &rt,
+        &(answer, out.into_inner()),
+        Ok(()),
+        &FRAMES[SECOND_LINE..],
+    );
 }
 
 #[test]
@@ -330,7 +335,11 @@ fn words_name_what_is_shown(rt: HostRuntime) -> Result<(), Fail> {
         String::from_str(alloc, "frames")?,
         String::from_str(alloc, "a.puffin")?,
     ];
-    equal(&rt, read_words(&words), Some((View::Frames(None), "a.puffin")));
+    equal(
+        &rt,
+        read_words(&words),
+        Some((View::Frames(None), "a.puffin")),
+    );
     equal(&rt, read_words(&words[..1]), None);
     let words = [
         String::from_str(alloc, "frame")?,

@@ -32,7 +32,7 @@ returns-in_err-add_stream-clause-err c =
     let fault_of = subst (λ (r : StreamFacts). IsFault r.form r.bytes c.in_err-add_stream.field-0.0) (ap facts_of c.deref.ensures) in
     rw (p.1, p.2) (elim (c.in_err-add_stream.ensures.err) [
       | inl memory ↦ inl memory
-      | inr fault ↦ inr (frame_unread c.args.self.now _ (open_of c.args.frame.now) _ _ refl (entries_held c.args.frame.now.thread_streams.entries sorted) (showing_unread _ _ _ _ _ _ _ left c.streams.invariant fault.0 (fault_of fault.1)))
+      | inr fault ↦ inr (frame_unread c.args.self.now (open_of c.args.frame.now) _ _ (entries_held c.args.frame.now.thread_streams.entries sorted) (showing_unread _ _ _ _ _ _ _ left c.streams.invariant fault.0 (fault_of fault.1)))
     ])
 
 pub returns-clause-ok : goal.returns-clause-ok
