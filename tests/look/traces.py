@@ -47,9 +47,9 @@ def frames_of(events):
     return frames
 
 
-def trace_of(program, data):
+def trace_of(program, data, *words):
     """The events that the program writes for these bytes of a file. Their times are no less than 0."""
-    trace = json.loads(printed(program, data, "trace"), parse_float=decimal.Decimal)
+    trace = json.loads(printed(program, data, "trace", *words), parse_float=decimal.Decimal)
     events = trace.pop("traceEvents")
     if trace != {"displayTimeUnit": "ns"} or any(it.get("ts", 0) < 0 for it in events):
         raise ValueError(f"a trace with {trace}, or with a time below 0")
@@ -58,8 +58,13 @@ def trace_of(program, data):
 
 def faults_in_forests(program, source):
     """What differs between a trace and another reading."""
-    wanted = [(frame.index, {it.name: it.scopes for it in frame.threads}) for frame in source.frames]
-    found = frames_of(trace_of(program, source.data))
+    return faults_in_events(source.frames, trace_of(program, source.data))
+
+
+def faults_in_events(frames, events):
+    """What differs between events and these frames."""
+    wanted = [(frame.index, {it.name: it.scopes for it in frame.threads}) for frame in frames]
+    found = frames_of(events)
     return [] if found == wanted else [f"{found} instead of {wanted}"]
 
 

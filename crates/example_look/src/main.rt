@@ -10,7 +10,7 @@ use puffin::light::{Place, Scopes};
 use puffin::place;
 use puffin::profile_view::{FrameReader, FrameView};
 use puffin::thread_profiler::{ScriptClock, ThreadProfiler};
-use puffin_look::{print_frame, read_overview};
+use puffin_look::{Indices, Wanted, print_frame, read_overview};
 
 /// The start of each frame and of the scope in it, and the stops of both.
 const TIMES: [[i64; 4]; 3] = [
@@ -107,13 +107,16 @@ fn main(rt: HostRuntime) -> Result<()> {
     let index = slowest(&view).context("a frame")?;
     let mut out = Counted::new(rt.stdout());
     let overview = read_overview(alloc, &mut Buffered::new(bytes))?;
+    let wanted = Wanted {
+        frames: Some(Indices::only(index)),
+        threads: None,
+    };
     print_frame(
         alloc,
         &overview,
         &mut Buffered::new(bytes),
         &mut out,
-        index,
-        None,
+        &wanted,
     )?;
     walk(&rt, bytes)
 }

@@ -1,12 +1,14 @@
 -- Numbers that are read.
-use Rattle.std.proofs.Common.{◌≡◌, ◌≢◌, ◌==◌, ℕ, ◌<◌, ◌≤◌, List, [], ◌∷◌, get_or, Bool, true, false, Some, None, Result, Ok, Err, refl, arith, if◌then◌else◌}
+use Rattle.std.proofs.Common.{◌≡◌, ◌≢◌, ◌==◌, ℕ, ◌<◌, ◌≤◌, List, [], ◌∷◌, get_or, Bool, true, false, Option, Some, None, Result, Ok, Err, refl, ap, sym, arith, if◌then◌else◌}
+use Rattle.std.specs.Prelude.{MatchOption, option_map}
+use denote.Ref.{Bor}
 use Rattle.std.specs.Option.{option_and_then}
 use Rattle.std.specs.Result.{result_ok}
 use Rattle.std.specs.Str.{all_ascii_digits}
 use Rattle.std.specs.Str.Parse.{ParsesUnsigned, digits_value}
 use Rattle.std.proofs.lemmas.Str.Parse.{IsNumeralModel, numerals_by_value, tells_all_ascii_digits, parse_plain}
 use Rattle.std.proofs.lemmas.Bool.Decides.{nat_tests}
-use Rattle.puffin_look.specs.Arguments.{if_below, number_in}
+use Rattle.puffin_look.specs.Arguments.{if_below, number_in, behind_dot}
 
 own : IsNumeralModel (λ ds. all_ascii_digits ds ≡ true) (digits_value 10)
 own = numerals_by_value _ tells_all_ascii_digits
@@ -28,3 +30,17 @@ number_read {E} (b ∷ bs) (Err e) h plain = number_refused (all_ascii_digits (b
 
 pub is_not_plus : (byte : ℕ) → false ≡ (byte == 43) → byte ≢ 43
 is_not_plus byte h = grind (arith, nat_tests)
+
+-- ---- behind a point
+
+dot_or_not : (b : ℕ) (bs : List ℕ) (is : Bool) → (b == 46) ≡ is → ((rest : List ℕ) → b ∷ bs ≢ 46 ∷ rest) → None ≡ (if is then Some bs else None)
+dot_or_not b bs true is h = let same : b ≡ 46 = grind (arith, nat_tests, is) in absurd (h bs (ap (λ (n : ℕ). n ∷ bs) same))
+dot_or_not b bs false is h = refl
+
+no_dot : (bs : List ℕ) → ((rest : List ℕ) → bs ≢ 46 ∷ rest) → None ≡ behind_dot bs
+no_dot [] h = refl
+no_dot (b ∷ bs) h = dot_or_not b bs (b == 46) refl h
+
+pub is_behind_dot : (bs : List ℕ) (r : Option (Bor (List ℕ))) → MatchOption r ((rest : List ℕ) → bs ≢ 46 ∷ rest) (λ x. bs ≡ 46 ∷ x.now) → option_map (λ t. t.now) r ≡ behind_dot bs
+is_behind_dot bs None h = no_dot bs h
+is_behind_dot bs (Some x) h = sym (ap behind_dot h)

@@ -1,5 +1,5 @@
 -- What is printed of the slowest frames.
-use Rattle.std.proofs.Common.{◌≡◌, ℕ, zero, suc, List, [], ◌∷◌, take, Option, inl, refl, ap, subst, ◌∙◌}
+use Rattle.std.proofs.Common.{◌≡◌, ℕ, zero, suc, List, [], ◌∷◌, take, Option, None, inl, refl, ap, subst, ◌∙◌}
 use Rattle.std.specs.Prelude.{fold}
 use Rattle.std.specs.List.{flat_map}
 use Rattle.std.specs.Io.KnownBytes.{Appends}
@@ -29,10 +29,10 @@ none_kept (suc n) [] e = refl
 none_kept n (x ∷ rows) e = absurd (cc)
 
 module _ (old new : Slowest) (unread left before mid : Option (List ℕ)) where
-  pub slowest_stopped : (e : FileError) → StopsListing none TakesRows refused old new unread left before mid e → IsStopped IsNoText RefusesNone unread left before mid e
-  slowest_stopped e h = stopped none TakesRows refused IsNoText RefusesNone old new unread left before mid e (λ frames more v taken. taken.none) (λ frames more v frame cause taken refused. refused) h
+  pub slowest_stopped : (e : FileError) → StopsListing none TakesRows refused None old new unread left before mid e → IsStopped IsNoText RefusesNone unread left before mid e
+  slowest_stopped e h = stopped none TakesRows None refused IsNoText RefusesNone old new unread left before mid e (λ frames more v taken. taken.none) (λ frames more v frame cause taken there refused. refused) h
 
-  module _ (h : ListsAll none TakesRows old new unread left before mid) where
+  module _ (h : ListsAll none TakesRows None old new unread left before mid) where
     quiet : Appends before mid []
     quiet = subst (Appends before mid) h.listed.taken.none h.written
 

@@ -1,6 +1,6 @@
 -- The stacks of frames, thread after thread, and what is printed of them.
 use Rattle.std.proofs.Common.{◌≡◌, ℕ, Bool, true, false, List, [], ◌∷◌, ◌++◌, Option, inl, inr, refl, ap, subst, sym, ◌∙◌, append_assoc, append-nil}
-use Rattle.std.specs.Prelude.{filter, fold, if◌then◌else◌, option_map}
+use Rattle.std.specs.Prelude.{filter, fold, if◌then◌else◌}
 use Rattle.std.specs.List.{flat_map}
 use Rattle.std.specs.Io.KnownBytes.{Appends}
 use Rattle.std.proofs.KnownBytes.{Appends-trans}
@@ -12,15 +12,16 @@ use Rattle.puffin_data.specs.declared.file_error.FileError.{FileError}
 use Rattle.puffin_data.specs.Device.{IsOutside, WritesBeginning}
 use Rattle.puffin_data.specs.Walk.{IsFault}
 use Rattle.puffin_threads.specs.Details.Collection.{Collection}
-use Rattle.puffin_threads.specs.Thread.ThreadKey.{ThreadKey, key_of}
 use Rattle.puffin_look.specs.OpenFrame.{OpenFrame}
 use Rattle.puffin_look.specs.Printed.{IsPrinted, IsStopped, IsCutOff}
-use Rattle.puffin_look.specs.Trees.{Entry, Tree, TreeFrame, AreSpelled, AreUnread, RefusesUnread, all_streams}
-use Rattle.puffin_look.specs.FrameTree.{is_wanted, wanted_streams, has_trees, found_in}
+use Rattle.puffin_look.specs.Trees.{Entry, Tree, TreeFrame, AreSpelled, AreUnread, all_streams}
+use Rattle.puffin_look.specs.Wanted.{is_wanted, wanted_streams, RefusesTaken}
+use Rattle.puffin_look.specs.declared.wanted.Wanted.{Wanted}
+use Rattle.puffin_look.specs.FrameTree.{has_trees, found_in}
 use Rattle.puffin_look.specs.Slowest.{IsNoText}
 use Rattle.puffin_look.specs.Folded.{Part, forest_parts, parts, IsFolded, IsAnyFolded}
 use Rattle.puffin_look.specs.inner.Stacks.{rows_of, row_text, with_part, HasMoreParts, parts_more}
-use Rattle.puffin_look.specs.inner.Foldings.{wanted_of, StepsStack, TakesStacks, RefusesFrame}
+use Rattle.puffin_look.specs.inner.Foldings.{StepsStack, TakesStacks, RefusesFrame}
 use Rattle.puffin_look.specs.inner.Listings.{ListsAll, StopsListing}
 use Rattle.puffin_look.specs.declared.folded.Folding.{Folding}
 use Rattle.puffin_look.proofs.Listed.{stopped}
@@ -30,13 +31,13 @@ use Rattle.puffin_look.proofs.Traced.{spelled_more}
 -- ---- a frame
 
 abbrev wanted_in : Folding → List Entry → List Entry
-wanted_in v entries = filter (λ e. is_wanted (wanted_of v) e.0) entries
+wanted_in v entries = filter (λ e. is_wanted v.wanted.now e.0) entries
 
 module _ (v : Folding) where
   abbrev tree_parts : Tree → List Part
   tree_parts t = forest_parts v.stacks.known.now t.1
 
-  wanted_one : (e : Entry) (b : Bool) → is_wanted (wanted_of v) e.0 ≡ b → wanted_in v (e ∷ []) ≡ (if b then e ∷ [] else [])
+  wanted_one : (e : Entry) (b : Bool) → is_wanted v.wanted.now e.0 ≡ b → wanted_in v (e ∷ []) ≡ (if b then e ∷ [] else [])
   wanted_one e b is = ap (λ (x : Bool). if x then e ∷ [] else []) is
 
   -- of these streams, all but those that are left were added
@@ -47,7 +48,7 @@ module _ (v : Folding) where
     pub spelled : AreSpelled (wanted_in v earlier) trees
     pub parts : HasMoreParts v.stacks now.stacks (flat_map tree_parts trees)
     pub found : now.is_found ≡ has_trees v.is_found trees
-    pub thread : now.thread ≡ v.thread
+    pub wanted : now.wanted ≡ v.wanted
 
   folding_begun : (entries : List Entry) → IsFolding v entries entries
   folding_begun entries = record {
@@ -57,7 +58,7 @@ module _ (v : Folding) where
     spelled = tt;
     parts = record { rows = refl; known = refl };
     found = refl;
-    thread = refl;
+    wanted = refl;
   }
 
   pub folding_at : (entries left : List Entry) → left ≡ entries → IsFolding v entries left
@@ -66,11 +67,11 @@ module _ (v : Folding) where
   all_more : (entries earlier left rest : List Entry) (e : Entry) → left ≡ e ∷ rest → entries ≡ earlier ++ left → entries ≡ (earlier ++ e ∷ []) ++ rest
   all_more entries earlier left rest e next all = all ∙ ap (λ (es : List Entry). earlier ++ es) next ∙ sym (append_assoc earlier (e ∷ []) rest)
 
-  same_wanted : (now : Folding) → now.thread ≡ v.thread → wanted_of now ≡ wanted_of v
-  same_wanted now same = ap (λ t. option_map (λ x. key_of x.now) t) same
+  same_wanted : (now : Folding) → now.wanted ≡ v.wanted → now.wanted.now ≡ v.wanted.now
+  same_wanted now same = ap (λ (w : Bor Wanted). w.now) same
 
-  wanted_more : (earlier : List Entry) (e : Entry) (b : Bool) → is_wanted (wanted_of v) e.0 ≡ b → wanted_in v (earlier ++ e ∷ []) ≡ wanted_in v earlier ++ (if b then e ∷ [] else [])
-  wanted_more earlier e b is = filter-append (λ d. is_wanted (wanted_of v) d.0) earlier (e ∷ []) ∙ ap (λ (es : List Entry). wanted_in v earlier ++ es) (wanted_one e b is)
+  wanted_more : (earlier : List Entry) (e : Entry) (b : Bool) → is_wanted v.wanted.now e.0 ≡ b → wanted_in v (earlier ++ e ∷ []) ≡ wanted_in v earlier ++ (if b then e ∷ [] else [])
+  wanted_more earlier e b is = filter-append (λ d. is_wanted v.wanted.now d.0) earlier (e ∷ []) ∙ ap (λ (es : List Entry). wanted_in v earlier ++ es) (wanted_one e b is)
 
   found_more : (ts : List Tree) (t : Tree) → true ≡ has_trees v.is_found (ts ++ t ∷ [])
   found_more [] t = refl
@@ -80,7 +81,7 @@ module _ (v : Folding) where
   folding_more now new entries left rest e next h (inl step) =
       let a = step.1 in
       let t : Tree = (e.0, a.forest) in
-      let wanted : is_wanted (wanted_of v) e.0 ≡ true = ap (λ w. is_wanted w e.0) (sym (same_wanted now h.thread)) ∙ step.0 in
+      let wanted : is_wanted v.wanted.now e.0 ≡ true = ap (λ (w : Wanted). is_wanted w e.0) (sym (same_wanted now h.wanted)) ∙ step.0 in
       let more : HasMoreParts now.stacks new.stacks (tree_parts t) = subst (λ (k : Bor Collection). HasMoreParts now.stacks new.stacks (forest_parts k.now a.forest)) h.parts.known a.parts in
       record {
         earlier = h.earlier ++ e ∷ [];
@@ -90,10 +91,10 @@ module _ (v : Folding) where
         parts = subst (HasMoreParts v.stacks new.stacks) (ap (λ (ps : List Part). flat_map tree_parts h.trees ++ ps) (sym (append-nil (tree_parts t))) ∙ sym (flat_map-append tree_parts h.trees (t ∷ [])))
             (parts_more v.stacks now.stacks new.stacks (flat_map tree_parts h.trees) (tree_parts t) h.parts more);
         found = a.found ∙ found_more h.trees t;
-        thread = a.thread ∙ h.thread;
+        wanted = a.wanted ∙ h.wanted;
       }
   folding_more now new entries left rest e next h (inr step) =
-      let unwanted : is_wanted (wanted_of v) e.0 ≡ false = ap (λ w. is_wanted w e.0) (sym (same_wanted now h.thread)) ∙ step.0 in
+      let unwanted : is_wanted v.wanted.now e.0 ≡ false = ap (λ (w : Wanted). is_wanted w e.0) (sym (same_wanted now h.wanted)) ∙ step.0 in
       subst (λ (u : Folding). IsFolding u entries rest) (sym step.1) (record {
         earlier = h.earlier ++ e ∷ [];
         all = all_more entries h.earlier left rest e next h.all;
@@ -101,13 +102,13 @@ module _ (v : Folding) where
         spelled = subst (λ (es : List Entry). AreSpelled es h.trees) (sym (wanted_more h.earlier e false unwanted ∙ append-nil (wanted_in v h.earlier))) h.spelled;
         parts = h.parts;
         found = h.found;
-        thread = h.thread;
+        wanted = h.wanted;
       })
 
-  pub folding_unread : (now : Folding) (entries left rest : List Entry) (e : Entry) (fault : Error) → left ≡ e ∷ rest → IsFolding now entries left → is_wanted (wanted_of now) e.0 ≡ true → IsFault e.1.form e.1.bytes fault → AreUnread (wanted_in v entries) fault
+  pub folding_unread : (now : Folding) (entries left rest : List Entry) (e : Entry) (fault : Error) → left ≡ e ∷ rest → IsFolding now entries left → is_wanted now.wanted.now e.0 ≡ true → IsFault e.1.form e.1.bytes fault → AreUnread (wanted_in v entries) fault
   folding_unread now entries left rest e fault next h is faulty =
-      let wanted : is_wanted (wanted_of v) e.0 ≡ true = ap (λ w. is_wanted w e.0) (sym (same_wanted now h.thread)) ∙ is in
-      let test = λ (d : Entry). is_wanted (wanted_of v) d.0 in
+      let wanted : is_wanted v.wanted.now e.0 ≡ true = ap (λ (w : Wanted). is_wanted w e.0) (sym (same_wanted now h.wanted)) ∙ is in
+      let test = λ (d : Entry). is_wanted v.wanted.now d.0 in
       record {
         earlier = wanted_in v h.earlier;
         entry = e;
@@ -136,11 +137,11 @@ module _ (old : Folding) (frame : OpenFrame) where
           rows = h.parts.rows ∙ ap (fold with_part (rows_of old.stacks)) (sym (append-nil some));
           known = h.parts.known;
           found = h.found;
-          thread = h.thread;
+          wanted = h.wanted;
         },
       )
 
-  pub frame_unread : (entries : List Entry) (fault : Error) → all_streams frame ≡ entries → AreUnread (wanted_in old entries) fault → AreUnread (wanted_streams (wanted_of old) frame) fault
+  pub frame_unread : (entries : List Entry) (fault : Error) → all_streams frame ≡ entries → AreUnread (wanted_in old entries) fault → AreUnread (wanted_streams old.wanted.now frame) fault
   frame_unread entries fault same u = subst (λ (es : List Entry). AreUnread (wanted_in old es) fault) (sym same) u
 
 -- ---- a file
@@ -149,17 +150,17 @@ abbrev pub none : Folding → List ℕ
 none v = []
 
 module _ (old new : Folding) (unread left before mid : Option (List ℕ)) where
-  abbrev wanted : Option ThreadKey
-  wanted = wanted_of old
+  abbrev wanted : Wanted
+  wanted = old.wanted.now
 
   abbrev pub Refused : FileError → Type 0
-  Refused e = IsStopped IsNoText (RefusesUnread (wanted_streams wanted)) unread left before mid e
+  Refused e = IsStopped IsNoText (RefusesTaken wanted) unread left before mid e
 
-  pub folding_stopped : (e : FileError) → StopsListing none TakesStacks RefusesFrame old new unread left before mid e → Refused e
-  folding_stopped e h = stopped none TakesStacks RefusesFrame IsNoText (RefusesUnread (wanted_streams wanted)) old new unread left before mid e (λ frames more v taken. taken.none)
-      (λ frames more v frame cause taken refused. subst (λ (w : Option ThreadKey). AreUnread (wanted_streams w frame) cause) (ap (λ t. option_map (λ x. key_of x.now) t) taken.thread) refused) h
+  pub folding_stopped : (e : FileError) → StopsListing none TakesStacks RefusesFrame wanted.frames old new unread left before mid e → Refused e
+  folding_stopped e h = stopped none TakesStacks wanted.frames RefusesFrame IsNoText (RefusesTaken wanted) old new unread left before mid e (λ frames more v taken. taken.none)
+      (λ frames more v frame cause taken there refused. (there, subst (λ (w : Wanted). AreUnread (wanted_streams w frame) cause) (ap (λ (w : Bor Wanted). w.now) taken.wanted) refused)) h
 
-  module _ (h : ListsAll none TakesStacks old new unread left before mid) where
+  module _ (h : ListsAll none TakesStacks wanted.frames old new unread left before mid) where
     quiet : Appends before mid []
     quiet = subst (Appends before mid) h.listed.taken.none h.written
 

@@ -1,27 +1,29 @@
 -- The tallies of frames, thread after thread, and what a file has of them.
 use Rattle.std.proofs.Common.{◌≡◌, ℕ, ◌+◌, Bool, true, false, List, [], ◌∷◌, ◌++◌, Option, Some, None, inl, inr, refl, ap, subst, sym, ◌∙◌, append_assoc, append-nil, slice_get}
-use Rattle.std.specs.Prelude.{filter, fold, if◌then◌else◌, option_map, IfSome}
+use Rattle.std.specs.Prelude.{filter, fold, if◌then◌else◌, IfSome}
 use Rattle.std.specs.List.{flat_map}
 use Rattle.std.specs.Map.{keys_of}
 use Rattle.std.proofs.lemmas.List.Elements.{filter-append}
 use Rattle.std.proofs.lemmas.List.Concat.{flat_map-append}
 use Rattle.std.proofs.lemmas.List.Sums.{fold-append}
+use denote.Ref.{Bor}
 use Rattle.puffin_data.specs.declared.error.Error.{Error}
 use Rattle.puffin_data.specs.declared.file_error.FileError.{FileError}
 use Rattle.puffin_data.specs.Device.{IsOutside}
 use Rattle.puffin_data.specs.Forest.{Span}
 use Rattle.puffin_data.specs.Walk.{IsFault}
 use Rattle.puffin_threads.specs.Details.Collection.{Collection}
-use Rattle.puffin_threads.specs.Thread.ThreadKey.{ThreadKey, key_of}
 use Rattle.puffin_view.specs.View.Stats.{cut}
 use Rattle.puffin_look.specs.OpenFrame.{OpenFrame}
 use Rattle.puffin_look.specs.Printed.{IsStopped}
-use Rattle.puffin_look.specs.Trees.{Entry, Tree, TreeFrame, AreSpelled, AreUnread, RefusesUnread, all_streams}
-use Rattle.puffin_look.specs.FrameTree.{is_wanted, wanted_streams, time_of, length_of}
+use Rattle.puffin_look.specs.Trees.{Entry, Tree, TreeFrame, AreSpelled, AreUnread, all_streams}
+use Rattle.puffin_look.specs.Wanted.{is_wanted, wanted_streams, RefusesTaken}
+use Rattle.puffin_look.specs.declared.wanted.Wanted.{Wanted}
+use Rattle.puffin_look.specs.FrameTree.{time_of, length_of}
 use Rattle.puffin_look.specs.Slowest.{IsNoText}
-use Rattle.puffin_look.specs.Top.{Piece, scope_name, inner_name, name_around, pieces_at, scope_pieces, forest_pieces, pieces, with_length, IsTop, StopsReading}
+use Rattle.puffin_look.specs.Top.{Piece, scope_name, inner_name, name_around, pieces_at, scope_pieces, forest_pieces, pieces, with_length, with_one, IsTop, StopsReading}
 use Rattle.puffin_look.specs.inner.Tallies.{Row, rows_in, rows_of, name_at, with_piece_in, HasMorePieces, pieces_more, TakesScopes, StandsFor}
-use Rattle.puffin_look.specs.inner.Tops.{wanted_of, StepsTally, TakesTallies, RefusesFrame, HaveTallies}
+use Rattle.puffin_look.specs.inner.Tops.{StepsTally, TakesTallies, RefusesFrame, HaveTallies}
 use Rattle.puffin_look.specs.inner.Listings.{ListsAll, StopsListing}
 use Rattle.puffin_look.specs.declared.tallies.Tallies.{Tallies}
 use Rattle.puffin_look.specs.declared.top.Tallying.{Tallying}
@@ -65,13 +67,13 @@ entered v u w place around s time same more at stands =
 -- ---- a frame
 
 abbrev wanted_in : Tallying → List Entry → List Entry
-wanted_in v entries = filter (λ e. is_wanted (wanted_of v) e.0) entries
+wanted_in v entries = filter (λ e. is_wanted v.wanted.now e.0) entries
 
 module _ (v : Tallying) where
   abbrev tree_pieces : Tree → List Piece
   tree_pieces t = forest_pieces v.tallies.known.now v.tallies.texts t.1
 
-  wanted_one : (e : Entry) (b : Bool) → is_wanted (wanted_of v) e.0 ≡ b → wanted_in v (e ∷ []) ≡ (if b then e ∷ [] else [])
+  wanted_one : (e : Entry) (b : Bool) → is_wanted v.wanted.now e.0 ≡ b → wanted_in v (e ∷ []) ≡ (if b then e ∷ [] else [])
   wanted_one e b is = ap (λ (x : Bool). if x then e ∷ [] else []) is
 
   -- of these streams, all but those that are left were added
@@ -82,7 +84,8 @@ module _ (v : Tallying) where
     pub spelled : AreSpelled (wanted_in v earlier) trees
     pub pieces : HasMorePieces v.tallies now.tallies (flat_map tree_pieces trees)
     pub whole : now.whole ≡ v.whole
-    pub thread : now.thread ≡ v.thread
+    pub count : now.frames ≡ v.frames
+    pub wanted : now.wanted ≡ v.wanted
 
   tallying_begun : (entries : List Entry) → IsTallying v entries entries
   tallying_begun entries = record {
@@ -92,7 +95,8 @@ module _ (v : Tallying) where
     spelled = tt;
     pieces = record { rows = refl; known = refl; texts = refl };
     whole = refl;
-    thread = refl;
+    count = refl;
+    wanted = refl;
   }
 
   pub tallying_at : (entries left : List Entry) → left ≡ entries → IsTallying v entries left
@@ -101,17 +105,17 @@ module _ (v : Tallying) where
   all_more : (entries earlier left rest : List Entry) (e : Entry) → left ≡ e ∷ rest → entries ≡ earlier ++ left → entries ≡ (earlier ++ e ∷ []) ++ rest
   all_more entries earlier left rest e next all = all ∙ ap (λ (es : List Entry). earlier ++ es) next ∙ sym (append_assoc earlier (e ∷ []) rest)
 
-  same_wanted : (now : Tallying) → now.thread ≡ v.thread → wanted_of now ≡ wanted_of v
-  same_wanted now same = ap (λ t. option_map (λ x. key_of x.now) t) same
+  same_wanted : (now : Tallying) → now.wanted ≡ v.wanted → now.wanted.now ≡ v.wanted.now
+  same_wanted now same = ap (λ (w : Bor Wanted). w.now) same
 
-  wanted_more : (earlier : List Entry) (e : Entry) (b : Bool) → is_wanted (wanted_of v) e.0 ≡ b → wanted_in v (earlier ++ e ∷ []) ≡ wanted_in v earlier ++ (if b then e ∷ [] else [])
-  wanted_more earlier e b is = filter-append (λ d. is_wanted (wanted_of v) d.0) earlier (e ∷ []) ∙ ap (λ (es : List Entry). wanted_in v earlier ++ es) (wanted_one e b is)
+  wanted_more : (earlier : List Entry) (e : Entry) (b : Bool) → is_wanted v.wanted.now e.0 ≡ b → wanted_in v (earlier ++ e ∷ []) ≡ wanted_in v earlier ++ (if b then e ∷ [] else [])
+  wanted_more earlier e b is = filter-append (λ d. is_wanted v.wanted.now d.0) earlier (e ∷ []) ∙ ap (λ (es : List Entry). wanted_in v earlier ++ es) (wanted_one e b is)
 
   pub tallying_more : (now new : Tallying) (entries left rest : List Entry) (e : Entry) → left ≡ e ∷ rest → IsTallying now entries left → StepsTally now new e.0 e.1 → IsTallying new entries rest
   tallying_more now new entries left rest e next h (inl step) =
       let a = step.1 in
       let t : Tree = (e.0, a.forest) in
-      let wanted : is_wanted (wanted_of v) e.0 ≡ true = ap (λ w. is_wanted w e.0) (sym (same_wanted now h.thread)) ∙ step.0 in
+      let wanted : is_wanted v.wanted.now e.0 ≡ true = ap (λ (w : Wanted). is_wanted w e.0) (sym (same_wanted now h.wanted)) ∙ step.0 in
       let more : HasMorePieces now.tallies new.tallies (tree_pieces t) = subst (HasMorePieces now.tallies new.tallies) (λ i. forest_pieces (h.pieces.known i).now (h.pieces.texts i) a.forest) a.pieces in
       record {
         earlier = h.earlier ++ e ∷ [];
@@ -121,10 +125,11 @@ module _ (v : Tallying) where
         pieces = subst (HasMorePieces v.tallies new.tallies) (ap (λ (ps : List Piece). flat_map tree_pieces h.trees ++ ps) (sym (append-nil (tree_pieces t))) ∙ sym (flat_map-append tree_pieces h.trees (t ∷ [])))
             (pieces_more v.tallies now.tallies new.tallies (flat_map tree_pieces h.trees) (tree_pieces t) h.pieces more);
         whole = a.whole ∙ h.whole;
-        thread = a.thread ∙ h.thread;
+        count = a.count ∙ h.count;
+        wanted = a.wanted ∙ h.wanted;
       }
   tallying_more now new entries left rest e next h (inr step) =
-      let unwanted : is_wanted (wanted_of v) e.0 ≡ false = ap (λ w. is_wanted w e.0) (sym (same_wanted now h.thread)) ∙ step.0 in
+      let unwanted : is_wanted v.wanted.now e.0 ≡ false = ap (λ (w : Wanted). is_wanted w e.0) (sym (same_wanted now h.wanted)) ∙ step.0 in
       subst (λ (u : Tallying). IsTallying u entries rest) (sym step.1) (record {
         earlier = h.earlier ++ e ∷ [];
         all = all_more entries h.earlier left rest e next h.all;
@@ -132,13 +137,14 @@ module _ (v : Tallying) where
         spelled = subst (λ (es : List Entry). AreSpelled es h.trees) (sym (wanted_more h.earlier e false unwanted ∙ append-nil (wanted_in v h.earlier))) h.spelled;
         pieces = h.pieces;
         whole = h.whole;
-        thread = h.thread;
+        count = h.count;
+        wanted = h.wanted;
       })
 
-  pub tallying_unread : (now : Tallying) (entries left rest : List Entry) (e : Entry) (fault : Error) → left ≡ e ∷ rest → IsTallying now entries left → is_wanted (wanted_of now) e.0 ≡ true → IsFault e.1.form e.1.bytes fault → AreUnread (wanted_in v entries) fault
+  pub tallying_unread : (now : Tallying) (entries left rest : List Entry) (e : Entry) (fault : Error) → left ≡ e ∷ rest → IsTallying now entries left → is_wanted now.wanted.now e.0 ≡ true → IsFault e.1.form e.1.bytes fault → AreUnread (wanted_in v entries) fault
   tallying_unread now entries left rest e fault next h is faulty =
-      let wanted : is_wanted (wanted_of v) e.0 ≡ true = ap (λ w. is_wanted w e.0) (sym (same_wanted now h.thread)) ∙ is in
-      let test = λ (d : Entry). is_wanted (wanted_of v) d.0 in
+      let wanted : is_wanted v.wanted.now e.0 ≡ true = ap (λ (w : Wanted). is_wanted w e.0) (sym (same_wanted now h.wanted)) ∙ is in
+      let test = λ (d : Entry). is_wanted v.wanted.now d.0 in
       record {
         earlier = wanted_in v h.earlier;
         entry = e;
@@ -153,9 +159,9 @@ module _ (v : Tallying) where
 
 module _ (old : Tallying) (frame : OpenFrame) where
   -- all streams of a frame were added, and then its duration
-  pub frame_tallied : (now new : Tallying) (all left : List Entry) → left ≡ [] → IsTallying old now all left → all_streams frame ≡ all → new.tallies ≡ now.tallies → new.thread ≡ now.thread → new.whole ≡ cut (now.whole + length_of frame.meta.range_ns)
+  pub frame_tallied : (now new : Tallying) (all left : List Entry) → left ≡ [] → IsTallying old now all left → all_streams frame ≡ all → new.tallies ≡ now.tallies → new.wanted ≡ now.wanted → new.whole ≡ cut (now.whole + length_of frame.meta.range_ns) → new.frames ≡ cut (now.frames + 1)
       → (more : List ℕ) × ([] ≡ [] ++ more) × TakesTallies old (frame ∷ []) more new
-  frame_tallied now new all left none h same tallies thread more =
+  frame_tallied now new all left none h same tallies wanted more one =
       let whole : h.earlier ≡ all_streams frame = sym (same ∙ h.all ∙ ap (λ (es : List Entry). h.earlier ++ es) none ∙ append-nil h.earlier) in
       let f : TreeFrame = record { meta = frame.meta; trees = h.trees } in
       let some : List Piece = flat_map (λ (t : Tree). forest_pieces old.tallies.known.now old.tallies.texts t.1) h.trees in (
@@ -169,11 +175,12 @@ module _ (old : Tallying) (frame : OpenFrame) where
           known = ap (λ (t : Tallies). t.known) tallies ∙ h.pieces.known;
           texts = ap (λ (t : Tallies). t.texts) tallies ∙ h.pieces.texts;
           whole = more ∙ ap (λ (n : ℕ). cut (n + length_of frame.meta.range_ns)) h.whole;
-          thread = thread ∙ h.thread;
+          count = one ∙ ap (λ (n : ℕ). cut (n + 1)) h.count;
+          wanted = wanted ∙ h.wanted;
         },
       )
 
-  pub frame_unread : (entries : List Entry) (fault : Error) → all_streams frame ≡ entries → AreUnread (wanted_in old entries) fault → AreUnread (wanted_streams (wanted_of old) frame) fault
+  pub frame_unread : (entries : List Entry) (fault : Error) → all_streams frame ≡ entries → AreUnread (wanted_in old entries) fault → AreUnread (wanted_streams old.wanted.now frame) fault
   frame_unread entries fault same u = subst (λ (es : List Entry). AreUnread (wanted_in old es) fault) (sym same) u
 
 -- ---- a file
@@ -182,10 +189,10 @@ abbrev pub none : Tallying → List ℕ
 none v = []
 
 module _ (old new : Tallying) (unread left before mid : Option (List ℕ)) where
-  abbrev wanted : Option ThreadKey
-  wanted = wanted_of old
+  abbrev wanted : Wanted
+  wanted = old.wanted.now
 
-  told : (e : FileError) → IsStopped IsNoText (RefusesUnread (wanted_streams wanted)) unread left before mid e → StopsReading wanted unread left e
+  told : (e : FileError) → IsStopped IsNoText (RefusesTaken wanted) unread left before mid e → StopsReading wanted unread left e
   told e s = record {
     stored = s.stored;
     begins = s.begins;
@@ -198,17 +205,17 @@ module _ (old new : Tallying) (unread left before mid : Option (List ℕ)) where
     ];
   }
 
-  pub tallying_stopped : (e : FileError) → StopsListing none TakesTallies RefusesFrame old new unread left before mid e → StopsReading wanted unread left e
-  tallying_stopped e h = told e (stopped none TakesTallies RefusesFrame IsNoText (RefusesUnread (wanted_streams wanted)) old new unread left before mid e (λ frames more v taken. taken.none)
-      (λ frames more v frame cause taken refused. subst (λ (w : Option ThreadKey). AreUnread (wanted_streams w frame) cause) (ap (λ t. option_map (λ x. key_of x.now) t) taken.thread) refused) h)
+  pub tallying_stopped : (e : FileError) → StopsListing none TakesTallies RefusesFrame wanted.frames old new unread left before mid e → StopsReading wanted unread left e
+  tallying_stopped e h = told e (stopped none TakesTallies wanted.frames RefusesFrame IsNoText (RefusesTaken wanted) old new unread left before mid e (λ frames more v taken. taken.none)
+      (λ frames more v frame cause taken there refused. (there, subst (λ (w : Wanted). AreUnread (wanted_streams w frame) cause) (ap (λ (w : Bor Wanted). w.now) taken.wanted) refused)) h)
 
-  module _ (h : ListsAll none TakesTallies old new unread left before mid) where
+  module _ (h : ListsAll none TakesTallies wanted.frames old new unread left before mid) where
     -- there is no memory for the rows
     pub none_told : (e : FileError) → IsOutside e → StopsReading wanted unread left e
     none_told e outside = record { stored = h.stored; begins = h.begins; frames = h.listed.frames; opens = h.listed.opens; outcome = inl outside }
 
-    pub top_told : (empty : rows_of old.tallies ≡ []) (k : Collection) (same : old.tallies.known.now ≡ k) (texts : Bool) (kept : old.tallies.texts ≡ texts) (zero : old.whole ≡ 0) (top : Top) → HaveTallies (rows_of new.tallies) top.rows.items → top.whole ≡ new.whole → IsTop k wanted texts unread left top
-    top_told empty k same texts kept zero top are whole =
+    pub top_told : (empty : rows_of old.tallies ≡ []) (k : Collection) (same : old.tallies.known.now ≡ k) (texts : Bool) (kept : old.tallies.texts ≡ texts) (zero : old.whole ≡ 0) (no_frames : old.frames ≡ 0) (top : Top) → HaveTallies (rows_of new.tallies) top.rows.items → top.whole ≡ new.whole → top.frames ≡ new.frames → IsTop k wanted texts unread left top
+    top_told empty k same texts kept zero no_frames top are whole count =
         let t = h.listed.taken in
         record {
           stored = h.stored;
@@ -216,7 +223,8 @@ module _ (old new : Tallying) (unread left before mid : Option (List ℕ)) where
           frames = h.listed.frames;
           opens = h.listed.opens;
           trees = t.trees;
-          read = t.read;
+          taken = t.read;
           rows = rows_told (pieces k texts t.trees) top.rows.items (subst (λ (rows : List Row). HaveTallies rows top.rows.items) (t.rows ∙ (λ i. fold with_piece_in (empty i) (pieces (same i) (kept i) t.trees))) are);
           whole = whole ∙ t.whole ∙ ap (λ (n : ℕ). fold with_length n t.trees) zero;
+          count = count ∙ t.count ∙ ap (λ (n : ℕ). fold with_one n t.trees) no_frames;
         }

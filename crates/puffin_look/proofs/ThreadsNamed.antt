@@ -10,8 +10,7 @@ use Rattle.puffin_frames.proofs.lemmas.Keyed.{entries-by_key}
 use Rattle.puffin_look.specs.declared.threads.ThreadTotals.{ThreadTotals}
 use Rattle.puffin_look.specs.declared.threads.Threads.{Threads}
 use Rattle.puffin_look.specs.ThreadLines.{Totals}
-use Rattle.puffin_look.specs.declared.thread_names.Naming.TheVariants.{Text, Name}
-use Rattle.puffin_look.specs.ThreadNames.{is_named, or_else, threads_named, AreNamed}
+use Rattle.puffin_look.specs.ThreadNames.{or_else, threads_named, AreNamed}
 use Rattle.puffin_look.specs.inner.Taken.{fails_outside}
 use Rattle.puffin_look.proofs.ThreadsPrinted.{Ends, read_to_end}
 
@@ -36,11 +35,11 @@ module _ (old new : Threads) (unread left before mid : Option (List ℕ)) (empty
       let q = read_to_end old new unread left before mid empty r quiet s in
       record { stored = q.0.stored; begins = q.0.begins; frames = q.0.frames; opens = q.0.opens; end = q.1; are = named_in _ q.0.totals }
 
--- the threads that are listed by a word come first
-pub later_named : (word : List ℕ) (listed found : List ThreadInfo) (keys : List ThreadKey) → map key_of listed ≡ filter (is_named Text word) keys → length listed ≡ 0 → map key_of found ≡ filter (is_named Name word) keys → map key_of found ≡ threads_named word keys
-later_named word [] found keys is none others = others ∙ ap (λ (ks : List ThreadKey). or_else ks (filter (is_named Name word) keys)) is
-later_named word (x ∷ xs) found keys is none others = absurd (omega (arith, none))
+-- the first that are found count
+pub first_some : (found : List ThreadInfo) (some others : List ThreadKey) → map key_of found ≡ some → (length found ≡ 0 → ⊥) → map key_of found ≡ or_else some others
+first_some [] some others is any = absurd (any refl)
+first_some (x ∷ xs) some others is any = ap (λ (ks : List ThreadKey). or_else ks others) is
 
-pub first_named : (word : List ℕ) (listed : List ThreadInfo) (keys : List ThreadKey) → map key_of listed ≡ filter (is_named Text word) keys → (length listed ≡ 0 → ⊥) → map key_of listed ≡ threads_named word keys
-first_named word [] keys is some = absurd (some refl)
-first_named word (x ∷ xs) keys is some = ap (λ (ks : List ThreadKey). or_else ks (filter (is_named Name word) keys)) is
+pub first_none : (found : List ThreadInfo) (some others : List ThreadKey) → map key_of found ≡ some → length found ≡ 0 → others ≡ or_else some others
+first_none [] some others is none = ap (λ (ks : List ThreadKey). or_else ks others) is
+first_none (x ∷ xs) some others is none = absurd (omega (arith, none))

@@ -1,5 +1,5 @@
 -- What the listing of threads leaves, and what is printed of it.
-use Rattle.std.proofs.Common.{◌≡◌, ℕ, List, [], ◌∷◌, ◌++◌, Option, Result, Ok, Err, ◌⊎◌, inl, inr, refl, ap, subst, sym, ◌∙◌, append-nil, true, false, true≢false}
+use Rattle.std.proofs.Common.{◌≡◌, ℕ, List, [], ◌∷◌, ◌++◌, Option, None, Result, Ok, Err, ◌⊎◌, inl, inr, refl, ap, subst, sym, ◌∙◌, append-nil, true, false, true≢false}
 use Rattle.std.specs.Prelude.{fold, OnOk, IfErr}
 use Rattle.std.specs.FinMap as tree
 use Rattle.std.specs.List.{flat_map}
@@ -48,7 +48,7 @@ module _ (old new : Threads) (unread left before mid : Option (List ℕ)) where
     totals_read : (frames : List OpenFrame) (more : List ℕ) → TakesTotals old frames more new → by_key new.totals.entries ≡ totals_of frames
     totals_read frames more t = t.totals ∙ ap (λ (m : Totals). fold Rattle.puffin_look.specs.ThreadLines.with_frame m frames) empty
 
-    pub all_read : ListsAll none TakesTotals old new unread left before mid → (r : AreRead) × TookFrames file_at unread left r.stored
+    pub all_read : ListsAll none TakesTotals None old new unread left before mid → (r : AreRead) × TookFrames file_at unread left r.stored
     all_read h = (
       record {
         stored = h.stored;
@@ -64,7 +64,7 @@ module _ (old new : Threads) (unread left before mid : Option (List ℕ)) where
     moved : (state : Threads) (frames : List OpenFrame) (more : List ℕ) → state ≡ new → TakesTotals old frames more state → TakesTotals old frames more new
     moved state frames more same t = subst (TakesTotals old frames more) same t
 
-    module _ (e : FileError) (h : StopsBehind none TakesTotals refused old new unread left before mid e) where
+    module _ (e : FileError) (h : StopsBehind none TakesTotals refused None old new unread left before mid e) where
       quiet : h.more ≡ []
       quiet = h.listed.taken.none
 
@@ -91,7 +91,7 @@ module _ (old new : Threads) (unread left before mid : Option (List ℕ)) where
         | inr (inr added) ↦ elim (added.3) [
           | inl memory ↦ absurd (not_memory memory)
           | inr (inl packed) ↦ (read_of (sym packed.1) (subst (Appends before mid) quiet added.0), inr (inl (inr (added.1, added.2, subst (λ (r : Result OpenFrame FileError). IsRefused RefusesNone h.listed.frames r e) (sym packed.0) refl))))
-          | inr (inr bad) ↦ absurd bad.4
+          | inr (inr bad) ↦ absurd bad.5
         ]
       ]
 
@@ -103,7 +103,7 @@ module _ (old new : Threads) (unread left before mid : Option (List ℕ)) where
       ]
 
     module _ (e : FileError) where
-      pub some_read : StopsListing none TakesTotals refused old new unread left before mid e → (e ≡ file.Memory → ⊥) → (r : AreRead) × Finished (Err e) r.stored r.frames
+      pub some_read : StopsListing none TakesTotals refused None old new unread left before mid e → (e ≡ file.Memory → ⊥) → (r : AreRead) × Finished (Err e) r.stored r.frames
       some_read (inl h) not_memory = some_behind e h not_memory
       some_read (inr h) not_memory = (
         record {
@@ -117,7 +117,7 @@ module _ (old new : Threads) (unread left before mid : Option (List ℕ)) where
         inr (inr (h.fails, refl)),
       )
 
-      pub none_written : StopsListing none TakesTotals refused old new unread left before mid e → Appends before mid []
+      pub none_written : StopsListing none TakesTotals refused None old new unread left before mid e → Appends before mid []
       none_written (inl h) = none_behind e h
       none_written (inr h) = h.written
 
@@ -204,9 +204,9 @@ not_outside e h (inr memory) = not_memory e h memory
 module _ (old new : Threads) (unread left before mid : Option (List ℕ)) (empty : by_key old.totals.entries ≡ tree.empty) where
   -- what a listing of threads ends with
   pub Ends : Result (Unit {0}) FileError → Type 0
-  Ends r = OnOk r (ListsAll none TakesTotals old new unread left before mid) × IfErr r (StopsListing none TakesTotals refused old new unread left before mid)
+  Ends r = OnOk r (ListsAll none TakesTotals None old new unread left before mid) × IfErr r (StopsListing none TakesTotals refused None old new unread left before mid)
 
-  pub ends : (r : Result (Unit {0}) FileError) → OnOk r (ListsAll none TakesTotals old new unread left before mid) → IfErr r (StopsListing none TakesTotals refused old new unread left before mid) → Ends r
+  pub ends : (r : Result (Unit {0}) FileError) → OnOk r (ListsAll none TakesTotals None old new unread left before mid) → IfErr r (StopsListing none TakesTotals refused None old new unread left before mid) → Ends r
   unfolding Ends
   ends r ok err = (ok, err)
 

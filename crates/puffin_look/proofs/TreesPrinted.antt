@@ -1,15 +1,16 @@
--- What is printed of the frames with an index.
+-- What is printed of the wanted frames.
 use Rattle.std.proofs.Common.{◌≡◌, ℕ, Bool, false, List, [], ◌++◌, Option, ap, subst, ◌∙◌}
-use Rattle.std.specs.Prelude.{option_map}
+use denote.Ref.{Bor}
 use Rattle.std.specs.List.{flat_map}
 use Rattle.puffin_data.specs.declared.file_error.FileError.{FileError}
 use Rattle.puffin_threads.specs.Details.Collection.{Collection}
-use Rattle.puffin_threads.specs.Thread.ThreadKey.{ThreadKey, key_of}
 use Rattle.puffin_look.specs.OpenFrame.{OpenFrame}
 use Rattle.puffin_look.specs.Printed.{IsPrinted, IsStopped}
-use Rattle.puffin_look.specs.Trees.{AreUnread, RefusesUnread}
-use Rattle.puffin_look.specs.FrameTree.{streams_at, frame_text, IsFrameText}
-use Rattle.puffin_look.specs.inner.FrameTrees.{wanted_of, TakesTrees, RefusesFrame, IsAnyFrameText}
+use Rattle.puffin_look.specs.Trees.{AreUnread}
+use Rattle.puffin_look.specs.Wanted.{frames_within, wanted_streams, RefusesTaken}
+use Rattle.puffin_look.specs.declared.wanted.Wanted.{Wanted}
+use Rattle.puffin_look.specs.FrameTree.{trees_text, IsFrameText}
+use Rattle.puffin_look.specs.inner.FrameTrees.{TakesTrees, RefusesFrame, IsAnyFrameText}
 use Rattle.puffin_look.specs.inner.Listings.{ListsAll, StopsListing}
 use Rattle.puffin_look.specs.declared.frame_tree.Trees.{Trees}
 use Rattle.puffin_look.proofs.Listed.{stopped}
@@ -18,21 +19,21 @@ abbrev pub text_in : Trees → List ℕ
 text_in v = v.lines.text.items
 
 module _ (old new : Trees) (empty : text_in old ≡ []) (k : Collection) (none : old.lines.known.now ≡ k) (unfound : old.is_found ≡ false) where
-  shown_text : (frames : List OpenFrame) (more : List ℕ) (v : Trees) → TakesTrees old frames more v → IsFrameText k old.index (wanted_of old) v.is_found frames (text_in old ++ more)
+  shown_text : (frames : List OpenFrame) (more : List ℕ) (v : Trees) → TakesTrees old (frames_within old.wanted.now.frames frames) more v → IsFrameText k old.wanted.now v.is_found frames (text_in old ++ more)
   shown_text frames more v taken = (
     taken.trees,
     taken.read,
-    ap (λ (t : List ℕ). t ++ more) empty ∙ taken.is ∙ ap (λ (k : Collection). flat_map (frame_text k old.index) taken.trees) none,
+    ap (λ (t : List ℕ). t ++ more) empty ∙ taken.is ∙ ap (λ (k : Collection). flat_map (trees_text k) taken.trees) none,
     taken.found ∙ ap (λ (b : Bool). Rattle.puffin_look.specs.FrameTree.found_in b taken.trees) unfound,
   )
 
-  pub frames_stopped : (unread left before after : Option (List ℕ)) (e : FileError) → StopsListing text_in TakesTrees RefusesFrame old new unread left before after e
-      → IsStopped (IsAnyFrameText k old.index (wanted_of old)) (RefusesUnread (streams_at old.index (wanted_of old))) unread left before after e
+  pub frames_stopped : (unread left before after : Option (List ℕ)) (e : FileError) → StopsListing text_in TakesTrees RefusesFrame old.wanted.now.frames old new unread left before after e
+      → IsStopped (IsAnyFrameText k old.wanted.now) (RefusesTaken old.wanted.now) unread left before after e
   frames_stopped unread left before after e h =
-      stopped text_in TakesTrees RefusesFrame (IsAnyFrameText k old.index (wanted_of old)) (RefusesUnread (streams_at old.index (wanted_of old))) old new unread left before after e (λ frames more v taken. (v.is_found, shown_text frames more v taken))
-      (λ frames more v frame cause taken refused. subst (λ (p : ℕ × Option ThreadKey). AreUnread (streams_at p.0 p.1 frame) cause) (λ i. (taken.index i, ap (λ t. option_map (λ x. key_of x.now) t) taken.thread i)) refused) h
+      stopped text_in TakesTrees old.wanted.now.frames RefusesFrame (IsAnyFrameText k old.wanted.now) (RefusesTaken old.wanted.now) old new unread left before after e (λ frames more v taken. (v.is_found, shown_text frames more v taken))
+      (λ frames more v frame cause taken there refused. (there, subst (λ (w : Wanted). AreUnread (wanted_streams w frame) cause) (ap (λ (w : Bor Wanted). w.now) taken.wanted) refused)) h
 
-  pub frames_printed : (unread left before after : Option (List ℕ)) → ListsAll text_in TakesTrees old new unread left before after → IsPrinted (IsFrameText k old.index (wanted_of old) new.is_found) unread left before after
+  pub frames_printed : (unread left before after : Option (List ℕ)) → ListsAll text_in TakesTrees old.wanted.now.frames old new unread left before after → IsPrinted (IsFrameText k old.wanted.now new.is_found) unread left before after
   frames_printed unread left before after h = record {
     stored = h.stored;
     took = h.took;

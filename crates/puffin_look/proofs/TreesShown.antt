@@ -1,20 +1,22 @@
 -- A frame that is shown as a tree, thread after thread.
-use Rattle.std.proofs.Common.{◌≡◌, ℕ, Bool, true, false, List, [], ◌∷◌, ◌++◌, inl, inr, refl, ap, subst, sym, ◌∙◌, append_assoc, append-nil, arith}
-use Rattle.std.proofs.lemmas.Bool.Decides.{nat_tests}
-use Rattle.std.specs.Prelude.{filter, codes, if◌then◌else◌, ◌==◌, fold, ◌+◌}
+use Rattle.std.proofs.Common.{◌≡◌, ℕ, Bool, true, false, List, [], ◌∷◌, ◌++◌, inl, inr, refl, ap, subst, sym, ◌∙◌, append_assoc, append-nil}
+use Rattle.std.specs.Prelude.{filter, codes, if◌then◌else◌}
 use Rattle.std.specs.List.{flat_map}
 use Rattle.std.proofs.lemmas.List.Elements.{filter-append}
 use Rattle.std.proofs.lemmas.List.Concat.{flat_map-append}
+use denote.Ref.{Bor}
 use Rattle.puffin_data.specs.declared.error.Error.{Error}
 use Rattle.puffin_data.specs.Forest.{Forest, Span}
 use Rattle.puffin_data.specs.Walk.{IsFault}
-use Rattle.puffin_threads.specs.Thread.ThreadKey.{ThreadKey, key_of}
+use Rattle.puffin_threads.specs.Thread.ThreadKey.{ThreadKey}
 use Rattle.puffin_look.specs.OpenFrame.{OpenFrame}
 use Rattle.puffin_look.specs.Trees.{Entry, Tree, TreeFrame, AreSpelled, AreUnread, all_streams}
+use Rattle.puffin_look.specs.Wanted.{is_wanted, wanted_streams}
+use Rattle.puffin_look.specs.declared.wanted.Wanted.{Wanted}
 use Rattle.puffin_look.specs.ThreadLines.{thread_text}
-use Rattle.puffin_look.specs.FrameTree.{is_wanted, streams_at, outer_time, time_of, forest_lines, tree_text, head_text, frame_text, trees_text, has_trees}
+use Rattle.puffin_look.specs.FrameTree.{outer_time, time_of, forest_lines, tree_text, head_text, trees_text, has_trees}
 use Rattle.puffin_look.specs.inner.TreeLines.{HasMoreLines}
-use Rattle.puffin_look.specs.inner.FrameTrees.{wanted_of, wanted_in, StepsTree, AddsTrees, TakesTrees}
+use Rattle.puffin_look.specs.inner.FrameTrees.{StepsTree, TakesTrees}
 use Rattle.puffin_look.specs.declared.tree.Lines.{Lines}
 use Rattle.puffin_look.specs.declared.frame_tree.Trees.{Trees}
 use Rattle.puffin_look.proofs.Traced.{spelled_more}
@@ -37,12 +39,15 @@ tree_added v m u key f h t = record {
 
 -- ---- a frame
 
+abbrev wanted_in : Trees → List Entry → List Entry
+wanted_in v entries = filter (λ e. is_wanted v.wanted.now e.0) entries
+
 found_more : (before : Bool) (ts : List Tree) (t : Tree) → true ≡ has_trees before (ts ++ t ∷ [])
 found_more before [] t = refl
 found_more before (s ∷ ts) t = refl
 
 module _ (v : Trees) where
-  wanted_one : (e : Entry) (b : Bool) → is_wanted (wanted_of v) e.0 ≡ b → wanted_in v (e ∷ []) ≡ (if b then e ∷ [] else [])
+  wanted_one : (e : Entry) (b : Bool) → is_wanted v.wanted.now e.0 ≡ b → wanted_in v (e ∷ []) ≡ (if b then e ∷ [] else [])
   wanted_one e b is = ap (λ (x : Bool). if x then e ∷ [] else []) is
 
   -- of these streams, all but those that are left were shown
@@ -53,8 +58,7 @@ module _ (v : Trees) where
     pub spelled : AreSpelled (wanted_in v earlier) trees
     pub lines : HasMoreLines v.lines now.lines (flat_map (tree_text v.lines.known.now v.lines.range_ns) trees)
     pub found : now.is_found ≡ has_trees v.is_found trees
-    pub index : now.index ≡ v.index
-    pub thread : now.thread ≡ v.thread
+    pub wanted : now.wanted ≡ v.wanted
 
   pub showing_begun : (entries : List Entry) → IsShowing v entries entries
   showing_begun entries = record {
@@ -64,8 +68,7 @@ module _ (v : Trees) where
     spelled = tt;
     lines = record { text = sym (append-nil v.lines.text.items); known = refl; range = refl };
     found = refl;
-    index = refl;
-    thread = refl;
+    wanted = refl;
   }
 
   pub showing_at : (entries left : List Entry) → left ≡ entries → IsShowing v entries left
@@ -74,21 +77,21 @@ module _ (v : Trees) where
   all_more : (entries earlier left rest : List Entry) (e : Entry) → left ≡ e ∷ rest → entries ≡ earlier ++ left → entries ≡ (earlier ++ e ∷ []) ++ rest
   all_more entries earlier left rest e next all = all ∙ ap (λ (es : List Entry). earlier ++ es) next ∙ sym (append_assoc earlier (e ∷ []) rest)
 
-  same_wanted : (now : Trees) → now.thread ≡ v.thread → wanted_of now ≡ wanted_of v
-  same_wanted now same = ap (λ t. Rattle.std.specs.Prelude.option_map (λ x. key_of x.now) t) same
+  same_wanted : (now : Trees) → now.wanted ≡ v.wanted → now.wanted.now ≡ v.wanted.now
+  same_wanted now same = ap (λ (w : Bor Wanted). w.now) same
 
   pub showing_more : (now new : Trees) (entries left rest : List Entry) (e : Entry) → left ≡ e ∷ rest → IsShowing now entries left → StepsTree now new e.0 e.1 → IsShowing new entries rest
   showing_more now new entries left rest e next h (inl step) =
       let a = step.1 in
       let t : Tree = (e.0, a.forest) in
-      let wanted : is_wanted (wanted_of v) e.0 ≡ true = ap (λ w. is_wanted w e.0) (sym (same_wanted now h.thread)) ∙ step.0 in
+      let wanted : is_wanted v.wanted.now e.0 ≡ true = ap (λ (w : Wanted). is_wanted w e.0) (sym (same_wanted now h.wanted)) ∙ step.0 in
       let one = tree_text v.lines.known.now v.lines.range_ns in
       record {
         earlier = h.earlier ++ e ∷ [];
         all = all_more entries h.earlier left rest e next h.all;
         trees = h.trees ++ t ∷ [];
         spelled = subst (λ (es : List Entry). AreSpelled es (h.trees ++ t ∷ []))
-            (sym (filter-append (λ d. is_wanted (wanted_of v) d.0) h.earlier (e ∷ []) ∙ ap (λ (es : List Entry). wanted_in v h.earlier ++ es) (wanted_one e true wanted)))
+            (sym (filter-append (λ d. is_wanted v.wanted.now d.0) h.earlier (e ∷ []) ∙ ap (λ (es : List Entry). wanted_in v h.earlier ++ es) (wanted_one e true wanted)))
             (spelled_more (wanted_in v h.earlier) h.trees e t h.spelled ((refl, a.spells), tt));
         lines = record {
           text = a.lines.text ∙ (λ i. h.lines.text i ++ tree_text (h.lines.known i).now (h.lines.range i) t)
@@ -98,28 +101,26 @@ module _ (v : Trees) where
           range = a.lines.range ∙ h.lines.range;
         };
         found = a.found ∙ found_more v.is_found h.trees t;
-        index = a.index ∙ h.index;
-        thread = a.thread ∙ h.thread;
+        wanted = a.wanted ∙ h.wanted;
       }
   showing_more now new entries left rest e next h (inr step) =
-      let unwanted : is_wanted (wanted_of v) e.0 ≡ false = ap (λ w. is_wanted w e.0) (sym (same_wanted now h.thread)) ∙ step.0 in
+      let unwanted : is_wanted v.wanted.now e.0 ≡ false = ap (λ (w : Wanted). is_wanted w e.0) (sym (same_wanted now h.wanted)) ∙ step.0 in
       subst (λ (u : Trees). IsShowing u entries rest) (sym step.1) (record {
         earlier = h.earlier ++ e ∷ [];
         all = all_more entries h.earlier left rest e next h.all;
         trees = h.trees;
         spelled = subst (λ (es : List Entry). AreSpelled es h.trees)
-            (sym (filter-append (λ d. is_wanted (wanted_of v) d.0) h.earlier (e ∷ []) ∙ ap (λ (es : List Entry). wanted_in v h.earlier ++ es) (wanted_one e false unwanted) ∙ append-nil (wanted_in v h.earlier)))
+            (sym (filter-append (λ d. is_wanted v.wanted.now d.0) h.earlier (e ∷ []) ∙ ap (λ (es : List Entry). wanted_in v h.earlier ++ es) (wanted_one e false unwanted) ∙ append-nil (wanted_in v h.earlier)))
             h.spelled;
         lines = h.lines;
         found = h.found;
-        index = h.index;
-        thread = h.thread;
+        wanted = h.wanted;
       })
 
-  pub showing_unread : (now : Trees) (entries left rest : List Entry) (e : Entry) (fault : Error) → left ≡ e ∷ rest → IsShowing now entries left → is_wanted (wanted_of now) e.0 ≡ true → IsFault e.1.form e.1.bytes fault → AreUnread (wanted_in v entries) fault
+  pub showing_unread : (now : Trees) (entries left rest : List Entry) (e : Entry) (fault : Error) → left ≡ e ∷ rest → IsShowing now entries left → is_wanted now.wanted.now e.0 ≡ true → IsFault e.1.form e.1.bytes fault → AreUnread (wanted_in v entries) fault
   showing_unread now entries left rest e fault next h is faulty =
-      let wanted : is_wanted (wanted_of v) e.0 ≡ true = ap (λ w. is_wanted w e.0) (sym (same_wanted now h.thread)) ∙ is in
-      let test = λ (d : Entry). is_wanted (wanted_of v) d.0 in
+      let wanted : is_wanted v.wanted.now e.0 ≡ true = ap (λ (w : Wanted). is_wanted w e.0) (sym (same_wanted now h.wanted)) ∙ is in
+      let test = λ (d : Entry). is_wanted v.wanted.now d.0 in
       record {
         earlier = wanted_in v h.earlier;
         entry = e;
@@ -133,84 +134,24 @@ module _ (v : Trees) where
       }
 
 -- all streams of a frame were shown, behind its head
-pub trees_shown : (old v new : Trees) (frame : OpenFrame) (entries all left : List Entry) → v.lines.text.items ≡ old.lines.text.items ++ head_text frame.meta → v.lines.known ≡ old.lines.known → v.lines.range_ns ≡ frame.meta.range_ns → v.is_found ≡ old.is_found
-    → v.index ≡ old.index → v.thread ≡ old.thread → left ≡ [] → IsShowing v new all left → entries ≡ all → AddsTrees old new frame.meta entries
-trees_shown old v new frame entries all left text known range found index thread none h same =
-    let wanted : wanted_of v ≡ wanted_of old = ap (λ t. Rattle.std.specs.Prelude.option_map (λ x. key_of x.now) t) thread in
-    let whole : h.earlier ≡ entries = sym (same ∙ h.all ∙ ap (λ (es : List Entry). h.earlier ++ es) none ∙ append-nil h.earlier) in
-    record {
-      trees = h.trees;
-      spelled = subst (λ (es : List Entry). AreSpelled es h.trees) (λ i. filter (λ d. is_wanted (wanted i) d.0) (whole i)) h.spelled;
-      text = h.lines.text ∙ (λ i. text i ++ flat_map (tree_text (known i).now (range i)) h.trees)
-          ∙ append_assoc old.lines.text.items (head_text frame.meta) (flat_map (tree_text old.lines.known.now frame.meta.range_ns) h.trees);
-      known = h.lines.known ∙ known;
-      found = h.found ∙ ap (λ (b : Bool). has_trees b h.trees) found;
-      index = h.index ∙ index;
-      thread = h.thread ∙ thread;
-    }
+pub frame_shown : (old v new : Trees) (frame : OpenFrame) (all left : List Entry) → v.lines.text.items ≡ old.lines.text.items ++ head_text frame.meta → v.lines.known ≡ old.lines.known → v.lines.range_ns ≡ frame.meta.range_ns → v.is_found ≡ old.is_found → v.wanted ≡ old.wanted
+    → left ≡ [] → IsShowing v new all left → all_streams frame ≡ all → (more : List ℕ) × (new.lines.text.items ≡ old.lines.text.items ++ more) × TakesTrees old (frame ∷ []) more new
+frame_shown old v new frame all left text known range found wanted none h same =
+    let whole : h.earlier ≡ all_streams frame = sym (same ∙ h.all ∙ ap (λ (es : List Entry). h.earlier ++ es) none ∙ append-nil h.earlier) in
+    let f : TreeFrame = record { meta = frame.meta; trees = h.trees } in
+    let shown = trees_text old.lines.known.now f in (
+      flat_map (trees_text old.lines.known.now) (f ∷ []),
+      h.lines.text ∙ (λ i. text i ++ flat_map (tree_text (known i).now (range i)) h.trees)
+          ∙ append_assoc old.lines.text.items (head_text frame.meta) (flat_map (tree_text old.lines.known.now frame.meta.range_ns) h.trees) ∙ ap (λ (x : List ℕ). old.lines.text.items ++ x) (sym (append-nil shown)),
+      record {
+        trees = f ∷ [];
+        read = (record { meta = refl; trees = subst (λ (es : List Entry). AreSpelled es h.trees) (λ i. filter (λ d. is_wanted (wanted i).now d.0) (whole i)) h.spelled }, tt);
+        is = refl;
+        known = h.lines.known ∙ known;
+        found = h.found ∙ ap (λ (b : Bool). has_trees b h.trees) found;
+        wanted = h.wanted ∙ wanted;
+      },
+    )
 
--- ---- a frame in a file
-
-pub same_index : (m n : ℕ) → m ≡ n → (m == n) ≡ true
-same_index m n h = grind (arith, nat_tests)
-
-pub other_index : (m n : ℕ) → (m ≡ n → ⊥) → (m == n) ≡ false
-other_index m n h = grind (arith, nat_tests)
-
-module _ (old : Trees) (frame : OpenFrame) where
-  abbrev read_of : List Tree → TreeFrame
-  read_of trees = record { meta = frame.meta; trees = trees }
-
-  -- the frame has the index
-  pub frame_shown : (new : Trees) (entries : List Entry) → (frame.meta.frame_index == old.index) ≡ true → all_streams frame ≡ entries → AddsTrees old new frame.meta entries
-      → (more : List ℕ) × (new.lines.text.items ≡ old.lines.text.items ++ more) × TakesTrees old (frame ∷ []) more new
-  frame_shown new entries there same a =
-      let f = read_of a.trees in
-      let shown = trees_text old.lines.known.now f in (
-        flat_map (frame_text old.lines.known.now old.index) (f ∷ []),
-        a.text ∙ ap (λ (x : List ℕ). old.lines.text.items ++ x) (sym (append-nil shown) ∙ sym (ap (λ (b : Bool). (if b then shown else []) ++ []) there)),
-        record {
-          trees = f ∷ [];
-          read = (
-            record {
-              meta = refl;
-              trees = subst (λ (es : List Entry). AreSpelled es a.trees) (ap (wanted_in old) (sym same) ∙ sym (ap (λ (b : Bool). if b then wanted_in old (all_streams frame) else []) there)) a.spelled;
-            },
-            tt,
-          );
-          is = refl;
-          known = a.known;
-          found = a.found;
-          index = a.index;
-          thread = a.thread;
-        },
-      )
-
-  -- the frame has another index
-  pub frame_left_out : (frame.meta.frame_index == old.index) ≡ false → (more : List ℕ) × (old.lines.text.items ≡ old.lines.text.items ++ more) × TakesTrees old (frame ∷ []) more old
-  frame_left_out other =
-      let f = read_of [] in
-      let shown = trees_text old.lines.known.now f in (
-        [],
-        sym (append-nil old.lines.text.items),
-        record {
-          trees = f ∷ [];
-          read = (
-            record {
-              meta = refl;
-              trees = subst (λ (es : List Entry). AreSpelled es []) (sym (ap (λ (b : Bool). if b then wanted_in old (all_streams frame) else []) other)) tt;
-            },
-            tt,
-          );
-          is = sym (ap (λ (b : Bool). (if b then shown else []) ++ []) other);
-          known = refl;
-          found = refl;
-          index = refl;
-          thread = refl;
-        },
-      )
-
-  -- a frame with the index that can't be shown
-  pub frame_unread : (entries : List Entry) (fault : Error) → (frame.meta.frame_index == old.index) ≡ true → all_streams frame ≡ entries → AreUnread (wanted_in old entries) fault → AreUnread (streams_at old.index (wanted_of old) frame) fault
-  frame_unread entries fault there same u =
-      subst (λ (es : List Entry). AreUnread es fault) (ap (wanted_in old) (sym same) ∙ sym (ap (λ (b : Bool). if b then wanted_in old (all_streams frame) else []) there)) u
+pub frame_unread : (old : Trees) (frame : OpenFrame) (entries : List Entry) (fault : Error) → all_streams frame ≡ entries → AreUnread (wanted_in old entries) fault → AreUnread (wanted_streams old.wanted.now frame) fault
+frame_unread old frame entries fault same u = subst (λ (es : List Entry). AreUnread (wanted_in old es) fault) (sym same) u

@@ -1,13 +1,15 @@
 -- What the program's arguments ask for.
-use Rattle.std.specs.Prelude.{ℕ, ◌^◌, List, [], ◌∷◌, nat_lt, Option, Some, None, option_map, codes, if◌then◌else◌}
+use Rattle.std.specs.Prelude.{ℕ, ◌^◌, ◌-◌, Bool, ◌==◌, List, [], ◌∷◌, nat_lt, Option, Some, None, option_map, codes, if◌then◌else◌}
 use Rattle.std.specs.Option.{option_and_then}
 use Rattle.std.specs.Str.{bytes_eq, all_ascii_digits}
 use Rattle.std.specs.Str.Parse.{digits_value}
+use Rattle.std.specs.List.{before_first, after_first}
 use denote.Ref.{Bor}
+use Rattle.puffin_look.specs.declared.wanted.Indices.{Indices}
 use Rattle.puffin_look.specs.declared.top.By.{By}
 use Rattle.puffin_look.specs.declared.top.By.TheVariants as by
 use Rattle.puffin_look.specs.declared.task.View.{View}
-use Rattle.puffin_look.specs.declared.task.View.TheVariants.{Threads, Frames, Slowest, Frame, Trace, Folded}
+use Rattle.puffin_look.specs.declared.task.View.TheVariants.{Threads, Frames, Slowest, Frame, Trace, Folded, Top}
 
 -- a decimal number without a sign
 abbrev pub digits_in : List ℕ → Option ℕ
@@ -25,19 +27,46 @@ number_in word = option_and_then (if_below (2 ^ 64)) (digits_in word)
 -- what is shown of a file
 pub data Wish : Type 0 where
   all_threads : Wish
-  all_frames : Wish
+  some_frames : (indices : Option Indices) → Wish
   slowest_frames : (limit : ℕ) → Wish
   a_frame : (index : ℕ) → (thread : Option (List ℕ)) → Wish
   a_trace : Wish
   folded_stacks : (thread : Option (List ℕ)) → Wish
+  top_scopes : (thread : Option (List ℕ)) → Wish
+
+abbrev pub is_dot : ℕ → Bool
+is_dot byte = byte == 46
+
+abbrev pub behind_dot : List ℕ → Option (List ℕ)
+behind_dot [] = None
+behind_dot (byte ∷ bytes) = if is_dot byte then Some bytes else None
+
+abbrev pub from_to : Option ℕ → Option ℕ → Option Indices
+from_to (Some a) (Some b) = if nat_lt a b then Some (record { first = a; last = b - 1 }) else None
+from_to _ _ = None
+
+-- `A..B`: from A on, and below B
+abbrev pub range_in : List ℕ → Option Indices
+range_in word =
+    from_to (number_in (before_first is_dot word))
+    (option_and_then number_in (behind_dot (after_first is_dot word)))
+
+-- so many of the slowest frames, or those with these indices
+abbrev pub number_or_range : Option ℕ → List ℕ → Option Wish
+number_or_range (Some n) more = Some (slowest_frames n)
+number_or_range None more = option_map (λ i. some_frames (Some i)) (range_in more)
+
+abbrev pub frames_in : List ℕ → Option Wish
+frames_in more = number_or_range (number_in more) more
 
 -- a word that is followed by the path alone
 abbrev pub list_in : List ℕ → Option Wish
 list_in word =
     if bytes_eq word (codes "threads") then Some all_threads else
-    if bytes_eq word (codes "frames") then Some all_frames else
+    if bytes_eq word (codes "frames") then Some (some_frames None) else
     if bytes_eq word (codes "trace") then Some a_trace else
-    if bytes_eq word (codes "folded") then Some (folded_stacks None) else None
+    if bytes_eq word (codes "folded") then Some (folded_stacks None) else
+    if bytes_eq word (codes "top") then Some (top_scopes None) else None
 
 -- a word that is followed by the path, an index, and perhaps a thread
 abbrev pub frame_in : List ℕ → List ℕ → Option (List ℕ) → Option Wish
@@ -48,8 +77,9 @@ frame_in word index thread =
 -- a word that is followed by the path and one more word
 abbrev pub detailed_in : List ℕ → List ℕ → Option Wish
 detailed_in word more =
-    if bytes_eq word (codes "frames") then option_map (λ n. slowest_frames n) (number_in more) else
+    if bytes_eq word (codes "frames") then frames_in more else
     if bytes_eq word (codes "folded") then Some (folded_stacks (Some more)) else
+    if bytes_eq word (codes "top") then Some (top_scopes (Some more)) else
     frame_in word more None
 
 -- what to show, and the path of the file
@@ -67,11 +97,12 @@ request_in _ = None
 -- a view whose thread is borrowed, and a request with it
 abbrev pub wish_of : View → Wish
 wish_of Threads = all_threads
-wish_of Frames = all_frames
+wish_of (Frames indices) = some_frames indices
 wish_of (Slowest limit) = slowest_frames limit
 wish_of (Frame index thread) = a_frame index (option_map (λ t. t.now) thread)
 wish_of Trace = a_trace
 wish_of (Folded thread) = folded_stacks (option_map (λ t. t.now) thread)
+wish_of (Top thread) = top_scopes (option_map (λ t. t.now) thread)
 
 abbrev pub request_of : View × Bor (List ℕ) → Request
 request_of t = (wish_of t.0, t.1.now)

@@ -7,12 +7,13 @@ use Rattle.std.specs.Str.{bytes_eq}
 use Rattle.puffin_data.specs.Forest.{Span, Forest}
 use Rattle.puffin_data.specs.Walk.PlacedScopes.{ScopeInContext, nested_in}
 use Rattle.puffin_threads.specs.Details.Collection.{Collection}
-use Rattle.puffin_threads.specs.Thread.ThreadKey.{ThreadKey}
 use Rattle.puffin_view.specs.View.Stats.{cut}
 use Rattle.puffin_look.specs.OpenFrame.{OpenFrame}
-use Rattle.puffin_look.specs.Trees.{TreeFrame, AreRead}
+use Rattle.puffin_look.specs.Trees.{TreeFrame}
+use Rattle.puffin_look.specs.Wanted.{AreTaken}
+use Rattle.puffin_look.specs.declared.wanted.Wanted.{Wanted}
 use Rattle.puffin_look.specs.Names.{name_or_id}
-use Rattle.puffin_look.specs.FrameTree.{wanted_streams, time_of, found_in}
+use Rattle.puffin_look.specs.FrameTree.{time_of, found_in}
 
 -- ---- a path
 
@@ -98,14 +99,14 @@ path_line path time = path ++ ((codes " " ++ decimal time) ++ codes "\n")
 abbrev pub folded_lines : List Part → List ℕ
 folded_lines all = flat_map (λ path. path_line path (own_time all path)) (paths_in all)
 
--- The paths of the scopes of the wanted threads, in all frames; `found` is whether there is a stream of such a thread.
-abbrev pub IsFolded : Collection → Option ThreadKey → Bool → List OpenFrame → List ℕ → Type 0
-IsFolded known thread found frames text =
+-- The paths of the scopes of the wanted threads, in all wanted frames; `found` is whether there is a stream of such a thread.
+abbrev pub IsFolded : Collection → Wanted → Bool → List OpenFrame → List ℕ → Type 0
+IsFolded known wanted found frames text =
     (trees : List TreeFrame)
-    × AreRead (wanted_streams thread) frames trees
+    × AreTaken wanted frames trees
     × (text ≡ folded_lines (parts known trees))
     × (found ≡ found_in false trees)
 
 -- the folded stacks of some frames, whether there is a stream or not
-abbrev pub IsAnyFolded : Collection → Option ThreadKey → List OpenFrame → List ℕ → Type 0
-IsAnyFolded known thread frames text = (found : Bool) × IsFolded known thread found frames text
+abbrev pub IsAnyFolded : Collection → Wanted → List OpenFrame → List ℕ → Type 0
+IsAnyFolded known wanted frames text = (found : Bool) × IsFolded known wanted found frames text

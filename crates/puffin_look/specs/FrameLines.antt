@@ -1,10 +1,12 @@
 -- The line of each frame of a file.
-use Rattle.std.specs.Prelude.{◌≡◌, ℕ, ℤ, ◌-ℤ◌, List, ◌++◌, codes}
+use Rattle.std.specs.Prelude.{◌≡◌, ℕ, ℤ, ◌-ℤ◌, List, ◌++◌, codes, Option}
 use Rattle.std.specs.Fmt.{decimal, signed_decimal}
 use Rattle.std.specs.FinMap as map
 use Rattle.std.specs.List.{flat_map}
 use Rattle.puffin_frames.specs.declared.frame_data.meta.FrameMeta.{FrameMeta}
 use Rattle.puffin_look.specs.OpenFrame.{OpenFrame}
+use Rattle.puffin_look.specs.Wanted.{frames_within}
+use Rattle.puffin_look.specs.declared.wanted.Indices.{Indices}
 
 -- the parts of a frame's line
 abbrev pub counts_text : ℕ → ℕ → ℕ → List ℕ
@@ -31,5 +33,6 @@ frame_line frame = meta_text frame.meta (map.len frame.streams)
 abbrev pub frame_lines : List OpenFrame → List ℕ
 frame_lines frames = flat_map frame_line frames
 
-abbrev pub AreFrameLines : List OpenFrame → List ℕ → Type 0
-AreFrameLines frames text = text ≡ frame_lines frames
+-- a line for each frame with one of these indices
+abbrev pub AreFrameLines : Option Indices → List OpenFrame → List ℕ → Type 0
+AreFrameLines indices frames text = text ≡ frame_lines (frames_within indices frames)

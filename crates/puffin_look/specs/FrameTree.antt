@@ -1,5 +1,5 @@
 -- A frame of a file as a tree of scopes.
-use Rattle.std.specs.Prelude.{◌≡◌, ℕ, zero, suc, ◌*◌, ◌/◌, ℤ, ◌-ℤ◌, unsigned_abs, Bool, true, false, List, [], ◌∷◌, ◌++◌, length, codes, fold, filter, ◌==◌, if◌then◌else◌, Option, Some, None}
+use Rattle.std.specs.Prelude.{◌≡◌, ℕ, zero, suc, ◌*◌, ◌/◌, ℤ, ◌-ℤ◌, unsigned_abs, Bool, true, false, List, [], ◌∷◌, ◌++◌, length, codes, fold}
 use Rattle.std.specs.Fmt.{decimal, signed_decimal}
 use Rattle.std.specs.FinMap as map
 use Rattle.std.specs.List.{flat_map}
@@ -7,31 +7,16 @@ use Rattle.puffin_data.specs.Forest.{Span, Forest}
 use Rattle.puffin_data.specs.Text.{text_in}
 use Rattle.puffin_data.specs.Walk.PlacedScopes.{ScopeInContext, nested_in}
 use Rattle.puffin_threads.specs.Details.Collection.{Collection}
-use Rattle.puffin_threads.specs.Thread.ThreadKey.{ThreadKey, has_same_key}
 use Rattle.puffin_frames.specs.declared.frame_data.meta.FrameMeta.{FrameMeta}
 use Rattle.puffin_look.specs.OpenFrame.{OpenFrame}
-use Rattle.puffin_look.specs.Trees.{Tree, TreeFrame, Pick, all_streams, AreRead}
+use Rattle.puffin_look.specs.Trees.{Tree, TreeFrame}
+use Rattle.puffin_look.specs.Wanted.{AreTaken}
+use Rattle.puffin_look.specs.declared.wanted.Wanted.{Wanted}
 use Rattle.puffin_look.specs.Escapes.{escaped}
 use Rattle.puffin_look.specs.Names.{name_or_id}
 use Rattle.puffin_look.specs.ThreadLines.{thread_text}
 use Rattle.puffin_look.specs.FrameLines.{range_text, duration_text}
 use Rattle.puffin_look.specs.Trace.{digit}
-
--- ---- which streams
-
--- all threads, or this one
-abbrev pub is_wanted : Option ThreadKey → ThreadKey → Bool
-is_wanted None key = true
-is_wanted (Some wanted) key = has_same_key wanted key
-
--- the streams of the wanted threads
-abbrev pub wanted_streams : Option ThreadKey → Pick
-wanted_streams thread frame = filter (λ e. is_wanted thread e.0) (all_streams frame)
-
--- the same in the frames with this index, and none in others
-abbrev pub streams_at : ℕ → Option ThreadKey → Pick
-streams_at index thread frame =
-    if frame.meta.frame_index == index then wanted_streams thread frame else []
 
 -- ---- a scope
 
@@ -99,10 +84,6 @@ head_text meta =
 abbrev pub trees_text : Collection → TreeFrame → List ℕ
 trees_text known f = head_text f.meta ++ flat_map (tree_text known f.meta.range_ns) f.trees
 
--- a frame with this index, or nothing
-abbrev pub frame_text : Collection → ℕ → TreeFrame → List ℕ
-frame_text known index f = if f.meta.frame_index == index then trees_text known f else []
-
 abbrev pub has_trees : Bool → List Tree → Bool
 has_trees before [] = before
 has_trees before (t ∷ ts) = true
@@ -111,10 +92,10 @@ has_trees before (t ∷ ts) = true
 abbrev pub found_in : Bool → List TreeFrame → Bool
 found_in before frames = fold (λ found f. has_trees found f.trees) before frames
 
--- The frames with this index, each with the wanted threads; `found` is whether there is one.
-abbrev pub IsFrameText : Collection → ℕ → Option ThreadKey → Bool → List OpenFrame → List ℕ → Type 0
-IsFrameText known index thread found frames text =
+-- The wanted frames, each with the wanted threads; `found` is whether there is one.
+abbrev pub IsFrameText : Collection → Wanted → Bool → List OpenFrame → List ℕ → Type 0
+IsFrameText known wanted found frames text =
     (trees : List TreeFrame)
-    × AreRead (streams_at index thread) frames trees
-    × (text ≡ flat_map (frame_text known index) trees)
+    × AreTaken wanted frames trees
+    × (text ≡ flat_map (trees_text known) trees)
     × (found ≡ found_in false trees)

@@ -6,6 +6,7 @@ pub mod ThreadLines
 pub mod ThreadNames
 pub mod FrameLines
 pub mod Trees
+pub mod Wanted
 pub mod Names
 pub mod Trace
 pub mod FrameTree

@@ -11,15 +11,16 @@ use Rattle.puffin_data.specs.Forest.{Span, Forest}
 use Rattle.puffin_data.specs.Text.{text_in}
 use Rattle.puffin_data.specs.Walk.PlacedScopes.{ScopeInContext, nested_in}
 use Rattle.puffin_threads.specs.Details.Collection.{Collection}
-use Rattle.puffin_threads.specs.Thread.ThreadKey.{ThreadKey}
 use Rattle.puffin_frames.specs.Packet.Stored.{Stored}
 use Rattle.puffin_view.specs.View.File.{file_at, TookFrames, FailsToRead}
 use Rattle.puffin_view.specs.View.Stats.{cut}
 use Rattle.puffin_look.specs.OpenFrame.{OpenFrame, AreOpened}
 use Rattle.puffin_look.specs.Printed.{Begins, HasFaultBehind}
-use Rattle.puffin_look.specs.Trees.{TreeFrame, AreRead, RefusesUnread}
+use Rattle.puffin_look.specs.Trees.{TreeFrame}
+use Rattle.puffin_look.specs.Wanted.{AreTaken, RefusesTaken}
+use Rattle.puffin_look.specs.declared.wanted.Wanted.{Wanted}
 use Rattle.puffin_look.specs.Names.{name_or_id}
-use Rattle.puffin_look.specs.FrameTree.{wanted_streams, time_of, length_of}
+use Rattle.puffin_look.specs.FrameTree.{time_of, length_of}
 use Rattle.puffin_look.specs.Buckets.{bucket_of, last_of}
 use Rattle.puffin_look.specs.declared.top.TopRow.{TopRow}
 use Rattle.puffin_look.specs.declared.top.Top.{Top}
@@ -132,29 +133,34 @@ AreRowsOf all (name ∷ names) (row ∷ rows) =
 abbrev pub with_length : ℕ → TreeFrame → ℕ
 with_length whole f = cut (whole + length_of f.meta.range_ns)
 
+-- the number of frames
+abbrev pub with_one : ℕ → TreeFrame → ℕ
+with_one count f = cut (count + 1)
+
 -- ---- a file
 
--- The scopes of the wanted threads, in all frames, by name.
-pub record IsTop (known : Collection) (thread : Option ThreadKey) (texts : Bool)
+-- The scopes of the wanted threads, in all wanted frames, by name.
+pub record IsTop (known : Collection) (wanted : Wanted) (texts : Bool)
     (unread left : Option (List ℕ)) (top : Top) : Type 0 where
   pub stored : List Stored
   pub took : TookFrames file_at unread left stored
   pub frames : List OpenFrame
   pub opens : AreOpened stored frames
   pub trees : List TreeFrame
-  pub read : AreRead (wanted_streams thread) frames trees
+  pub taken : AreTaken wanted frames trees
   pub rows : AreRowsOf (pieces known texts trees) (names_in (pieces known texts trees)) top.rows.items
   pub whole : top.whole ≡ fold with_length 0 trees
+  pub count : top.frames ≡ fold with_one 0 trees
 
 -- The reader or memory failed; or this is the first fault of the file.
-pub record StopsReading (thread : Option ThreadKey) (unread left : Option (List ℕ))
+pub record StopsReading (wanted : Wanted) (unread left : Option (List ℕ))
     (fault : FileError) : Type 0 where
   pub stored : List Stored
   pub begins : Begins unread stored
   pub frames : List OpenFrame
   pub opens : AreOpened stored frames
   pub outcome : IsOutside fault
-      ⊎ HasFaultBehind (RefusesUnread (wanted_streams thread)) unread left stored frames fault
+      ⊎ HasFaultBehind (RefusesTaken wanted) unread left stored frames fault
       ⊎ (FailsToRead file_at unread left fault × (stored ≡ []))
 
 -- ---- order

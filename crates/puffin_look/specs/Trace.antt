@@ -12,6 +12,8 @@ use Rattle.puffin_threads.specs.Thread.ThreadKey.{ThreadKey, key_cmp}
 use Rattle.puffin_frames.specs.declared.frame_data.meta.FrameMeta.{FrameMeta}
 use Rattle.puffin_look.specs.OpenFrame.{OpenFrame}
 use Rattle.puffin_look.specs.Trees.{Tree, TreeFrame, AreRead, all_streams, outputs}
+use Rattle.puffin_look.specs.Wanted.{frames_within}
+use Rattle.puffin_look.specs.declared.wanted.Indices.{Indices}
 use Rattle.puffin_look.specs.declared.overview.Overview.{Overview}
 use Rattle.puffin_look.specs.Names.{name_or_id}
 use Rattle.puffin_look.specs.ThreadLines.{start_text}
@@ -135,9 +137,9 @@ trace_head =
 abbrev pub trace_end : List ℕ
 trace_end = codes "\n]}\n"
 
--- the trace of these frames
-abbrev pub IsTrace : Overview → List OpenFrame → List ℕ → Type 0
-IsTrace o frames text =
+-- the trace of those of these frames that have these indices
+abbrev pub IsTrace : Overview → Option Indices → List OpenFrame → List ℕ → Type 0
+IsTrace o indices frames text =
     (trees : List TreeFrame)
-    × AreRead all_streams frames trees
+    × AreRead all_streams (frames_within indices frames) trees
     × (text ≡ trace_head ++ (events o map.empty trees ++ trace_end))

@@ -58,10 +58,6 @@ pub record AreUnread (entries : List Entry) (fault : Error) : Type 0 where
   pub spelled : AreSpelled earlier trees
   pub faulty : IsFault entry.1.form entry.1.bytes fault
 
--- a frame is refused with the fault of its first stream that isn't a forest
-abbrev pub RefusesUnread : Pick → List OpenFrame → OpenFrame → Error → Type 0
-RefusesUnread pick frames frame fault = AreUnread (pick frame) fault
-
 -- What items give, one after the other. Each is seen in a state that those before it leave.
 abbrev pub outputs : {S X Y : Type 0} → (S → X → List Y) → (S → X → S) → S → List X → List Y
 outputs out next s [] = []

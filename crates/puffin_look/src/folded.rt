@@ -1,24 +1,23 @@
 //! Prints the folded stacks of a file.
 
-ghost use Rattle.std.specs.Prelude.{◌≡◌, ◌++◌, ◌+◌, ◌-◌, ◌⊎◌, option_map, OnOk, IfOk, IfErr};
+ghost use Rattle.std.specs.Prelude.{◌≡◌, ◌++◌, ◌+◌, ◌-◌, ◌⊎◌, OnOk, IfOk, IfErr};
 ghost use Rattle.std.specs.List.{flat_map};
 ghost use Rattle.puffin_data.specs.declared.error.Error.{Error};
 ghost use Rattle.puffin_data.specs.Device.{CanFail, TookNothing};
 ghost use Rattle.puffin_data.specs.Honesty.{facts_of};
 ghost use Rattle.puffin_threads.specs.Thread.ThreadKey.{key_of};
 ghost use Rattle.puffin_look.specs.Printed.{IsPrinted, IsStopped, IsCutOff};
-ghost use Rattle.puffin_look.specs.Trees.{RefusesUnread};
-ghost use Rattle.puffin_look.specs.FrameTree.{wanted_streams};
+ghost use Rattle.puffin_look.specs.Wanted.{RefusesTaken};
 ghost use Rattle.puffin_look.specs.Slowest.{IsNoText};
 ghost use Rattle.puffin_look.specs.Folded.{path_line, IsFolded, IsAnyFolded};
 ghost use Rattle.puffin_look.specs.inner.Stacks.{row_text, rows_of};
 ghost use Rattle.puffin_look.specs.inner.Foldings.{StepsStack, IsStackFault};
 
-use crate::frame_tree::is_wanted;
 use crate::listing::{Listing, list_frames};
 use crate::overview::Overview;
 use crate::stacks::{Stacks, Times};
 use crate::text::push_count;
+use crate::wanted::Wanted;
 use puffin_data::data::{Drain, Source, StreamInfo, write_all};
 use puffin_data::{FileError, Result as Answer};
 use puffin_frames::frame_data::UnpackedFrameData;
@@ -29,8 +28,7 @@ use std::alloc::{AllocError, Global};
 #[derive(Drop)]
 struct Folding<'t> {
     stacks: Stacks<'t>,
-    /// The thread that is wanted, or `None` if all are.
-    thread: Option<&'t ThreadInfo>,
+    wanted: &'t Wanted,
     is_found: bool,
 }
 
@@ -42,7 +40,7 @@ impl<'t> Folding<'t> {
         ensures err { IfErr result (λ e.
             (e ≡ Error.Memory) ⊎ IsStackFault self.old (key_of thread.now) (facts_of info.now) e) }
     {
-        if is_wanted(self.thread, thread) {
+        if self.wanted.has_thread(thread) {
             self.stacks.add_stream(info)?;
             self.is_found = true;
         }
@@ -106,7 +104,7 @@ fn lines_of(alloc: Global, stacks: &Stacks) -> Result<Vec<u8>, AllocError>
 /// of the [overview](crate::read_overview), or `#` and the id, with a `_` in place of each `;`, each blank and each control character. The paths
 /// are in the order in which they are first met.
 ///
-/// All threads count, or if `thread` is given, only that one. Returns whether there is one.
+/// The wanted threads of the wanted frames count. Returns whether there is one.
 ///
 /// Fails as [`print_trace`](crate::print_trace) does; only the streams that count have to consist of scopes. A line needs all
 /// frames, so nothing is printed then, except that a prefix of the lines is written if a write fails.
@@ -115,22 +113,18 @@ pub fn print_folded<S: Source, D: Drain>(
     overview: &Overview,
     source: &mut S,
     drain: &mut D,
-    thread: Option<&ThreadInfo>,
+    wanted: &Wanted,
 ) -> Result<bool, FileError>
     requires source { CanFail S.failures source.old }
     requires drain { CanFail D.failures drain.old }
     ensures ok { IfOk result (λ found.
-        IsPrinted (IsFolded overview.now.details (option_map (λ t. key_of t.now) thread.entry)
-        found) (S.remaining source.old) (S.remaining source.new) (D.contents drain.old)
-        (D.contents drain.new)) }
+        IsPrinted (IsFolded overview.now.details wanted.now found) (S.remaining source.old)
+        (S.remaining source.new) (D.contents drain.old) (D.contents drain.new)) }
     ensures err { IfErr result (λ e.
-        IsStopped IsNoText
-        (RefusesUnread (wanted_streams (option_map (λ t. key_of t.now) thread.entry)))
-        (S.remaining source.old) (S.remaining source.new) (D.contents drain.old)
-        (D.contents drain.new) e
+        IsStopped IsNoText (RefusesTaken wanted.now) (S.remaining source.old)
+        (S.remaining source.new) (D.contents drain.old) (D.contents drain.new) e
         ⊎ ((e ≡ FileError.Io)
-        × IsCutOff (IsAnyFolded overview.now.details
-        (option_map (λ t. key_of t.now) thread.entry)) (S.remaining source.old)
+        × IsCutOff (IsAnyFolded overview.now.details wanted.now) (S.remaining source.old)
         (S.remaining source.new) (D.contents drain.old) (D.contents drain.new))) }
     // `Io` means that the reader or the writer failed in this call, or that the writer took no bytes.
     ensures io { (result ≡ Err FileError.Io) → (S.failures source.new ≡ S.failures source.old + 1)
@@ -141,10 +135,10 @@ pub fn print_folded<S: Source, D: Drain>(
 {
     let mut folding = Folding {
         stacks: Stacks::new(alloc, &overview.details),
-        thread,
+        wanted,
         is_found: false,
     };
-    list_frames(alloc, source, drain, &mut folding)?;
+    list_frames(alloc, source, drain, wanted.frames, &mut folding)?;
     let lines = lines_of(alloc, &folding.stacks)?;
     write_all(drain, &lines)?;
     Ok(folding.is_found)

@@ -1,38 +1,27 @@
 //! Prints a frame of a file as a tree of scopes.
 
-ghost use Rattle.std.specs.Prelude.{◌≡◌, false, option_map, ◌++◌, ◌+◌, ◌⊎◌, ◌-ℤ◌, FitsSigned, IsOkUnless, OnOk, IfOk, IfErr};
+ghost use Rattle.std.specs.Prelude.{◌≡◌, false, ◌++◌, ◌+◌, ◌⊎◌, ◌-ℤ◌, FitsSigned, IsOkUnless, OnOk, IfOk, IfErr};
 ghost use Rattle.std.specs.Int.{w64};
-ghost use Rattle.std.specs.FinMap as map;
 ghost use Rattle.puffin_data.specs.declared.error.Error.{Error};
 ghost use Rattle.puffin_data.specs.Device.{CanFail, TookNothing};
 ghost use Rattle.puffin_data.specs.Honesty.{facts_of};
 ghost use Rattle.puffin_threads.specs.Thread.ThreadKey.{key_of};
-ghost use Rattle.puffin_frames.specs.Frame.Contents.{streams_held};
 ghost use Rattle.puffin_look.specs.Printed.{IsPrinted, IsStopped};
-ghost use Rattle.puffin_look.specs.Trees.{AreUnread, RefusesUnread};
-ghost use Rattle.puffin_look.specs.FrameTree.{is_wanted, streams_at, head_text, IsFrameText};
-ghost use Rattle.puffin_look.specs.inner.FrameTrees.{wanted_of, wanted_in, StepsTree, IsTreeFault, AddsTrees, IsAnyFrameText};
+ghost use Rattle.puffin_look.specs.Wanted.{RefusesTaken};
+ghost use Rattle.puffin_look.specs.FrameTree.{head_text, IsFrameText};
+ghost use Rattle.puffin_look.specs.inner.FrameTrees.{StepsTree, IsTreeFault, IsAnyFrameText};
 
 use crate::frames::{push_duration, push_range};
 use crate::listing::{Listing, list_frames};
 use crate::overview::Overview;
 use crate::text::push_count;
 use crate::tree::Lines;
+use crate::wanted::Wanted;
 use puffin_data::data::{Drain, Source, StreamInfo};
-use puffin_data::{FileError, FrameIndex, Result as Answer};
+use puffin_data::{FileError, Result as Answer};
 use puffin_frames::frame_data::UnpackedFrameData;
 use puffin_threads::thread_profiler::ThreadInfo;
 use std::alloc::{AllocError, Global};
-
-/// Returns whether a thread is printed: any thread if none is asked for, and else that one.
-pub(crate) fn is_wanted(wanted: Option<&ThreadInfo>, thread: &ThreadInfo) -> bool
-    ensures { result ≡ is_wanted (option_map (λ t. key_of t.now) wanted.entry) (key_of thread.now) }
-{
-    match wanted {
-        None => true,
-        Some(wanted) => wanted == thread,
-    }
-}
 
 /// Appends a frame's index, range and duration.
 fn push_head(text: &mut Vec<u8>, frame: &UnpackedFrameData) -> Result<(), AllocError>
@@ -43,13 +32,11 @@ fn push_head(text: &mut Vec<u8>, frame: &UnpackedFrameData) -> Result<(), AllocE
     push_duration(text, frame.duration_ns())
 }
 
-/// The frames with an index, as far as they are still to be written.
+/// The wanted frames, as far as they are still to be written.
 #[derive(Drop)]
 struct Trees<'t> {
     lines: Lines<'t>,
-    index: FrameIndex,
-    /// The thread that is wanted, or `None` if all are.
-    thread: Option<&'t ThreadInfo>,
+    wanted: &'t Wanted,
     is_found: bool,
 }
 
@@ -61,25 +48,9 @@ impl<'t> Trees<'t> {
         ensures err { IfErr result (λ e.
             (e ≡ Error.Memory) ⊎ IsTreeFault self.old (key_of thread.now) (facts_of info.now) e) }
     {
-        if is_wanted(self.thread, thread) {
+        if self.wanted.has_thread(thread) {
             self.lines.add_stream(thread, info)?;
             self.is_found = true;
-        }
-        Ok(())
-    }
-
-    /// Appends a frame with its wanted threads.
-    fn add_trees(&mut self, frame: &UnpackedFrameData) -> Answer<()>
-        ensures ok { OnOk result (
-            AddsTrees self.old self.new frame.now.meta (map.entries (streams_held frame.now))) }
-        ensures err { IfErr result (λ e.
-            (e ≡ Error.Memory)
-            ⊎ AreUnread (wanted_in self.old (map.entries (streams_held frame.now))) e) }
-    {
-        push_head(&mut self.lines.text, frame)?;
-        self.lines.range_ns = frame.meta.range_ns;
-        'streams: for (thread, info) in frame.thread_streams.iter() {
-            self.add_stream(thread, info)?;
         }
         Ok(())
     }
@@ -99,8 +70,10 @@ impl<'t> Listing for Trees<'t> {
     ghost takes_more = { trees_more };
 
     fn add(&mut self, frame: &UnpackedFrameData) -> Answer<()> {
-        if frame.meta.frame_index == self.index {
-            self.add_trees(frame)?;
+        push_head(&mut self.lines.text, frame)?;
+        self.lines.range_ns = frame.meta.range_ns;
+        'streams: for (thread, info) in frame.thread_streams.iter() {
+            self.add_stream(thread, info)?;
         }
         Ok(())
     }
@@ -114,11 +87,10 @@ impl<'t> Listing for Trees<'t> {
     }
 }
 
-/// Prints the frames of a file that have this index: for each a line with its range and duration, for each of its threads a line,
+/// Prints the wanted frames of a file: for each a line with its range and duration, for each of its threads a line,
 /// and for each scope of the thread a line, indented by two blanks for each scope that it is nested in: its name by the details
 /// of the [overview](crate::read_overview), or `#` and the id; its text in parentheses, unless it is empty; its start in the frame,
-/// its duration, and its share of what it is nested in. Times are in nanoseconds. If `thread` is given, only that thread
-/// is printed; [`threads_named`](crate::threads_named) finds it by its name.
+/// its duration, and its share of what it is nested in. Times are in nanoseconds.
 ///
 /// Returns whether a thread was printed. Fails as [`print_trace`](crate::print_trace) does; only the streams that are printed have
 /// to consist of scopes.
@@ -127,20 +99,15 @@ pub fn print_frame<S: Source, D: Drain>(
     overview: &Overview,
     source: &mut S,
     drain: &mut D,
-    index: FrameIndex,
-    thread: Option<&ThreadInfo>,
+    wanted: &Wanted,
 ) -> Result<bool, FileError>
     requires source { CanFail S.failures source.old }
     requires drain { CanFail D.failures drain.old }
     ensures ok { IfOk result (λ found.
-        IsPrinted (IsFrameText overview.now.details index
-        (option_map (λ t. key_of t.now) thread.entry) found)
-        (S.remaining source.old) (S.remaining source.new) (D.contents drain.old)
-        (D.contents drain.new)) }
+        IsPrinted (IsFrameText overview.now.details wanted.now found) (S.remaining source.old)
+        (S.remaining source.new) (D.contents drain.old) (D.contents drain.new)) }
     ensures err { IfErr result (λ e.
-        IsStopped (IsAnyFrameText overview.now.details index
-        (option_map (λ t. key_of t.now) thread.entry))
-        (RefusesUnread (streams_at index (option_map (λ t. key_of t.now) thread.entry)))
+        IsStopped (IsAnyFrameText overview.now.details wanted.now) (RefusesTaken wanted.now)
         (S.remaining source.old) (S.remaining source.new) (D.contents drain.old)
         (D.contents drain.new) e) }
     // `Io` means that the reader or the writer failed in this call, or that the writer took no bytes.
@@ -156,10 +123,9 @@ pub fn print_frame<S: Source, D: Drain>(
             known: &overview.details,
             range_ns: (0, 0),
         },
-        index,
-        thread,
+        wanted,
         is_found: false,
     };
-    list_frames(alloc, source, drain, &mut trees)?;
+    list_frames(alloc, source, drain, wanted.frames, &mut trees)?;
     Ok(trees.is_found)
 }

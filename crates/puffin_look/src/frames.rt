@@ -9,6 +9,7 @@ ghost use Rattle.puffin_look.specs.FrameLines.{counts_text, range_text, duration
 
 use crate::listing::{Listing, list_frames};
 use crate::text::{push_count, push_moment};
+use crate::wanted::Indices;
 use puffin_data::data::{Drain, Source};
 use puffin_data::{FileError, FrameIndex, NanoSecond, Result as Answer};
 use puffin_frames::frame_data::UnpackedFrameData;
@@ -100,8 +101,8 @@ impl Listing for FrameLines {
     }
 }
 
-/// Prints a line for each frame of a file, each as soon as it was read: its index, the number of its threads and scopes, its range
-/// and duration, in nanoseconds.
+/// Prints a line for each frame of a file with one of these indices, or for all, each as soon as it was read: its index, the number
+/// of its threads and scopes, its range and duration, in nanoseconds.
 ///
 /// Fails with the first fault of the file, as [`FrameReader::next`](puffin_view::profile_view::FrameReader::next) does, or with
 /// `Compressed` or `BadStreams` for a frame that can't be unpacked. The lines of the frames before it are then printed. Fails with
@@ -110,15 +111,16 @@ pub fn print_frames<S: Source, D: Drain>(
     alloc: Global,
     source: &mut S,
     drain: &mut D,
+    indices: Option<Indices>,
 ) -> Result<(), FileError>
     requires source { CanFail S.failures source.old }
     requires drain { CanFail D.failures drain.old }
     ensures ok { OnOk result (
-        IsPrinted AreFrameLines (S.remaining source.old) (S.remaining source.new)
+        IsPrinted (AreFrameLines indices) (S.remaining source.old) (S.remaining source.new)
         (D.contents drain.old) (D.contents drain.new)) }
     ensures err { IfErr result (λ e.
-        IsStopped AreFrameLines RefusesNone (S.remaining source.old) (S.remaining source.new)
-        (D.contents drain.old) (D.contents drain.new) e) }
+        IsStopped (AreFrameLines indices) RefusesNone (S.remaining source.old)
+        (S.remaining source.new) (D.contents drain.old) (D.contents drain.new) e) }
     // `Io` means that the reader or the writer failed in this call, or that the writer took no bytes.
     ensures io { (result ≡ Err FileError.Io) → (S.failures source.new ≡ S.failures source.old + 1)
         ⊎ ((D.failures drain.new ≡ D.failures drain.old + 1) ⊎ TookNothing D.takes drain.new) }
@@ -129,5 +131,5 @@ pub fn print_frames<S: Source, D: Drain>(
     let mut lines = FrameLines {
         text: Vec::new(alloc),
     };
-    list_frames(alloc, source, drain, &mut lines)
+    list_frames(alloc, source, drain, indices, &mut lines)
 }

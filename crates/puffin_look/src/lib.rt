@@ -35,15 +35,17 @@ mod top;
 mod top_table;
 mod trace;
 mod tree;
+mod wanted;
 
 pub use folded::print_folded;
 pub use frame_tree::print_frame;
 pub use frames::print_frames;
 pub use overview::{Overview, read_overview};
 pub use slowest::print_slowest;
-pub use task::{TopChoice, View, read_top_words, read_words};
+pub use task::{Options, View, order_of, range, read_words, take_options};
 pub use thread_names::threads_named;
 pub use threads::print_threads;
 pub use top::{By, Top, TopRow, read_top};
 pub use top_table::print_top;
 pub use trace::print_trace;
+pub use wanted::{Indices, Wanted};

@@ -155,7 +155,7 @@ pub fn print_slowest<S: Source, D: Drain>(
         rows: Vec::new(alloc),
         limit,
     };
-    list_frames(alloc, source, drain, &mut slowest)?;
+    list_frames(alloc, source, drain, None, &mut slowest)?;
     let lines = lines_of(alloc, &slowest.rows)?;
     write_all(drain, &lines)
 }

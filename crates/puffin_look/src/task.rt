@@ -1,10 +1,11 @@
 //! The program's arguments.
 
-ghost use Rattle.std.specs.Prelude.{◌≡◌, ◌^◌, option_map, map};
+ghost use Rattle.std.specs.Prelude.{◌≡◌, ◌^◌, ◌<◌, length, Some, option_map, map, IfSome};
 ghost use Rattle.std.specs.String.{string_bytes};
-ghost use Rattle.puffin_look.specs.Arguments.{number_in, list_in, frame_in, detailed_in, request_in, wish_of, request_of, order_in};
+ghost use Rattle.puffin_look.specs.Arguments.{number_in, list_in, frame_in, detailed_in, request_in, wish_of, request_of, behind_dot, from_to, range_in, frames_in, order_in};
 
 use crate::top::By;
+use crate::wanted::Indices;
 use puffin_data::FrameIndex;
 
 /// What the program shows of a file.
@@ -12,16 +13,18 @@ use puffin_data::FrameIndex;
 pub enum View<'w> {
     /// A line for each thread.
     Threads,
-    /// A line for each frame.
-    Frames,
+    /// A line for each frame with one of these indices, or for each frame.
+    Frames(Option<Indices>),
     /// The lines of so many of the slowest frames.
     Slowest(usize),
-    /// The frame with this index, with all threads or the one with this text.
+    /// The frame with this index, with all threads or those that this word names.
     Frame(FrameIndex, Option<&'w str>),
     /// A trace.
     Trace,
-    /// The folded stacks of all threads, or of the one with this text.
+    /// The folded stacks of all threads, or of those that this word names.
     Folded(Option<&'w str>),
+    /// The scopes by name, of all threads or of those that this word names.
+    Top(Option<&'w str>),
 }
 
 /// Parses a decimal number without a sign, below `2^64`.
@@ -34,15 +37,55 @@ fn number(word: &str) -> Option<u64>
     word.parse::<u64>().ok()
 }
 
+/// Returns what is behind a point.
+fn behind_dot(word: &str) -> Option<&str>
+    ensures { option_map (λ t. t.now) result ≡ behind_dot word.now }
+{
+    word.strip_prefix('.')
+}
+
+/// Returns the indices from the first on and below the end, if there is one.
+fn from_to(first: u64, end: u64) -> Option<Indices>
+    ensures { result ≡ from_to (Some first) (Some end) }
+{
+    if first < end {
+        Some(Indices {
+            first,
+            last: end - 1,
+        })
+    } else {
+        None
+    }
+}
+
+/// Parses `A..B`: the indices from `A` on and below `B`. There has to be one.
+pub fn range(word: &str) -> Option<Indices>
+    ensures { result ≡ range_in word.now }
+{
+    let (first, rest) = word.split_once('.')?;
+    from_to(number(first)?, number(behind_dot(rest)?)?)
+}
+
+/// Parses what follows the path behind `frames`: how many of the slowest frames are listed, or which ones.
+fn frames_of<'w>(more: &str) -> Option<View<'w>>
+    ensures { option_map wish_of result ≡ frames_in more.now }
+{
+    match number(more) {
+        Some(limit) => Some(View::Slowest(limit as usize)),
+        None => Some(View::Frames(Some(range(more)?))),
+    }
+}
+
 /// Parses a word that is followed by the path alone.
 fn list_of<'w>(word: &str) -> Option<View<'w>>
     ensures { option_map wish_of result ≡ list_in word.now }
 {
     match word {
         "threads" => Some(View::Threads),
-        "frames" => Some(View::Frames),
+        "frames" => Some(View::Frames(None)),
         "trace" => Some(View::Trace),
         "folded" => Some(View::Folded(None)),
+        "top" => Some(View::Top(None)),
         _ => None,
     }
 }
@@ -52,8 +95,9 @@ fn detailed_of<'w>(word: &str, more: &'w str) -> Option<View<'w>>
     ensures { option_map wish_of result ≡ detailed_in word.now more.now }
 {
     match word {
-        "frames" => Some(View::Slowest(number(more)? as usize)),
+        "frames" => frames_of(more),
         "folded" => Some(View::Folded(Some(more))),
+        "top" => Some(View::Top(Some(more))),
         word => frame_of(word, more, None),
     }
 }
@@ -84,20 +128,8 @@ pub fn read_words(words: &[String]) -> Option<(View<'_>, &str)>
     }
 }
 
-/// Which scopes `top` shows, and in what order.
-#[derive(Clone, Copy, Debug, PartialEq, Eq)]
-pub struct TopChoice<'w> {
-    /// The text of a thread, or `None` for all threads.
-    pub thread: Option<&'w str>,
-    pub order: By,
-    /// The number of rows, at most.
-    pub limit: usize,
-    /// Whether texts are kept apart.
-    pub texts: bool,
-}
-
 /// Parses the name of an order.
-fn order_of(word: &str) -> Option<By>
+pub fn order_of(word: &str) -> Option<By>
     ensures { result ≡ order_in word.now }
 {
     match word {
@@ -109,55 +141,85 @@ fn order_of(word: &str) -> Option<By>
     }
 }
 
-/// Parses the words behind the path, one after the other.
-fn choose<'w>(choice: TopChoice<'w>, words: &'w [String]) -> Option<TopChoice<'w>> {
-    match words {
-        [] => Some(choice),
-        [word, rest @ ..] if word.as_str() == "--texts" => choose(
-            TopChoice {
-                texts: true,
-                ..choice
-            },
-            rest,
-        ),
-        [word, order, rest @ ..] if word.as_str() == "--by" => choose(
-            TopChoice {
-                order: order_of(order.as_str())?,
-                ..choice
-            },
-            rest,
-        ),
-        [word, limit, rest @ ..] if word.as_str() == "--limit" => choose(
-            TopChoice {
-                limit: number(limit.as_str())? as usize,
-                ..choice
-            },
-            rest,
-        ),
-        [word, rest @ ..] if choice.thread.is_none() => choose(
-            TopChoice {
-                thread: Some(word.as_str()),
-                ..choice
-            },
-            rest,
-        ),
-        _ => None,
+/// The options among the program's arguments.
+#[derive(Clone, Copy, Debug, PartialEq, Eq)]
+pub struct Options {
+    /// The indices of the frames that count, or `None` for all frames.
+    pub frames: Option<Indices>,
+    pub order: Option<By>,
+    /// The number of rows, at most.
+    pub limit: Option<usize>,
+    /// Whether texts are kept apart.
+    pub texts: bool,
+}
+
+impl Options {
+    /// Returns whether one of them is only an option of `top`.
+    pub fn is_of_top(self) -> bool {
+        self.order.is_some() || self.limit.is_some() || self.texts
     }
 }
 
-/// Parses the program's arguments `top FILE [THREAD]`, with `--by`, `--limit` and `--texts` anywhere behind the path: what is shown,
-/// and the path. Returns `None` if they are anything else. The first word that is none of these options is the thread.
-pub fn read_top_words(words: &[String]) -> Option<(TopChoice<'_>, &str)> {
-    match words {
-        [word, path, rest @ ..] if word.as_str() == "top" => {
-            let all = TopChoice {
-                thread: None,
-                order: By::Own,
-                limit: usize::MAX,
-                texts: false,
-            };
-            Some((choose(all, rest)?, path.as_str()))
-        }
-        _ => None,
+/// Returns the place of the first such word, if that is behind the path.
+fn place_of(words: &[String], name: &str) -> Option<usize>
+    ensures { IfSome result (λ place. place < length words.now) }
+{
+    let place = words.iter().position(|word| word.as_str() == name)?;
+    if place < 2 {
+        return None;
     }
+    Some(place)
+}
+
+/// Removes the first such word. Returns whether there was one.
+fn take_flag(words: &mut Vec<String>, name: &str) -> bool {
+    match place_of(words, name) {
+        Some(place) => {
+            words.remove(place);
+            true
+        }
+        None => false,
+    }
+}
+
+/// Removes the first such word and the word behind it, and returns the latter.
+fn take_value(words: &mut Vec<String>, name: &str) -> Option<String> {
+    let place = place_of(words, name)?;
+    if place + 1 < words.len() {
+        words.remove(place);
+        Some(words.remove(place))
+    } else {
+        None
+    }
+}
+
+/// Removes the options from behind the first two of the program's arguments. Returns `None` if another of those words begins with
+/// `--`, or if an option is there twice, or if its value is missing or isn't allowed.
+pub fn take_options(words: &mut Vec<String>) -> Option<Options> {
+    let frames = match take_value(words, "--frames") {
+        Some(word) => Some(range(word.as_str())?),
+        None => None,
+    };
+    let order = match take_value(words, "--by") {
+        Some(word) => Some(order_of(word.as_str())?),
+        None => None,
+    };
+    let limit = match take_value(words, "--limit") {
+        Some(word) => Some(number(word.as_str())? as usize),
+        None => None,
+    };
+    let texts = take_flag(words, "--texts");
+    if words
+        .iter()
+        .skip(2)
+        .any(|word| word.as_str().starts_with("--"))
+    {
+        return None;
+    }
+    Some(Options {
+        frames,
+        order,
+        limit,
+        texts,
+    })
 }

@@ -1,11 +1,11 @@
 //! Finds the threads of a file that a word names.
 
-ghost use Rattle.std.specs.Prelude.{◌≡◌, ◌+◌, map, filter, IfOk, IfErr, IsOkUnless, Err};
+ghost use Rattle.std.specs.Prelude.{◌≡◌, ◌+◌, ◌++◌, take, codes, map, filter, OnOk, IfOk, IfErr, IsOkUnless, Err};
 ghost use Rattle.std.specs.FinMap as tree;
 ghost use Rattle.puffin_data.specs.declared.error.Error.{Error};
 ghost use Rattle.puffin_data.specs.Device.{CanFail, IsOutside};
 ghost use Rattle.puffin_threads.specs.Thread.ThreadKey.{by_key, key_of};
-ghost use Rattle.puffin_look.specs.ThreadNames.{is_named, AreNamed};
+ghost use Rattle.puffin_look.specs.ThreadNames.{is_named, threads_named, AreNamed};
 
 use crate::listing::list_frames;
 use crate::threads::{Threads, fails_outside, push_thread};
@@ -43,6 +43,18 @@ pub(crate) enum Naming {
     Text,
     /// By the name alone.
     Name,
+    /// By a beginning of the name and a `*`.
+    Beginning,
+}
+
+/// Appends so many bytes of a thread's name, or all if it has fewer, and a `*`.
+fn push_beginning(text: &mut Vec<u8>, count: usize, thread: &ThreadInfo) -> Result<(), AllocError>
+    ensures { OnOk result (
+        text.new.items ≡ text.old.items ++ (take count (key_of thread.now).name ++ codes "*")) }
+{
+    let name = thread.name.as_bytes();
+    text.extend_from_slice(&name[..count.min(name.len())])?;
+    text.extend_from_slice(b"*")
 }
 
 /// Returns whether a word names a thread in this way.
@@ -61,6 +73,11 @@ fn is_named(
             Ok(text.as_slice() == word.as_bytes())
         }
         Naming::Name => Ok(thread.name.as_str() == word),
+        Naming::Beginning => {
+            let mut text = Vec::new(alloc);
+            push_beginning(&mut text, word.len().saturating_sub(1), thread)?;
+            Ok(text.as_slice() == word.as_bytes())
+        }
     }
 }
 
@@ -85,8 +102,27 @@ fn threads_with(
     Ok(found)
 }
 
+/// Returns the threads that a word names in the first way in which it names one. Fails only with `Memory`.
+fn threads_under(alloc: Global, word: &str, threads: &Threads) -> Answer<Vec<ThreadInfo>>
+    ensures ok { IfOk result (λ found. map key_of found.items
+        ≡ threads_named word.now (
+        map (λ e. e.0) (tree.entries (by_key threads.now.totals.entries)))) }
+    ensures memory { IsOkUnless result Error.Memory }
+{
+    let listed = threads_with(alloc, Naming::Text, word, threads)?;
+    if !listed.is_empty() {
+        return Ok(listed);
+    }
+    let named = threads_with(alloc, Naming::Name, word, threads)?;
+    if !named.is_empty() {
+        return Ok(named);
+    }
+    threads_with(alloc, Naming::Beginning, word, threads)
+}
+
 /// Returns the threads of a file that a word names: the one that [`print_threads`](crate::print_threads) lists by this text, or if
-/// there is none, all with this name, in the order of the threads.
+/// there is none, all with this name, or if there is none and the word ends in `*`, all whose names begin with what is before
+/// that. They are in the order of the threads.
 ///
 /// A file with a fault has the threads of the frames before it. Fails only with `Io`, if a read fails, or with `Memory`.
 pub fn threads_named<S: Source>(
@@ -104,13 +140,9 @@ pub fn threads_named<S: Source>(
     let mut threads = Threads {
         totals: BTreeMap::new(alloc),
     };
-    let answer = list_frames(alloc, source, &mut Nowhere, &mut threads);
+    let answer = list_frames(alloc, source, &mut Nowhere, None, &mut threads);
     if fails_outside(&answer) {
         answer?;
     }
-    let listed = threads_with(alloc, Naming::Text, word, &threads)?;
-    if listed.is_empty() {
-        return Ok(threads_with(alloc, Naming::Name, word, &threads)?);
-    }
-    Ok(listed)
+    Ok(threads_under(alloc, word, &threads)?)
 }

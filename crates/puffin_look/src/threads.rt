@@ -224,7 +224,7 @@ pub fn print_threads<S: Source, D: Drain>(
     let mut threads = Threads {
         totals: BTreeMap::new(alloc),
     };
-    let answer = list_frames(alloc, source, drain, &mut threads);
+    let answer = list_frames(alloc, source, drain, None, &mut threads);
     if fails_outside(&answer) {
         return answer;
     }

@@ -1,6 +1,6 @@
 //! Lists the scopes of a file by name.
 
-ghost use Rattle.std.specs.Prelude.{◌≡◌, ◌+◌, ◌⊎◌, ◌≤◌, ◌-◌, ◌^◌, option_map, min, take, List, OnOk, OnErr, IfOk, IfErr, Err};
+ghost use Rattle.std.specs.Prelude.{◌≡◌, ◌+◌, ◌⊎◌, ◌≤◌, ◌-◌, ◌^◌, min, take, List, OnOk, OnErr, IfOk, IfErr, Err};
 ghost use Rattle.puffin_data.specs.declared.error.Error.{Error};
 ghost use Rattle.puffin_data.specs.Device.{CanFail};
 ghost use Rattle.puffin_data.specs.Honesty.{facts_of};
@@ -13,12 +13,12 @@ ghost use Rattle.puffin_look.specs.inner.Tallies.{tally_of, rows_of};
 ghost use Rattle.puffin_look.specs.declared.top.TopRow.{TopRow};
 ghost use Rattle.puffin_look.specs.inner.Tops.{percentile, HasTally, HaveTallies, StepsTally, IsTallyFault};
 
-use crate::frame_tree::is_wanted;
 use crate::histogram::last_of;
 use crate::listing::{Listing, list_frames};
 use crate::overview::Overview;
 use crate::tallies::{Tallies, Tally};
 use crate::thread_names::Nowhere;
+use crate::wanted::Wanted;
 use puffin_data::data::{Source, StreamInfo};
 use puffin_data::{FileError, NanoSecond, Result as Answer};
 use puffin_frames::frame_data::UnpackedFrameData;
@@ -52,8 +52,10 @@ pub struct TopRow {
 #[derive(Drop)]
 pub struct Top {
     pub rows: Vec<TopRow>,
-    /// The durations of all frames, together.
+    /// The durations of the frames, together.
     pub whole: u64,
+    /// The number of the frames.
+    pub frames: u64,
 }
 
 /// By what rows are sorted.
@@ -135,10 +137,11 @@ fn length_of(range_ns: (NanoSecond, NanoSecond)) -> u64
 #[derive(Drop)]
 struct Tallying<'t> {
     tallies: Tallies<'t>,
-    /// The thread that is wanted, or `None` if all are.
-    thread: Option<&'t ThreadInfo>,
+    wanted: &'t Wanted,
     /// The durations of the frames, together.
     whole: u64,
+    /// The number of the frames.
+    frames: u64,
 }
 
 impl<'t> Tallying<'t> {
@@ -149,7 +152,7 @@ impl<'t> Tallying<'t> {
         ensures err { IfErr result (λ e.
             (e ≡ Error.Memory) ⊎ IsTallyFault self.old (key_of thread.now) (facts_of info.now) e) }
     {
-        if is_wanted(self.thread, thread) {
+        if self.wanted.has_thread(thread) {
             self.tallies.add_stream(info)?;
         }
         Ok(())
@@ -175,6 +178,7 @@ impl<'t> Listing for Tallying<'t> {
             self.add_stream(thread, info)?;
         }
         self.whole = self.whole.saturating_add(length_of(frame.meta.range_ns));
+        self.frames = self.frames.saturating_add(1);
         Ok(())
     }
 
@@ -189,35 +193,36 @@ impl<'t> Listing for Tallying<'t> {
 /// met, in all frames together, and what time it took. A name is that by the details of the [overview](crate::read_overview), or `#`
 /// and the id; with `texts`, scopes with different texts are kept apart.
 ///
-/// All threads count, or if `thread` is given, only that one.
+/// The wanted threads of the wanted frames count.
 ///
 /// Fails as [`print_trace`](crate::print_trace) does; only the streams that count have to consist of scopes.
 pub fn read_top<S: Source>(
     alloc: Global,
     overview: &Overview,
     source: &mut S,
-    thread: Option<&ThreadInfo>,
+    wanted: &Wanted,
     texts: bool,
 ) -> Result<Top, FileError>
     requires { CanFail S.failures source.old }
     ensures ok { IfOk result (λ top.
-        IsTop overview.now.details (option_map (λ t. key_of t.now) thread.entry) texts
+        IsTop overview.now.details wanted.now texts
         (S.remaining source.old) (S.remaining source.new) top) }
     ensures err { IfErr result (λ e.
-        StopsReading (option_map (λ t. key_of t.now) thread.entry)
-        (S.remaining source.old) (S.remaining source.new) e) }
+        StopsReading wanted.now (S.remaining source.old) (S.remaining source.new) e) }
     ensures io { (result ≡ Err FileError.Io) → S.failures source.new ≡ S.failures source.old + 1 }
     ensures failures { OnOk result (S.failures source.new ≡ S.failures source.old) }
 {
     let mut tallying = Tallying {
         tallies: Tallies::new(alloc, &overview.details, texts),
-        thread,
+        wanted,
         whole: 0,
+        frames: 0,
     };
-    list_frames(alloc, source, &mut Nowhere, &mut tallying)?;
+    list_frames(alloc, source, &mut Nowhere, wanted.frames, &mut tallying)?;
     Ok(Top {
         rows: rows_of(alloc, &tallying.tallies)?,
         whole: tallying.whole,
+        frames: tallying.frames,
     })
 }
 

@@ -8,7 +8,8 @@ ghost use Rattle.puffin_data.specs.Walk.{IsFault};
 ghost use Rattle.puffin_data.specs.Device.{CanFail, TookNothing};
 ghost use Rattle.puffin_threads.specs.Thread.ThreadKey.{by_key, key_of};
 ghost use Rattle.puffin_look.specs.Printed.{IsPrinted, IsStopped};
-ghost use Rattle.puffin_look.specs.Trees.{RefusesUnread, all_streams};
+ghost use Rattle.puffin_look.specs.Trees.{all_streams};
+ghost use Rattle.puffin_look.specs.Wanted.{RefusesUnread};
 ghost use Rattle.puffin_look.specs.ThreadLines.{start_text};
 ghost use Rattle.puffin_look.specs.Trace.{frame_event, thread_event, number_of, trace_head, IsTrace};
 ghost use Rattle.puffin_look.specs.inner.Tracings.{numbers_of, NumbersThread, AddsThread, AddsStream};
@@ -19,6 +20,7 @@ use crate::overview::Overview;
 use crate::quoting::{push_member, push_micros, since};
 use crate::text::{push_count, push_moment};
 use crate::threads::{fails_outside, push_start};
+use crate::wanted::Indices;
 use puffin_data::data::{Drain, Source, StreamInfo, write_all};
 use puffin_data::{FileError, NanoSecond, Result as Answer};
 use puffin_frames::frame_data::{FrameMeta, UnpackedFrameData};
@@ -180,7 +182,7 @@ fn no_trace(alloc: Global, overview: &Overview) -> Result<Trace<'_>, AllocError>
     })
 }
 
-/// Writes the scopes of a file as a trace in the Trace Event Format, which viewers of traces open: a JSON object with an array of
+/// Writes the scopes of a file, of the frames with these indices or of all, as a trace in the Trace Event Format, which viewers of traces open: a JSON object with an array of
 /// events, one a line, as `docs/FORMAT.md` lists them. Each frame is written as soon as it was read. Names are by the details of the
 /// [overview](crate::read_overview), and times count from its start; what is before that is at 0.
 ///
@@ -193,15 +195,17 @@ pub fn print_trace<S: Source, D: Drain>(
     overview: &Overview,
     source: &mut S,
     drain: &mut D,
+    indices: Option<Indices>,
 ) -> Result<(), FileError>
     requires source { CanFail S.failures source.old }
     requires drain { CanFail D.failures drain.old }
     ensures ok { OnOk result (
-        IsPrinted (IsTrace overview.now) (S.remaining source.old) (S.remaining source.new)
+        IsPrinted (IsTrace overview.now indices) (S.remaining source.old) (S.remaining source.new)
         (D.contents drain.old) (D.contents drain.new)) }
     ensures err { IfErr result (λ e.
-        IsStopped (IsTrace overview.now) (RefusesUnread all_streams) (S.remaining source.old)
-        (S.remaining source.new) (D.contents drain.old) (D.contents drain.new) e) }
+        IsStopped (IsTrace overview.now indices) (RefusesUnread indices all_streams)
+        (S.remaining source.old) (S.remaining source.new) (D.contents drain.old)
+        (D.contents drain.new) e) }
     // `Io` means that the reader or the writer failed in this call, or that the writer took no bytes.
     ensures io { (result ≡ Err FileError.Io) → (S.failures source.new ≡ S.failures source.old + 1)
         ⊎ ((D.failures drain.new ≡ D.failures drain.old + 1) ⊎ TookNothing D.takes drain.new) }
@@ -211,7 +215,7 @@ pub fn print_trace<S: Source, D: Drain>(
 {
     let mut trace = no_trace(alloc, overview)?;
     read_magic(source)?;
-    let answer = list_behind(alloc, source, drain, &mut trace);
+    let answer = list_behind(alloc, source, drain, indices, &mut trace);
     if fails_outside(&answer) {
         return answer;
     }

@@ -1,5 +1,5 @@
-//! `puffin-look`: shows what is in a file of frames: its threads, its frames, a frame as a tree, all of it as a trace or as
-//! folded stacks.
+//! `puffin-look`: shows what is in a file of frames: its threads, its frames, a frame as a tree, all of it as a trace, as folded
+//! stacks, or its scopes by name.
 #![tactic(auto)]
 
 ghost use Rattle.std.specs.Prelude.{◌<◌, ◌^◌, ◌-◌, IfOk};
@@ -11,13 +11,13 @@ use crate::skimmed::Skimmed;
 use puffin_data::data::{Buffered, Counted};
 use puffin_data::{FileError, FrameIndex};
 use puffin_look::{
-    Overview, TopChoice, View, print_folded, print_frame, print_frames, print_slowest,
-    print_threads, print_top, print_trace, read_overview, read_top, read_top_words, read_words,
-    threads_named,
+    By, Indices, Options, Overview, View, Wanted, print_folded, print_frame, print_frames,
+    print_slowest, print_threads, print_top, print_trace, read_overview, read_top, read_words,
+    take_options, threads_named,
 };
 use puffin_threads::thread_profiler::ThreadInfo;
 use std::fs::File;
-use std::io::{BufReader, Seek, SeekFrom};
+use std::io::{BufReader, Seek, SeekFrom, Stdout};
 use std::process::ExitCode;
 use std::{env, io};
 
@@ -28,7 +28,7 @@ const READ_AHEAD: usize = 65_536;
 const HELP: &str = "puffin-look shows what is in a file of frames.
 
   puffin-look threads FILE               its threads, with their scopes, bytes and times
-  puffin-look frames FILE                its frames, with their threads, scopes and times
+  puffin-look frames FILE [A..B]         its frames, with their threads, scopes and times
   puffin-look frames FILE N              the N slowest frames, the slowest first
   puffin-look frame FILE INDEX [THREAD]  a frame as a tree of scopes
   puffin-look trace FILE                 a trace, for ui.perfetto.dev, chrome://tracing and speedscope.app
@@ -37,16 +37,18 @@ const HELP: &str = "puffin-look shows what is in a file of frames.
     --by own|total|calls|max             the greatest of this first
     --limit N                            the first N rows
     --texts                              a row for each text of a name
+    --frames A..B                        of trace, folded and top: these frames alone
   puffin-look --help, --version          this text; the version
 
-THREAD is START:NAME as `threads` lists it, or a name that only one thread has.";
+A..B are the frames with indices from A on and below B. THREAD is START:NAME as `threads` lists it, or the name of all threads
+that have it, or a beginning of their names and a `*`.";
 
 /// What `--version` prints.
 const VERSION: &str = "puffin-look 0.20.0";
 
 /// What is told of words that are no request.
 const USAGE: &str =
-    "usage: puffin-look threads FILE | frames FILE [N] | frame FILE INDEX [THREAD] | trace FILE | folded FILE [THREAD] | top FILE [THREAD] [--by own|total|calls|max] [--limit N] [--texts]";
+    "usage: puffin-look threads FILE | frames FILE [N|A..B] | frame FILE INDEX [THREAD] | trace FILE | folded FILE [THREAD] | top FILE [THREAD] [--by own|total|calls|max] [--limit N] [--texts] [--frames A..B]";
 
 /// The status of a tool that writes to a pipe that nobody reads any more, as a shell tells it.
 const UNREAD: u8 = 141;
@@ -65,8 +67,6 @@ enum Cause<'w> {
     NoFrame(FrameIndex),
     /// The file has no thread that this word names.
     NoThread(&'w str),
-    /// Several threads have this name.
-    ManyThreads(&'w str),
     /// The frame with this index has no scopes of the thread that this word names.
     NotInFrame(FrameIndex, &'w str),
     /// The file can't be read a second time.
@@ -143,25 +143,39 @@ fn rewind<'w>(path: &'w str, file: &File) -> Result<(), LookFault<'w>> {
     }
 }
 
-/// Returns the thread that a word names in a file, which is then read again.
-fn thread_in<'w>(
+/// Returns the threads that a word names in a file, which is then read again.
+fn threads_in<'w>(
     rt: &HostRuntime,
     path: &'w str,
     file: &File,
     word: &'w str,
-) -> Result<ThreadInfo, LookFault<'w>> {
+) -> Result<Vec<ThreadInfo>, LookFault<'w>> {
     rewind(path, file)?;
     let mut source = reader(rt, path, file)?;
-    let mut found = match threads_named(rt.alloc(), &mut source, word) {
+    let found = match threads_named(rt.alloc(), &mut source, word) {
         Ok(found) => found,
         Err(error) => return Err(fault_of(path, error, source.last_error(), None)),
     };
     rewind(path, file)?;
-    match (found.pop(), found.is_empty()) {
-        (Some(thread), true) => Ok(thread),
-        (Some(_), false) => Err(LookFault::At(path, Cause::ManyThreads(word))),
-        (None, _) => Err(LookFault::At(path, Cause::NoThread(word))),
+    if found.is_empty() {
+        return Err(LookFault::At(path, Cause::NoThread(word)));
     }
+    Ok(found)
+}
+
+/// Returns the frames with these indices, and of them the threads that the word names, if there is one.
+fn wanted_in<'w>(
+    rt: &HostRuntime,
+    path: &'w str,
+    file: &File,
+    frames: Option<Indices>,
+    word: Option<&'w str>,
+) -> Result<Wanted, LookFault<'w>> {
+    let threads = match word {
+        Some(word) => Some(threads_in(rt, path, file, word)?),
+        None => None,
+    };
+    Ok(Wanted { frames, threads })
 }
 
 /// Returns the fault of a call that read the file and wrote to standard output.
@@ -213,7 +227,8 @@ fn list<'w>(
     let printed = match view {
         View::Threads => print_threads(rt.alloc(), &mut source, &mut out),
         View::Slowest(limit) => print_slowest(rt.alloc(), &mut source, &mut out, limit),
-        _ => print_frames(rt.alloc(), &mut source, &mut out),
+        View::Frames(indices) => print_frames(rt.alloc(), &mut source, &mut out, indices),
+        _ => Ok(()),
     };
     match printed {
         Ok(()) => Ok(()),
@@ -237,27 +252,29 @@ fn found<'w>(path: &'w str, view: View<'w>, is_found: bool) -> Result<(), LookFa
 fn draw<'w>(
     rt: &HostRuntime,
     view: View<'w>,
+    options: Options,
     path: &'w str,
     file: &File,
 ) -> Result<(), LookFault<'w>> {
     let overview = first_reading(rt, path, file)?;
-    let thread = match view {
-        View::Frame(_, Some(word)) | View::Folded(Some(word)) => {
-            Some(thread_in(rt, path, file, word)?)
-        }
-        _ => None,
+    let wanted = match view {
+        View::Frame(index, word) => wanted_in(rt, path, file, Some(Indices::only(index)), word)?,
+        View::Folded(word) | View::Top(word) => wanted_in(rt, path, file, options.frames, word)?,
+        _ => wanted_in(rt, path, file, options.frames, None)?,
     };
-    let thread = thread.as_ref();
     let mut source = reader(rt, path, file)?;
     let mut out = Counted::new(rt.stdout());
     let printed = match view {
-        View::Frame(index, _) => {
-            print_frame(rt.alloc(), &overview, &mut source, &mut out, index, thread)
-        }
+        View::Frame(..) => print_frame(rt.alloc(), &overview, &mut source, &mut out, &wanted),
         View::Folded(_) => {
-            print_folded(rt.alloc(), &overview, &mut source, &mut out, thread).map(|_| true)
+            print_folded(rt.alloc(), &overview, &mut source, &mut out, &wanted).map(|_| true)
         }
-        _ => print_trace(rt.alloc(), &overview, &mut source, &mut out).map(|()| true),
+        View::Top(_) => {
+            rank(rt, &overview, &mut source, &mut out, &wanted, options).map(|()| true)
+        }
+        _ => print_trace(rt.alloc(), &overview, &mut source, &mut out, wanted.frames).map(
+            |()| true,
+        ),
     };
     match printed {
         Ok(is_found) => found(path, view, is_found),
@@ -265,57 +282,68 @@ fn draw<'w>(
     }
 }
 
+/// Prints the scopes of a file by name.
+fn rank(
+    rt: &HostRuntime,
+    overview: &Overview,
+    source: &mut Reader<'_>,
+    out: &mut Counted<Stdout>,
+    wanted: &Wanted,
+    options: Options,
+) -> Result<(), FileError>
+    requires { failed_reads source.old < 2 ^ 64 - 1 }
+{
+    let mut top = read_top(rt.alloc(), overview, source, wanted, options.texts)?;
+    top.sort_by(
+        options.order.unwrap_or(By::Own),
+        options.limit.unwrap_or(usize::MAX),
+    )?;
+    print_top(rt.alloc(), out, &top)
+}
+
 /// Prints what was asked for of the file at a path.
-fn show<'w>(rt: &HostRuntime, view: View<'w>, path: &'w str) -> Result<(), LookFault<'w>> {
+fn show<'w>(
+    rt: &HostRuntime,
+    view: View<'w>,
+    options: Options,
+    path: &'w str,
+) -> Result<(), LookFault<'w>> {
     let file = open(rt, path)?;
     match view {
-        View::Threads | View::Frames | View::Slowest(_) => list(rt, view, path, &file),
-        View::Frame(..) | View::Trace | View::Folded(_) => draw(rt, view, path, &file),
+        View::Threads | View::Frames(_) | View::Slowest(_) => list(rt, view, path, &file),
+        View::Frame(..) | View::Trace | View::Folded(_) | View::Top(_) => {
+            draw(rt, view, options, path, &file)
+        }
     }
 }
 
-/// Prints the scopes of the file at a path by name.
-fn rank<'w>(rt: &HostRuntime, choice: &TopChoice<'w>, path: &'w str) -> Result<(), LookFault<'w>> {
-    let file = open(rt, path)?;
-    let overview = first_reading(rt, path, &file)?;
-    let thread = match choice.thread {
-        Some(word) => Some(thread_in(rt, path, &file, word)?),
-        None => None,
-    };
-    let mut source = reader(rt, path, &file)?;
-    let mut top = match read_top(
-        rt.alloc(),
-        &overview,
-        &mut source,
-        thread.as_ref(),
-        choice.texts,
-    ) {
-        Ok(top) => top,
-        Err(error) => return Err(fault_of(path, error, source.last_error(), None)),
-    };
-    if top.sort_by(choice.order, choice.limit).is_err() {
-        return Err(LookFault::Memory);
-    }
-    let mut out = Counted::new(rt.stdout());
-    match print_top(rt.alloc(), &mut out, &top) {
-        Ok(()) => Ok(()),
-        Err(error) => Err(fault_of(path, error, None, out.last_error())),
+/// Returns whether a view takes these options.
+fn takes(view: View<'_>, options: Options) -> bool {
+    match view {
+        View::Top(_) => true,
+        View::Trace | View::Folded(_) => !options.is_of_top(),
+        _ => !options.is_of_top() && options.frames.is_none(),
     }
 }
 
 /// Does what the arguments ask for.
-fn run<'w>(rt: &HostRuntime, words: &'w [String]) -> Result<(), LookFault<'w>> {
-    match words {
-        [word] => match word.as_str() {
-            "--help" | "-h" => tell(rt, HELP),
-            "--version" => tell(rt, VERSION),
-            _ => Err(LookFault::Words),
-        },
-        _ => match (read_words(words), read_top_words(words)) {
-            (Some((view, path)), _) => show(rt, view, path),
-            (None, Some((choice, path))) => rank(rt, &choice, path),
-            (None, None) => Err(LookFault::Words),
-        },
+fn run<'w>(
+    rt: &HostRuntime,
+    words: &'w [String],
+    options: Option<Options>,
+) -> Result<(), LookFault<'w>> {
+    if let [word] = words {
+        match word.as_str() {
+            "--help" | "-h" => return tell(rt, HELP),
+            "--version" => return tell(rt, VERSION),
+            _ => return Err(LookFault::Words),
+        }
+    }
+    match (read_words(words), options) {
+        (Some((view, path)), Some(options)) if takes(view, options) => {
+            show(rt, view, options, path)
+        }
+        _ => Err(LookFault::Words),
     }
 }
 
@@ -339,11 +367,6 @@ fn print_fault(rt: &HostRuntime, name: &str, cause: &Cause<'_>) -> io::Result<()
         Cause::File(error) => eprintln!(rt; "puffin-look: {name}: {error}"),
         Cause::NoFrame(index) => eprintln!(rt; "puffin-look: {name}: no frame {index}"),
         Cause::NoThread(word) => eprintln!(rt; "puffin-look: {name}: no thread {word}"),
-        Cause::ManyThreads(word) => {
-            eprintln!(rt;
-                "puffin-look: {name}: several threads are named {word}: name one as START:NAME"
-            )
-        }
         Cause::NotInFrame(index, word) => {
             eprintln!(rt; "puffin-look: {name}: no frame {index} with the thread {word}")
         }
@@ -370,7 +393,10 @@ fn finish(rt: &HostRuntime, ended: &Result<(), LookFault<'_>>) -> u8 {
 fn main(rt: HostRuntime) -> ExitCode {
     let _placeholders = placeholders(&rt);
     let status = match words(&rt) {
-        Ok(words) => finish(&rt, &run(&rt, words.as_slice())),
+        Ok(mut words) => {
+            let options = take_options(&mut words);
+            finish(&rt, &run(&rt, words.as_slice(), options))
+        }
         Err(fault) => finish(&rt, &Err(fault)),
     };
     ExitCode::from(status)

@@ -2,9 +2,9 @@ use crate::equal::equal;
 use puffin_data::FileError;
 use puffin_data::data::Counted;
 use puffin_look::{
-    By, Overview, Top, TopChoice, View, print_folded, print_frame, print_frames, print_slowest,
-    print_threads, print_top, print_trace, read_overview, read_top, read_top_words, read_words,
-    threads_named,
+    By, Indices, Options, Overview, Top, View, Wanted, order_of, print_folded, print_frame,
+    print_frames, print_slowest, print_threads, print_top, print_trace, range, read_overview,
+    read_top, read_words, take_options, threads_named,
 };
 use puffin_threads::thread_profiler::ThreadInfo;
 use std::alloc::AllocGlobal;
@@ -66,8 +66,28 @@ fn threads_of(rt: &impl AllocGlobal, file: &[u8]) -> Printed {
 /// Lists the frames of a file.
 fn frames_of(rt: &impl AllocGlobal, file: &[u8]) -> Printed {
     let mut out = Counted::new(Vec::new(rt.alloc()));
-    let answer = print_frames(rt.alloc(), &mut Counted::new(file), &mut out);
+    let answer = print_frames(rt.alloc(), &mut Counted::new(file), &mut out, None);
     (answer, out.into_inner())
+}
+
+/// Returns what is wanted: some frames, and all threads or one.
+fn wanted_of<R: AllocGlobal + Abort>(
+    rt: &R,
+    frames: Option<Indices>,
+    thread: Option<ThreadInfo>,
+) -> Wanted {
+    let mut threads = Vec::new(rt.alloc());
+    let Some(thread) = thread else {
+        return Wanted {
+            frames,
+            threads: None,
+        };
+    };
+    threads.push(thread).expect(rt, "memory");
+    Wanted {
+        frames,
+        threads: Some(threads),
+    }
 }
 
 /// Returns what the frames of a file say together.
@@ -79,7 +99,7 @@ fn overview_of<R: AllocGlobal + Abort>(rt: &R, file: &[u8]) -> Overview {
 fn frame_of<R: AllocGlobal + Abort>(
     rt: &R,
     index: u64,
-    thread: Option<&ThreadInfo>,
+    thread: Option<ThreadInfo>,
 ) -> (Found, Vec<u8>) {
     let mut out = Counted::new(Vec::new(rt.alloc()));
     let answer = print_frame(
@@ -87,8 +107,7 @@ fn frame_of<R: AllocGlobal + Abort>(
         &overview_of(rt, &FILE),
         &mut Counted::new(&FILE[..]),
         &mut out,
-        index,
-        thread,
+        &wanted_of(rt, Some(Indices::only(index)), thread),
     );
     (answer, out.into_inner())
 }
@@ -101,6 +120,7 @@ fn trace_of<R: AllocGlobal + Abort>(rt: &R, file: &[u8]) -> Printed {
         &overview_of(rt, file),
         &mut Counted::new(file),
         &mut out,
+        None,
     );
     (answer, out.into_inner())
 }
@@ -109,7 +129,7 @@ fn trace_of<R: AllocGlobal + Abort>(rt: &R, file: &[u8]) -> Printed {
 fn folded_of<R: AllocGlobal + Abort>(
     rt: &R,
     file: &[u8],
-    thread: Option<&ThreadInfo>,
+    thread: Option<ThreadInfo>,
 ) -> (Found, Vec<u8>) {
     let mut out = Counted::new(Vec::new(rt.alloc()));
     let answer = print_folded(
@@ -117,7 +137,7 @@ fn folded_of<R: AllocGlobal + Abort>(
         &overview_of(rt, file),
         &mut Counted::new(file),
         &mut out,
-        thread,
+        &wanted_of(rt, None, thread),
     );
     (answer, out.into_inner())
 }
@@ -125,7 +145,14 @@ fn folded_of<R: AllocGlobal + Abort>(
 /// Returns the scopes of a file by name.
 fn top_of<R: AllocGlobal + Abort>(rt: &R, file: &[u8], texts: bool) -> Result<Top, FileError> {
     let overview = overview_of(rt, file);
-    read_top(rt.alloc(), &overview, &mut Counted::new(file), None, texts)
+    let wanted = wanted_of(rt, None, None);
+    read_top(
+        rt.alloc(),
+        &overview,
+        &mut Counted::new(file),
+        &wanted,
+        texts,
+    )
 }
 
 /// Prints rows as a table.
@@ -201,14 +228,14 @@ fn a_name_that_the_last_frame_lists_is_known_in_all(rt: HostRuntime) {
 #[test]
 fn a_frame_is_a_tree(rt: HostRuntime) {
     let thread = main_thread(&rt, Some(100));
-    let printed = frame_of(&rt, 1, Some(&thread));
+    let printed = frame_of(&rt, 1, Some(thread));
     equal(&rt, printed.0, Ok(true));
     let lines = b"frame 1 range 400 401 duration 1\nthread 100:main\n\
         #1 (a) start 0 duration 1 share 100.0%\n";
     equal(&rt, printed.1.as_slice(), lines);
     equal(&rt, frame_of(&rt, 2, None).0, Ok(false));
     let other = main_thread(&rt, None);
-    equal(&rt, frame_of(&rt, 1, Some(&other)).0, Ok(false));
+    equal(&rt, frame_of(&rt, 1, Some(other)).0, Ok(false));
 }
 
 #[test]
@@ -223,11 +250,11 @@ fn a_trace_has_each_frame_thread_and_scope(rt: HostRuntime) {
 #[test]
 fn a_path_has_its_own_time_in_all_frames(rt: HostRuntime) {
     let thread = main_thread(&rt, Some(100));
-    let printed = folded_of(&rt, &FILE, Some(&thread));
+    let printed = folded_of(&rt, &FILE, Some(thread));
     equal(&rt, printed.0, Ok(true));
     equal(&rt, printed.1.as_slice(), b"#1 201\n");
     let other = main_thread(&rt, None);
-    equal(&rt, folded_of(&rt, &FILE, Some(&other)).0, Ok(false));
+    equal(&rt, folded_of(&rt, &FILE, Some(other)).0, Ok(false));
     let cut = folded_of(&rt, &FILE[..ONE_FRAME + 20], None);
     equal(&rt, cut.0, Err(FileError::Truncated));
     equal(&rt, cut.1.len(), 0);
@@ -236,7 +263,7 @@ fn a_path_has_its_own_time_in_all_frames(rt: HostRuntime) {
 #[test]
 fn a_name_has_the_times_of_its_scopes(rt: HostRuntime) {
     let mut top = top_of(&rt, &FILE, false).expect(&rt, "a file");
-    equal(&rt, top.whole, 201);
+    equal(&rt, (top.whole, top.frames), (201, 2));
     equal(&rt, table_of(&rt, &top).as_slice(), TABLE);
     top.sort_by(By::Calls, 0).expect(&rt, "memory");
     equal(&rt, top.rows.len(), 0);
@@ -252,35 +279,53 @@ fn texts_are_kept_apart(rt: HostRuntime) {
 }
 
 #[test]
-fn words_choose_what_comes_first(rt: HostRuntime) -> Result<(), Fail> {
+fn options_are_taken_from_the_words(rt: HostRuntime) -> Result<(), Fail> {
     let alloc = rt.alloc();
-    let words = [
+    let mut words = vec![in alloc;
         String::from_str(alloc, "top")?,
         String::from_str(alloc, "a.puffin")?,
+        String::from_str(alloc, "--frames")?,
+        String::from_str(alloc, "3..5")?,
         String::from_str(alloc, "--by")?,
         String::from_str(alloc, "max")?,
-        String::from_str(alloc, "main")?,
-    ];
-    let choice = TopChoice {
-        thread: Some("main"),
-        order: By::Greatest,
-        limit: usize::MAX,
+    ]?;
+    let options = Options {
+        frames: Some(Indices { first: 3, last: 4 }),
+        order: Some(By::Greatest),
+        limit: None,
         texts: false,
     };
-    equal(&rt, read_top_words(&words), Some((choice, "a.puffin")));
-    equal(&rt, read_top_words(&words[..1]), None);
+    equal(&rt, take_options(&mut words), Some(options));
+    equal(&rt, options.is_of_top(), true);
+    equal(&rt, words.len(), 2);
+    equal(&rt, order_of("most"), None);
+    equal(&rt, range("5..5"), None);
     Ok(())
+}
+
+#[test]
+fn frames_are_chosen_by_their_indices(rt: HostRuntime) {
+    let mut out = Counted::new(Vec::new(rt.alloc()));
+    let second = Some(Indices::only(1));
+    let answer = print_frames(rt.alloc(), &mut Counted::new(&FILE[..]), &mut out, second);
+    prints(
+        &rt,
+        &(answer, out.into_inner()),
+        Ok(()),
+        &FRAMES[SECOND_LINE..],
+    );
 }
 
 #[test]
 fn a_thread_is_found_by_its_text_or_its_name(rt: HostRuntime) {
     let thread = main_thread(&rt, Some(100));
-    for word in &["100:main", "main"] {
+    for word in &["100:main", "main", "ma*"] {
         let found = named(&rt, word);
         equal(&rt, found.len(), 1);
         equal(&rt, found.first(), Some(&thread));
     }
     equal(&rt, named(&rt, "-:main").len(), 0);
+    equal(&rt, named(&rt, "an*").len(), 0);
 }
 
 #[test]
@@ -290,7 +335,11 @@ fn words_name_what_is_shown(rt: HostRuntime) -> Result<(), Fail> {
         String::from_str(alloc, "frames")?,
         String::from_str(alloc, "a.puffin")?,
     ];
-    equal(&rt, read_words(&words), Some((View::Frames, "a.puffin")));
+    equal(
+        &rt,
+        read_words(&words),
+        Some((View::Frames(None), "a.puffin")),
+    );
     equal(&rt, read_words(&words[..1]), None);
     let words = [
         String::from_str(alloc, "frame")?,

@@ -1,5 +1,5 @@
 -- What the folded stacks take from frames, one after the other.
-use Rattle.std.specs.Prelude.{◌≡◌, ◌⊎◌, ℕ, Bool, true, false, List, [], ◌++◌, fold, Option, option_map}
+use Rattle.std.specs.Prelude.{◌≡◌, ◌⊎◌, ℕ, Bool, true, false, List, [], ◌++◌, fold}
 use Rattle.std.proofs.Common.{refl, sym, ap, subst, ◌∙◌}
 use Rattle.std.proofs.lemmas.List.Sums.{fold-append}
 use Rattle.std.proofs.lemmas.List.Concat.{flat_map-append}
@@ -9,19 +9,16 @@ use Rattle.puffin_data.specs.Forest.{Forest}
 use Rattle.puffin_data.specs.Forest.Spelling.{Spells}
 use Rattle.puffin_data.specs.Honesty.{StreamFacts}
 use Rattle.puffin_data.specs.Walk.{IsFault}
-use Rattle.puffin_threads.specs.declared.thread_profiler.thread_info.ThreadInfo.{ThreadInfo}
-use Rattle.puffin_threads.specs.Thread.ThreadKey.{ThreadKey, key_of}
+use Rattle.puffin_threads.specs.Thread.ThreadKey.{ThreadKey}
 use Rattle.puffin_look.specs.OpenFrame.{OpenFrame}
 use Rattle.puffin_look.specs.Trees.{TreeFrame, AreRead, AreUnread}
-use Rattle.puffin_look.specs.FrameTree.{is_wanted, wanted_streams, has_trees, found_in}
+use Rattle.puffin_look.specs.Wanted.{is_wanted, wanted_streams}
+use Rattle.puffin_look.specs.declared.wanted.Wanted.{Wanted}
+use Rattle.puffin_look.specs.FrameTree.{has_trees, found_in}
 use Rattle.puffin_look.specs.Folded.{forest_parts, frame_parts, parts}
 use Rattle.puffin_look.specs.inner.Reads.{AreRead-append}
 use Rattle.puffin_look.specs.inner.Stacks.{rows_of, with_part, HasMoreParts}
 use Rattle.puffin_look.specs.declared.folded.Folding.{Folding}
-
--- the thread that is wanted
-abbrev pub wanted_of : Folding → Option ThreadKey
-wanted_of v = option_map (λ t. key_of t.now) v.thread
 
 -- ---- a thread
 
@@ -30,16 +27,16 @@ pub record AddsStack (v u : Folding) (r : StreamFacts) : Type 0 where
   pub spells : Spells r.form r.bytes forest
   pub parts : HasMoreParts v.stacks u.stacks (forest_parts v.stacks.known.now forest)
   pub found : u.is_found ≡ true
-  pub thread : u.thread ≡ v.thread
+  pub wanted : u.wanted ≡ v.wanted
 
 -- a thread's scopes were added, unless the thread isn't wanted
 abbrev pub StepsStack : Folding → Folding → ThreadKey → StreamFacts → Type 0
 StepsStack v u key r =
-    ((is_wanted (wanted_of v) key ≡ true) × AddsStack v u r)
-    ⊎ ((is_wanted (wanted_of v) key ≡ false) × (u ≡ v))
+    ((is_wanted v.wanted.now key ≡ true) × AddsStack v u r)
+    ⊎ ((is_wanted v.wanted.now key ≡ false) × (u ≡ v))
 
 abbrev pub IsStackFault : Folding → ThreadKey → StreamFacts → Error → Type 0
-IsStackFault v key r fault = (is_wanted (wanted_of v) key ≡ true) × IsFault r.form r.bytes fault
+IsStackFault v key r fault = (is_wanted v.wanted.now key ≡ true) × IsFault r.form r.bytes fault
 
 -- ---- frames
 
@@ -47,15 +44,15 @@ IsStackFault v key r fault = (is_wanted (wanted_of v) key ≡ true) × IsFault r
 pub record TakesStacks (v : Folding) (frames : List OpenFrame) (text : List ℕ) (u : Folding) : Type 0 where
   pub none : text ≡ []
   pub trees : List TreeFrame
-  pub read : AreRead (wanted_streams (wanted_of v)) frames trees
+  pub read : AreRead (wanted_streams v.wanted.now) frames trees
   pub rows : rows_of u.stacks
       ≡ fold with_part (rows_of v.stacks) (parts v.stacks.known.now trees)
   pub known : u.stacks.known ≡ v.stacks.known
   pub found : u.is_found ≡ found_in v.is_found trees
-  pub thread : u.thread ≡ v.thread
+  pub wanted : u.wanted ≡ v.wanted
 
 abbrev pub RefusesFrame : Folding → OpenFrame → Error → Type 0
-RefusesFrame v frame cause = AreUnread (wanted_streams (wanted_of v) frame) cause
+RefusesFrame v frame cause = AreUnread (wanted_streams v.wanted.now frame) cause
 
 -- ---- laws
 
@@ -67,19 +64,19 @@ stacks_none v = record {
   rows = refl;
   known = refl;
   found = refl;
-  thread = refl;
+  wanted = refl;
 }
 
 pub stacks_more : (u v w : Folding) (xs ys : List OpenFrame) (s t : List ℕ) → TakesStacks u xs s v →
     TakesStacks v ys t w → TakesStacks u (xs ++ ys) (s ++ t) w
 stacks_more u v w xs ys s t a b =
-    let thread = ap (option_map (λ (t : Bor ThreadInfo). key_of t.now)) a.thread in
+    let wanted = ap (λ (w : Bor Wanted). w.now) a.wanted in
     let known = u.stacks.known.now in
     record {
       none = ap (λ (r : List ℕ). r ++ t) a.none ∙ b.none;
       trees = a.trees ++ b.trees;
-      read = AreRead-append (wanted_streams (wanted_of u)) xs ys a.trees b.trees a.read (
-          subst (λ (p : Option ThreadKey). AreRead (wanted_streams p) ys b.trees) thread b.read);
+      read = AreRead-append (wanted_streams u.wanted.now) xs ys a.trees b.trees a.read (
+          subst (λ (w : Wanted). AreRead (wanted_streams w) ys b.trees) wanted b.read);
       rows = b.rows
           ∙ (λ i. fold with_part (a.rows i) (parts (a.known i).now b.trees))
           ∙ sym (fold-append with_part (rows_of u.stacks) (parts known a.trees)
@@ -89,5 +86,5 @@ stacks_more u v w xs ys s t a b =
       known = b.known ∙ a.known;
       found = b.found ∙ ap (λ (f : Bool). found_in f b.trees) a.found
           ∙ sym (fold-append (λ f t. has_trees f t.trees) u.is_found a.trees b.trees);
-      thread = b.thread ∙ a.thread;
+      wanted = b.wanted ∙ a.wanted;
     }

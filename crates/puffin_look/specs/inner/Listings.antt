@@ -1,5 +1,5 @@
 -- A listing of frames, step by step.
-use Rattle.std.specs.Prelude.{◌≡◌, ◌⊎◌, ℕ, List, [], ◌∷◌, ◌++◌, Option, Result, Ok, Err}
+use Rattle.std.specs.Prelude.{◌≡◌, ◌⊎◌, ℕ, true, List, [], ◌∷◌, ◌++◌, Option, Result, Ok, Err}
 use Rattle.std.specs.Io.KnownBytes.{Appends}
 use Rattle.puffin_data.specs.declared.error.Error.{Error}
 use Rattle.puffin_data.specs.declared.file_error.FileError.{FileError}
@@ -9,62 +9,66 @@ use Rattle.puffin_frames.specs.Packet.Stored.{Stored}
 use Rattle.puffin_view.specs.View.File.{file_at, TookFrames, FailsToRead}
 use Rattle.puffin_view.specs.View.FrameFile.{frame_at, HasGiven}
 use Rattle.puffin_look.specs.OpenFrame.{OpenFrame, opened, AreOpened}
+use Rattle.puffin_look.specs.Wanted.{is_within, frames_within}
+use Rattle.puffin_look.specs.declared.wanted.Indices.{Indices}
 use Rattle.puffin_look.specs.Printed.{Begins, IsFull}
 
 -- ---- one frame
 
 -- a frame was unpacked and added
 pub record AddsFrame {L : Type 0} (text : L → List ℕ)
-    (takes : L → List OpenFrame → List ℕ → L → Type 0) (old new : L)
+    (takes : L → List OpenFrame → List ℕ → L → Type 0) (indices : Option Indices) (old new : L)
     (answer : Result OpenFrame FileError) : Type 0 where
   pub frame : OpenFrame
   pub opens : answer ≡ Ok frame
   pub more : List ℕ
   pub pending : text new ≡ text old ++ more
-  pub taken : takes old (frame ∷ []) more new
+  pub taken : takes old (frames_within indices (frame ∷ [])) more new
 
 -- it can't be unpacked, and the listing stayed as it was; or it is refused; or memory ran out
-abbrev pub FailsToAdd : {L : Type 0} → (L → OpenFrame → Error → Type 0) → L → L →
+abbrev pub FailsToAdd : {L : Type 0} → (L → OpenFrame → Error → Type 0) → Option Indices → L → L →
     Result OpenFrame FileError → FileError → Type 0
-FailsToAdd refuses old new answer fault =
+FailsToAdd refuses indices old new answer fault =
     (fault ≡ file.Memory)
     ⊎ ((answer ≡ Err fault) × (new ≡ old))
     ⊎ ((frame : OpenFrame)
     × (cause : Error)
     × (answer ≡ Ok frame)
     × (fault ≡ file.Refused cause)
+    × (is_within indices frame.meta.frame_index ≡ true)
     × refuses old frame cause)
 
 -- ---- a file
 
--- these frames were listed, from the state old to the state now
-pub record HasListed {L : Type 0} (takes : L → List OpenFrame → List ℕ → L → Type 0) (old now : L)
+-- those of these frames that have these indices were listed, from the state old to the state now
+pub record HasListed {L : Type 0} (takes : L → List OpenFrame → List ℕ → L → Type 0)
+    (indices : Option Indices) (old now : L)
     (stored : List Stored) (text : List ℕ) : Type 0 where
   pub frames : List OpenFrame
   pub opens : AreOpened stored frames
-  pub taken : takes old frames text now
+  pub taken : takes old (frames_within indices frames) text now
 
 -- all frames were listed, and their text was written
 pub record ListsAll {L : Type 0} (text : L → List ℕ)
-    (takes : L → List OpenFrame → List ℕ → L → Type 0) (old new : L)
+    (takes : L → List OpenFrame → List ℕ → L → Type 0) (indices : Option Indices) (old new : L)
     (unread left before after : Option (List ℕ)) : Type 0 where
   pub stored : List Stored
   pub took : TookFrames file_at unread left stored
   pub begins : Begins unread stored
   pub more : List ℕ
-  pub listed : HasListed takes old new stored more
+  pub listed : HasListed takes indices old new stored more
   pub none_left : text new ≡ []
   pub written : Appends before after (text old ++ more)
 
 -- where and why listing stopped, behind the letters of the file
 pub record StopsBehind {L : Type 0} (text : L → List ℕ)
     (takes : L → List OpenFrame → List ℕ → L → Type 0) (refuses : L → OpenFrame → Error → Type 0)
-    (old new : L) (unread left before after : Option (List ℕ)) (fault : FileError) : Type 0 where
+    (indices : Option Indices) (old new : L) (unread left before after : Option (List ℕ)) (fault : FileError) : Type 0 where
   pub stored : List Stored
   pub begins : Begins unread stored
   pub more : List ℕ
   pub state : L
-  pub listed : HasListed takes old state stored more
+  pub listed : HasListed takes indices old state stored more
   pub outcome :
       -- the reader, the writer or memory failed
       (IsOutside fault × WritesBeginning before after (text old ++ more)
@@ -76,7 +80,7 @@ pub record StopsBehind {L : Type 0} (text : L → List ℕ)
       -- it can't be added
       ⊎ (Appends before after (text old ++ more)
       × (s : Stored) × HasGiven unread left (stored ++ s ∷ [])
-      × FailsToAdd refuses state new (opened s) fault)
+      × FailsToAdd refuses indices state new (opened s) fault)
 
 -- the file doesn't begin with its letters, or they can't be read
 pub record IsNoFile {L : Type 0} (takes : L → List OpenFrame → List ℕ → L → Type 0) (old new : L)
@@ -88,8 +92,8 @@ pub record IsNoFile {L : Type 0} (takes : L → List OpenFrame → List ℕ → 
 
 -- where and why listing stopped
 abbrev pub StopsListing : {L : Type 0} → (L → List ℕ) →
-    (L → List OpenFrame → List ℕ → L → Type 0) → (L → OpenFrame → Error → Type 0) → L → L →
-    Option (List ℕ) → Option (List ℕ) → Option (List ℕ) → Option (List ℕ) → FileError → Type 0
-StopsListing text takes refuses old new unread left before after fault =
-    StopsBehind text takes refuses old new unread left before after fault
+    (L → List OpenFrame → List ℕ → L → Type 0) → (L → OpenFrame → Error → Type 0) →
+    Option Indices → L → L → Option (List ℕ) → Option (List ℕ) → Option (List ℕ) → Option (List ℕ) → FileError → Type 0
+StopsListing text takes refuses indices old new unread left before after fault =
+    StopsBehind text takes refuses indices old new unread left before after fault
     ⊎ IsNoFile takes old new unread left before after fault

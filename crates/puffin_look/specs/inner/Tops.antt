@@ -1,5 +1,5 @@
 -- What the tallies of names take from frames, one after the other, and the rows that they end in.
-use Rattle.std.specs.Prelude.{◌≡◌, ◌⊎◌, ℕ, ◌-◌, min, true, false, List, [], ◌∷◌, ◌++◌, fold, Option, option_map}
+use Rattle.std.specs.Prelude.{◌≡◌, ◌⊎◌, ℕ, ◌-◌, min, true, false, List, [], ◌∷◌, ◌++◌, fold}
 use Rattle.std.proofs.Common.{refl, sym, ap, subst, ◌∙◌}
 use Rattle.std.proofs.lemmas.List.Sums.{fold-append}
 use Rattle.std.proofs.lemmas.List.Concat.{flat_map-append}
@@ -9,22 +9,18 @@ use Rattle.puffin_data.specs.Forest.{Forest}
 use Rattle.puffin_data.specs.Forest.Spelling.{Spells}
 use Rattle.puffin_data.specs.Honesty.{StreamFacts}
 use Rattle.puffin_data.specs.Walk.{IsFault}
-use Rattle.puffin_threads.specs.declared.thread_profiler.thread_info.ThreadInfo.{ThreadInfo}
-use Rattle.puffin_threads.specs.Thread.ThreadKey.{ThreadKey, key_of}
+use Rattle.puffin_threads.specs.Thread.ThreadKey.{ThreadKey}
 use Rattle.puffin_look.specs.OpenFrame.{OpenFrame}
 use Rattle.puffin_look.specs.Trees.{TreeFrame, AreRead, AreUnread}
-use Rattle.puffin_look.specs.FrameTree.{is_wanted, wanted_streams}
+use Rattle.puffin_look.specs.Wanted.{is_wanted, wanted_streams}
+use Rattle.puffin_look.specs.declared.wanted.Wanted.{Wanted}
 use Rattle.puffin_look.specs.Buckets.{last_of}
-use Rattle.puffin_look.specs.Top.{rank_of, forest_pieces, frame_pieces, pieces, with_length}
+use Rattle.puffin_look.specs.Top.{rank_of, forest_pieces, frame_pieces, pieces, with_length, with_one}
 use Rattle.puffin_look.specs.inner.Counts.{bucket_at}
 use Rattle.puffin_look.specs.inner.Reads.{AreRead-append}
 use Rattle.puffin_look.specs.inner.Tallies.{Counted, Row, rows_of, with_piece_in, HasMorePieces}
 use Rattle.puffin_look.specs.declared.top.Tallying.{Tallying}
 use Rattle.puffin_look.specs.declared.top.TopRow.{TopRow}
-
--- the thread that is wanted
-abbrev pub wanted_of : Tallying → Option ThreadKey
-wanted_of v = option_map (λ t. key_of t.now) v.thread
 
 -- ---- a thread
 
@@ -34,16 +30,17 @@ pub record AddsTally (v u : Tallying) (r : StreamFacts) : Type 0 where
   pub pieces : HasMorePieces v.tallies u.tallies (
       forest_pieces v.tallies.known.now v.tallies.texts forest)
   pub whole : u.whole ≡ v.whole
-  pub thread : u.thread ≡ v.thread
+  pub count : u.frames ≡ v.frames
+  pub wanted : u.wanted ≡ v.wanted
 
 -- a thread's scopes were added, unless the thread isn't wanted
 abbrev pub StepsTally : Tallying → Tallying → ThreadKey → StreamFacts → Type 0
 StepsTally v u key r =
-    ((is_wanted (wanted_of v) key ≡ true) × AddsTally v u r)
-    ⊎ ((is_wanted (wanted_of v) key ≡ false) × (u ≡ v))
+    ((is_wanted v.wanted.now key ≡ true) × AddsTally v u r)
+    ⊎ ((is_wanted v.wanted.now key ≡ false) × (u ≡ v))
 
 abbrev pub IsTallyFault : Tallying → ThreadKey → StreamFacts → Error → Type 0
-IsTallyFault v key r fault = (is_wanted (wanted_of v) key ≡ true) × IsFault r.form r.bytes fault
+IsTallyFault v key r fault = (is_wanted v.wanted.now key ≡ true) × IsFault r.form r.bytes fault
 
 -- ---- frames
 
@@ -51,16 +48,17 @@ IsTallyFault v key r fault = (is_wanted (wanted_of v) key ≡ true) × IsFault r
 pub record TakesTallies (v : Tallying) (frames : List OpenFrame) (text : List ℕ) (u : Tallying) : Type 0 where
   pub none : text ≡ []
   pub trees : List TreeFrame
-  pub read : AreRead (wanted_streams (wanted_of v)) frames trees
+  pub read : AreRead (wanted_streams v.wanted.now) frames trees
   pub rows : rows_of u.tallies
       ≡ fold with_piece_in (rows_of v.tallies) (pieces v.tallies.known.now v.tallies.texts trees)
   pub known : u.tallies.known ≡ v.tallies.known
   pub texts : u.tallies.texts ≡ v.tallies.texts
   pub whole : u.whole ≡ fold with_length v.whole trees
-  pub thread : u.thread ≡ v.thread
+  pub count : u.frames ≡ fold with_one v.frames trees
+  pub wanted : u.wanted ≡ v.wanted
 
 abbrev pub RefusesFrame : Tallying → OpenFrame → Error → Type 0
-RefusesFrame v frame cause = AreUnread (wanted_streams (wanted_of v) frame) cause
+RefusesFrame v frame cause = AreUnread (wanted_streams v.wanted.now frame) cause
 
 -- ---- rows
 
@@ -98,20 +96,21 @@ tallies_none v = record {
   known = refl;
   texts = refl;
   whole = refl;
-  thread = refl;
+  count = refl;
+  wanted = refl;
 }
 
 pub tallies_more : (u v w : Tallying) (xs ys : List OpenFrame) (s t : List ℕ) → TakesTallies u xs s v →
     TakesTallies v ys t w → TakesTallies u (xs ++ ys) (s ++ t) w
 tallies_more u v w xs ys s t a b =
-    let thread = ap (option_map (λ (t : Bor ThreadInfo). key_of t.now)) a.thread in
+    let wanted = ap (λ (w : Bor Wanted). w.now) a.wanted in
     let known = u.tallies.known.now in
     let texts = u.tallies.texts in
     record {
       none = ap (λ (r : List ℕ). r ++ t) a.none ∙ b.none;
       trees = a.trees ++ b.trees;
-      read = AreRead-append (wanted_streams (wanted_of u)) xs ys a.trees b.trees a.read (
-          subst (λ (p : Option ThreadKey). AreRead (wanted_streams p) ys b.trees) thread b.read);
+      read = AreRead-append (wanted_streams u.wanted.now) xs ys a.trees b.trees a.read (
+          subst (λ (w : Wanted). AreRead (wanted_streams w) ys b.trees) wanted b.read);
       rows = b.rows
           ∙ (λ i. fold with_piece_in (a.rows i) (pieces (a.known i).now (a.texts i) b.trees))
           ∙ sym (fold-append with_piece_in (rows_of u.tallies) (pieces known texts a.trees)
@@ -122,5 +121,7 @@ tallies_more u v w xs ys s t a b =
       texts = b.texts ∙ a.texts;
       whole = b.whole ∙ ap (λ (n : ℕ). fold with_length n b.trees) a.whole
           ∙ sym (fold-append with_length u.whole a.trees b.trees);
-      thread = b.thread ∙ a.thread;
+      count = b.count ∙ ap (λ (n : ℕ). fold with_one n b.trees) a.count
+          ∙ sym (fold-append with_one u.frames a.trees b.trees);
+      wanted = b.wanted ∙ a.wanted;
     }

@@ -1,5 +1,5 @@
 -- The frame that was added is the one that was read.
-use Rattle.std.proofs.Common.{◌≡◌, ◌⊎◌, [], ◌∷◌, inl, inr, refl, ap, subst}
+use Rattle.std.proofs.Common.{◌≡◌, ◌⊎◌, true, [], ◌∷◌, inl, inr, refl, ap, subst}
 use Rattle.std.proofs.lemmas.Result.{err_from_is_err_and}
 use Rattle.std.specs.Arc.{arc_value}
 use Rattle.puffin_data.specs.declared.error.Error.{Error}
@@ -7,6 +7,7 @@ use Rattle.puffin_data.specs.declared.error.Error.TheVariants.{Memory}
 use Rattle.puffin_data.specs.declared.file_error.FileError.TheVariants as file
 use Rattle.puffin_data.specs.Cause.{file_error_of}
 use Rattle.puffin_look.specs.OpenFrame.{OpenFrame, open_of}
+use Rattle.puffin_look.specs.Wanted.{is_within, frames_within}
 use Rattle.puffin_look.proofs.listing.add_frame.Goals as goal
 
 -- an error becomes `Memory`, or is told as it is
@@ -16,25 +17,27 @@ told cause = inr refl
 
 pub returns-clause-ok : goal.returns-clause-ok
 returns-clause-ok g c =
-    let added = c.in_ok-add.ensures.ok in
+    let added = c.in_ok-add_wanted.ensures.ok in
     let same = ap open_of c.deref.ensures in
     record {
       frame = open_of (arc_value c.in_ok-unpacked.unpacked);
       opens = c.in_ok-unpacked.ensures.ok;
       more = added.0;
       pending = added.1;
-      taken = subst (λ (f : OpenFrame). g.L.Listing.takes c.args.listing.now (f ∷ []) added.0 c.add.new.self) same added.2;
+      taken = subst (λ (f : OpenFrame). g.L.Listing.takes c.args.listing.now (frames_within c.args.indices (f ∷ [])) added.0 c.add_wanted.new.listing) same added.2;
     }
 
-pub returns-in_err-add-clause-err : goal.returns-in_err-add-clause-err
-returns-in_err-add-clause-err g c =
-    let p = err_from_is_err_and c.from_residual-in_err-add.result c.from_residual-in_err-add.ensures.1 in
-    let cause = c.in_err-add.field-0.0 in
+pub returns-in_err-add_wanted-clause-err : goal.returns-in_err-add_wanted-clause-err
+returns-in_err-add_wanted-clause-err g c =
+    let p = err_from_is_err_and c.from_residual-in_err-add_wanted.result c.from_residual-in_err-add_wanted.ensures.1 in
+    let cause = c.in_err-add_wanted.field-0.0 in
     let same = ap open_of c.deref.ensures in
-    rw (p.1, p.2) (elim (c.in_err-add.ensures.err) [
+    rw (p.1, p.2) (elim (c.in_err-add_wanted.ensures.err) [
       | inl memory ↦ inl (ap file_error_of memory)
       | inr refused ↦ elim (told cause) [
         | inl memory ↦ inl memory
-        | inr is ↦ inr (inr (open_of (arc_value c.in_ok-unpacked.unpacked), cause, c.in_ok-unpacked.ensures.ok, is, subst (λ (f : OpenFrame). g.L.Listing.refuses c.args.listing.now f cause) same refused))
+        | inr is ↦
+            let h = subst (λ (f : OpenFrame). (is_within c.args.indices f.meta.frame_index ≡ true) × g.L.Listing.refuses c.args.listing.now f cause) same refused in
+            inr (inr (open_of (arc_value c.in_ok-unpacked.unpacked), cause, c.in_ok-unpacked.ensures.ok, is, h.0, h.1))
       ]
     ])

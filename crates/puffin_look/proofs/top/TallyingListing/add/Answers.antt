@@ -38,4 +38,4 @@ returns-in_err-add_stream-clause-err c =
 pub returns-clause-ok : goal.returns-clause-ok
 returns-clause-ok c =
     let sorted : IsStrictlySortedBy thread_cmp (keys_of c.args.frame.now.thread_streams.entries) = search rules in
-    frame_tallied c.args.self.now (open_of c.args.frame.now) _ _ _ _ (ap (map entry_of) c.in-None.ensures.steps.0) c.streams.invariant (entries_held c.args.frame.now.thread_streams.entries sorted) refl refl (omega (arith, c.saturating_add-self.ensures, c.length_of.ensures))
+    frame_tallied c.args.self.now (open_of c.args.frame.now) _ _ _ _ (ap (map entry_of) c.in-None.ensures.steps.0) c.streams.invariant (entries_held c.args.frame.now.thread_streams.entries sorted) refl refl (omega (arith, c.saturating_add-self.ensures, c.length_of.ensures)) (omega (arith, c.saturating_add-self-2.ensures))
