@@ -3,7 +3,7 @@
 #![tactic(auto)]
 
 ghost use Rattle.std.specs.Prelude.{◌<◌, ◌^◌, ◌-◌, IfOk};
-ghost use Rattle.puffin_data.specs.Device.Counting.{failed_reads};
+ghost use Rattle.puffin_data.specs.Device.Counting.{failed_calls, failed_reads};
 
 mod skimmed;
 
@@ -291,7 +291,8 @@ fn rank(
     wanted: &Wanted,
     options: Options,
 ) -> Result<(), FileError>
-    requires { failed_reads source.old < 2 ^ 64 - 1 }
+    requires source { failed_reads source.old < 2 ^ 64 - 1 }
+    requires out { failed_calls out.old < 2 ^ 64 - 1 }
 {
     let mut top = read_top(rt.alloc(), overview, source, wanted, options.texts)?;
     top.sort_by(
