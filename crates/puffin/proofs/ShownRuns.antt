@@ -20,7 +20,7 @@ use Rattle.puffin_frames.specs.Frame.Contents.{Streams}
 use Rattle.puffin.specs.Shown.{AreNamed, NamedTold, RanEach, ShowsProgram, Shows, leader_first}
 use Rattle.puffin.proofs.ShownCode.{frames_show}
 
-there : {A : Type 0} (xs : List A) (k : ℕ) → k < length xs → (x : A) × (slice_get xs k ≡ Some x)
+pub there : {A : Type 0} (xs : List A) (k : ℕ) → k < length xs → (x : A) × (slice_get xs k ≡ Some x)
 there [] k below = absurd (omega arith)
 there (x ∷ xs) zero below = (x, refl)
 there (x ∷ xs) (suc k) below = there xs k (omega arith)
@@ -33,7 +33,7 @@ ran_well : {X E : Type 0} (is : Code → Type 0) (name : List ℕ) (known : ℕ)
 ran_well is name known (Ok x) after waiting well ran = ran
 ran_well is name known (Err e) after waiting well ran = absurd cc
 
-module _ {C W : Type 0} (states : W → Bool) (runs : W → ℕ → Code → Type 0) (leads : W → Code → Type 0) (takes : W → List Streams → Type 0) where
+module _ (C : Type 0) {W : Type 0} (states : W → Bool) (runs : W → ℕ → Code → Type 0) (leads : W → Code → Type 0) (takes : W → List Streams → Type 0) where
   abbrev tells : Ready C → W → ℕ → Ended → List Happening → List Happening → Type 0
   tells ready program number ended before after = HasRunAs (states program) (runs program number) (string_bytes ready.name) Short (num_known ready.scopes) ended.result before after ended.left.unreported
 

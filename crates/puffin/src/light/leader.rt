@@ -33,13 +33,12 @@ pub(crate) struct Led<L: Ledger + History, M: Ledger> {
 }
 
 /// Runs a program's leader on this thread, with what its seat holds.
-pub(crate) fn lead<
-    L: Ledger + History,
-    M: Ledger,
-    R: Wait + Clock + Copy,
-    T,
-    W: AnyProgram<T>,
->(rt: R, seat: Seat<L, M>, leader: T, program: &W) -> Led<L, M>
+pub(crate) fn lead<L: Ledger + History, M: Ledger, R: Wait + Clock + Copy, T, W: AnyProgram<T>>(
+    rt: R,
+    seat: Seat<L, M>,
+    leader: T,
+    program: &W,
+) -> Led<L, M>
     ensures tells { W.leads leader program.now result.counted.counts.unreported []
         result.counted.share.own }
     ensures takes { W.takes leader program.now (frames_in result.taken.share.own) }

@@ -282,13 +282,7 @@ fn all_ready<R: AllocGlobal + Clock + Copy>(
 pub(crate) fn run_named<
     R: AllocGlobal + Threads + Wait + Clock + Copy + Send + Sync,
     W: AnyProgram<Ready<SystemClock<R>>> + Sync,
->(
-    rt: R,
-    names: &[&str],
-    scopes: &Scopes,
-    settings: &Settings,
-    program: &W,
-) -> io::Result<Outcome>
+>(rt: R, names: &[&str], scopes: &Scopes, settings: &Settings, program: &W) -> io::Result<Outcome>
     ensures threads { IfOk result (λ outcome. vec_len outcome.threads ≡ length names.now) }
     ensures told { IfOk result (λ outcome.
         NamedTold W.tells W.leads W.takes (length (details_in scopes.now)) settings.now.leader.now
