@@ -1,5 +1,5 @@
 -- What a program's frames show of its code.
-use Rattle.std.proofs.Common.{◌∷◌, length, map}
+use Rattle.std.proofs.Common.{length, map}
 use Rattle.puffin.specs.declared.light.program.Gated.{Gated}
 use Rattle.puffin.specs.Places.{details_in}
 use Rattle.puffin.proofs.ShownRuns.{shows_if}
