@@ -42,15 +42,15 @@ not_here name x none same = let one = is_here name x same in absurd (omega (arit
 
 -- whether it is this name
 data Which (name x : List ℕ) : Type 0 where
-  same : name ≡ x → here name x ≡ 1 → Which name x
-  other : here name x ≡ 0 → Which name x
+  is_it : name ≡ x → here name x ≡ 1 → Which name x
+  is_none : here name x ≡ 0 → Which name x
 
 which : (name x : List ℕ) → Which name x
 which name x = by (bytes_eq name x) refl
   where
     by : (b : Bool) → bytes_eq name x ≡ b → Which name x
-    by true is = let eq : name ≡ x = (bytes_eq-Decides name x).0 is in same eq (is_here name x eq)
-    by false is = other (ap (λ (b : Bool). Rattle.std.specs.Prelude.cond b 1 0) is)
+    by true is = let eq : name ≡ x = (bytes_eq-Decides name x).0 is in is_it eq (is_here name x eq)
+    by false is = is_none (ap (λ (b : Bool). Rattle.std.specs.Prelude.cond b 1 0) is)
 
 -- ---- what one thread's jobs add to what is under a name
 
@@ -91,13 +91,14 @@ module _ (is : List ℕ → Code → Type 0) (known : ℕ) where
 
   present : (name : List ℕ) (jobs : List Job) (before after : List Happening) → times name (names_of jobs) ≡ 1 → HaveRun is known jobs before after → ((start : Option ℤ) → reports_under (key start name) before ≡ []) → Found name jobs after
   present name [] before after once ran none = absurd cc
-  present name (job ∷ jobs) before after once (mid, it, ran, rest) none = at (which name job.name)
+  present name (job ∷ jobs) before after once (mid, it, ran, rest) none = at (which name job.name) (λ zero_here.
+    present name jobs mid after (let sum = times-cons name job.name (names_of jobs) in omega (arith, once, sum, zero_here)) rest (λ start. apart name job before mid (not_here name job.name zero_here) ran start ∙ none start))
     where
       sum : times name (names_of (job ∷ jobs)) ≡ here name job.name + times name (names_of jobs)
       sum = times-cons name job.name (names_of jobs)
 
-      at : Which name job.name → Found name (job ∷ jobs) after
-      at (same eq one) =
+      at : Which name job.name → (here name job.name ≡ 0 → Found name jobs after) → Found name (job ∷ jobs) after
+      at (is_it eq one) later =
           let mine : HasRun name Short known job.code before mid job.unreported = subst (λ (x : List ℕ). HasRun x Short known job.code before mid job.unreported) (sym eq) ran in
           let i = key mine.start name in
           record {
@@ -115,8 +116,8 @@ module _ (is : List ℕ → Code → Type 0) (known : ℕ) where
                 ∙ ap (λ (rs : List StreamFacts). rs ++ reports_under i (map (reported i) mine.streams)) (none mine.start)
                 ∙ under_itself i mine.streams;
           }
-      at (other zero_here) =
-          let f = present name jobs mid after (omega (arith, once, sum, zero_here)) rest (λ start. apart name job before mid (not_here name job.name zero_here) ran start ∙ none start) in
+      at (is_none zero_here) later =
+          let f = later zero_here in
           let c = f.there in let less = c.1 in
           record { job = f.job; there = (suc c.0, omega arith, c.2); named = f.named; it = f.it; before = f.before; mid = f.mid; ran = f.ran; alone = f.alone }
 
@@ -139,14 +140,14 @@ record At (name : List ℕ) (threads : List (List Job)) : Type 0 where
 
 find : (name : List ℕ) (threads : List (List Job)) → IsAlone name (names_in threads) → At name threads
 find name [] alone = absurd cc
-find name (x ∷ xs) alone = by (times name (names_of x)) refl
+find name (x ∷ xs) alone = by (times name (names_of x)) refl (λ none. find name xs (let sum = times-in name x xs in omega (arith, alone, sum, none)))
   where
     sum : times name (names_in (x ∷ xs)) ≡ times name (names_of x) + times name (names_in xs)
     sum = times-in name x xs
 
-    by : (n : ℕ) → times name (names_of x) ≡ n → At name (x ∷ xs)
-    by zero is =
-        let f = find name xs (omega (arith, alone, sum, is)) in
+    by : (n : ℕ) → times name (names_of x) ≡ n → (times name (names_of x) ≡ 0 → At name xs) → At name (x ∷ xs)
+    by zero is later =
+        let f = later is in
         record {
           k = suc f.k;
           jobs = f.jobs;
@@ -158,7 +159,7 @@ find name (x ∷ xs) alone = by (times name (names_of x)) refl
         elsewhere : (f : At name xs) (j : ℕ) (other : List Job) → slice_get (x ∷ xs) j ≡ Some other → j ≢ suc f.k → times name (names_of other) ≡ 0
         elsewhere f zero other e apart = let eq : x ≡ other = cc in subst (λ (js : List Job). times name (names_of js) ≡ 0) eq is
         elsewhere f (suc j) other e apart = f.others j other e (λ same. apart (ap suc same))
-    by (suc zero) is = record {
+    by (suc zero) is later = record {
       k = 0;
       jobs = x;
       there = refl;
@@ -169,14 +170,11 @@ find name (x ∷ xs) alone = by (times name (names_of x)) refl
         elsewhere : (j : ℕ) (other : List Job) → slice_get (x ∷ xs) j ≡ Some other → j ≢ 0 → times name (names_of other) ≡ 0
         elsewhere zero other e apart = absurd (apart refl)
         elsewhere (suc j) other e apart = nowhere name xs (omega (arith, alone, sum, is)) j other e
-    by (suc (suc n)) is = absurd (omega (arith, alone, sum, is))
+    by (suc (suc n)) is later = absurd (omega (arith, alone, sum, is))
 
 -- the jobs at each place where there is a share
 did_at : (threads : List (List Job)) (shares : List Member) (j : ℕ) (m : Member) → length shares ≡ length threads → slice_get shares j ≡ Some m → (jobs : List Job) × (slice_get threads j ≡ Some jobs)
 did_at threads shares j m same e = (get_or threads j [], slice_get-get_or threads j [] (subst (λ (n : ℕ). j < n) same (slice_get_within shares j m e)))
-
-same_place : (j k : ℕ) → (j ≡ k → ⊥) → j ≢ k
-same_place j k differs = differs
 
 pub frames_show_jobs : FramesShowJobs
 frames_show_jobs known n is threads shares taker log pending did same quiet recounts name alone =

@@ -22,17 +22,15 @@ use Rattle.puffin.proofs.ShownRuns.{there}
 -- a list of what there is for each number
 chosen : (P : ℕ → List Job → Type 0) (n : ℕ) → ((k : ℕ) → k < n → (jobs : List Job) × P k jobs) → (threads : List (List Job)) × (length threads ≡ n) × ((k : ℕ) (jobs : List Job) → slice_get threads k ≡ Some jobs → P k jobs)
 chosen P zero f = ([], refl, λ k jobs e. absurd cc)
-chosen P (suc n) f = (first.0 ∷ rest.0, ap suc rest.1, at)
+chosen P (suc n) f = put (f 0 (omega arith)) (chosen (λ k. P (suc k)) n (λ k below. f (suc k) (omega arith)))
   where
-    first : (jobs : List Job) × P 0 jobs
-    first = f 0 (omega arith)
-
-    rest : (threads : List (List Job)) × (length threads ≡ n) × ((k : ℕ) (jobs : List Job) → slice_get threads k ≡ Some jobs → P (suc k) jobs)
-    rest = chosen (λ k. P (suc k)) n (λ k below. f (suc k) (omega arith))
-
-    at : (k : ℕ) (jobs : List Job) → slice_get (first.0 ∷ rest.0) k ≡ Some jobs → P k jobs
-    at zero jobs e = let same : first.0 ≡ jobs = cc in subst (P 0) same first.1
-    at (suc k) jobs e = rest.2 k jobs e
+    put : (first : (jobs : List Job) × P 0 jobs) → ((threads : List (List Job)) × (length threads ≡ n) × ((k : ℕ) (jobs : List Job) → slice_get threads k ≡ Some jobs → P (suc k) jobs))
+        → (threads : List (List Job)) × (length threads ≡ suc n) × ((k : ℕ) (jobs : List Job) → slice_get threads k ≡ Some jobs → P k jobs)
+    put first rest = (first.0 ∷ rest.0, ap suc rest.1, λ k jobs e. at first rest.0 rest.2 k jobs e)
+      where
+        at : (first : (jobs : List Job) × P 0 jobs) (rest : List (List Job)) → ((k : ℕ) (jobs : List Job) → slice_get rest k ≡ Some jobs → P (suc k) jobs) → (k : ℕ) (jobs : List Job) → slice_get (first.0 ∷ rest) k ≡ Some jobs → P k jobs
+        at first rest later zero jobs e = let eq : first.0 ≡ jobs = cc in subst (P 0) eq first.1
+        at first rest later (suc k) jobs e = later k jobs e
 
 -- what is so of what didn't fail
 well_so : {X E : Type 0} (P : Type 0) (result : Result X E) → IsOk result → OnOk result P → P
