@@ -1,6 +1,6 @@
 -- Each job is one more that ran.
 use Rattle.std.proofs.Common.{◌≡◌, ℕ, true, List, string_bytes, refl, ap, sym, subst, ◌∙◌}
-use Rattle.std.specs.Prelude.{is_ok}
+use Rattle.std.specs.Prelude.{is_ok, IfSome}
 use Rattle.puffin_data.specs.declared.data.form.Form.TheVariants.{Short}
 use Rattle.puffin.specs.Happenings.{Happening}
 use Rattle.puffin.specs.LightThread.{scopes_of}
@@ -28,7 +28,8 @@ loop-preserved g c =
     let s = c.start-thread.ensures in let e = c.end-back.ensures.reports in let r = c.work-result.result in
     let known = num_known c.args.thread.scopes in let own = c.end-back.result.0.unreported in
     let at_first : W.states pool ≡ true → scopes_of c.start-thread.result ≡ c.args.thread.scopes = λ stated. s.scopes ∙ c.new-ready.ensures.scopes ∙ c.loop.invariant.known stated in
-    let named = subst (λ n. W.names pool next.1 (string_bytes n)) (sym c.new-ready.ensures.name) c.in-Ok-Some.ensures in
+    let told_next = subst (λ o. IfSome o (λ n. W.names pool n.1 (string_bytes n.0))) c.in-Ok-Some.field-0-is c.in-Ok-Some.ensures in
+    let named = subst (λ n. W.names pool next.1 (string_bytes n)) (sym c.new-ready.ensures.name) told_next in
     let well = ap is_ok c.in-Ok.is in
     record {
       known = λ stated. c.end-back.ensures.scopes ∙ scopes_stay _ g.P.Reporter.accepts g.P.Reporter.refuses (W.states pool) its c.start-thread.result c.work-result.new.thread r well c.work-result.ensures stated ∙ at_first stated;
