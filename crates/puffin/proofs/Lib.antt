@@ -18,3 +18,6 @@ mod ShownCode
 mod JoinedThreads
 mod TakenFrames
 mod ShownRuns
+mod ShownJobs
+mod ShownPools
+mod TellingJobs

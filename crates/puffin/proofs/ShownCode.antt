@@ -25,11 +25,11 @@ use Rattle.puffin.specs.Shown.{ShowsCode, IsAlone, FramesShow}
 
 -- ---- reports under one key
 
-under_itself : (i : ThreadKey) (rs : List StreamFacts) → reports_under i (map (reported i) rs) ≡ rs
+pub under_itself : (i : ThreadKey) (rs : List StreamFacts) → reports_under i (map (reported i) rs) ≡ rs
 under_itself i [] = refl
 under_itself i (r ∷ rs) = ap (λ (b : Bool). (if b then r ∷ [] else []) ++ reports_under i (map (reported i) rs)) (has_same_key-itself i) ∙ ap (λ (xs : List StreamFacts). r ∷ xs) (under_itself i rs)
 
-under_others : (i j : ThreadKey) → j.name ≢ i.name → (rs : List StreamFacts) → reports_under j (map (reported i) rs) ≡ []
+pub under_others : (i j : ThreadKey) → j.name ≢ i.name → (rs : List StreamFacts) → reports_under j (map (reported i) rs) ≡ []
 under_others i j apart [] = refl
 under_others i j apart (r ∷ rs) = unlike (has_same_key j i) refl (under_others i j apart rs)
   where
@@ -37,12 +37,12 @@ under_others i j apart (r ∷ rs) = unlike (has_same_key j i) refl (under_others
     unlike true is none = absurd (apart (ap (λ (k : ThreadKey). k.name) (has_same_key-one j i is)))
     unlike false is none = ap (λ (b : Bool). (if b then r ∷ [] else []) ++ reports_under j (map (reported i) rs)) is ∙ none
 
-no_frames : (i : ThreadKey) (rs : List StreamFacts) → frames_in (map (reported i) rs) ≡ []
+pub no_frames : (i : ThreadKey) (rs : List StreamFacts) → frames_in (map (reported i) rs) ≡ []
 no_frames i [] = refl
 no_frames i (r ∷ rs) = no_frames i rs
 
 -- streams that fit memory spell one forest
-spelled_once : (rs : List StreamFacts) (f g : Forest) → AllFit rs → SpellInTurn rs f → SpellInTurn rs g → f ≡ g
+pub spelled_once : (rs : List StreamFacts) (f g : Forest) → AllFit rs → SpellInTurn rs f → SpellInTurn rs g → f ≡ g
 spelled_once [] f g fit h k = h ∙ sym k
 spelled_once (r ∷ rs) f g fit (a, b, honest, rest, is) (c, d, honest2, rest2, is2) =
     let small : length (spelling r.form a) < 2 ^ 64 = subst (λ (w : List ℕ). length w < 2 ^ 64) honest.stream.whole fit.0 in
@@ -51,15 +51,15 @@ spelled_once (r ∷ rs) f g fit (a, b, honest, rest, is) (c, d, honest2, rest2, 
 
 -- ---- lists
 
-at_most_one : {A : Type 0} (o : Option A) (x y : A) → o ≡ Some x → o ≡ Some y → x ≡ y
+pub at_most_one : {A : Type 0} (o : Option A) (x y : A) → o ≡ Some x → o ≡ Some y → x ≡ y
 at_most_one o x y p q = let same = sym p ∙ q in cc
 
-contained : (ms : List Member) (k : ℕ) (m : Member) → slice_get ms k ≡ Some m → Contains (accounts_of ms) (account_of m)
+pub contained : (ms : List Member) (k : ℕ) (m : Member) → slice_get ms k ≡ Some m → Contains (accounts_of ms) (account_of m)
 contained [] k m e = absurd cc
 contained (x ∷ ms) zero m e = (0, omega arith, let same : x ≡ m = cc in ap account_of same)
 contained (x ∷ ms) (suc k) m e = let c = contained ms k m e in let less = c.1 in (suc c.0, omega arith, c.2)
 
-every : (P : ℕ × List Happening → Type 0) (ms : List Member) → ((j : ℕ) (m : Member) → slice_get ms j ≡ Some m → P (account_of m)) → All P (accounts_of ms)
+pub every : (P : ℕ × List Happening → Type 0) (ms : List Member) → ((j : ℕ) (m : Member) → slice_get ms j ≡ Some m → P (account_of m)) → All P (accounts_of ms)
 every P [] h = All-nil P
 every P (x ∷ ms) h = All-cons P (account_of x) (accounts_of ms) (h 0 x refl) (every P ms (λ j m e. h (suc j) m e))
 
@@ -67,14 +67,14 @@ every P (x ∷ ms) h = All-cons P (account_of x) (accounts_of ms) (h 0 x refl) (
 named_at : (names : List (List ℕ)) (shares : List Member) (j : ℕ) (m : Member) → length shares ≡ length names → slice_get shares j ≡ Some m → (name : List ℕ) × (slice_get names j ≡ Some name)
 named_at names shares j m same e = (get_or names j [], slice_get-get_or names j [] (subst (λ (n : ℕ). j < n) same (slice_get_within shares j m e)))
 
-none_in : {A : Type 0} (xs : List A) → length xs ≡ 0 → xs ≡ []
+pub none_in : {A : Type 0} (xs : List A) → length xs ≡ 0 → xs ≡ []
 none_in [] none = refl
 none_in (x ∷ xs) none = absurd (omega arith)
 
-abbrev here : List ℕ → List ℕ → ℕ
+abbrev pub here : List ℕ → List ℕ → ℕ
 here name x = cond (bytes_eq name x) 1 0
 
-is_here : (name x : List ℕ) → name ≡ x → here name x ≡ 1
+pub is_here : (name x : List ℕ) → name ≡ x → here name x ≡ 1
 is_here name x same = ap (λ (b : Bool). cond b 1 0) ((bytes_eq-Decides name x).1 same)
 
 -- a name that stands in a list is counted there

@@ -20,7 +20,7 @@ use Rattle.puffin_frames.specs.Frame.Contents.{Streams}
 use Rattle.puffin.specs.Shown.{AreNamed, NamedTold, RanEach, ShowsProgram, Shows, leader_first}
 use Rattle.puffin.proofs.ShownCode.{frames_show}
 
-there : {A : Type 0} (xs : List A) (k : ℕ) → k < length xs → (x : A) × (slice_get xs k ≡ Some x)
+pub there : {A : Type 0} (xs : List A) (k : ℕ) → k < length xs → (x : A) × (slice_get xs k ≡ Some x)
 there [] k below = absurd (omega arith)
 there (x ∷ xs) zero below = (x, refl)
 there (x ∷ xs) (suc k) below = there xs k (omega arith)

@@ -1,7 +1,8 @@
 -- What the frames of a shared profiler show of the code that its threads ran.
-use Rattle.std.specs.Prelude.{◌≡◌, ◌^◌, ◌<◌, ℕ, zero, suc, ℤ, List, [], ◌∷◌, ◌++◌, length, Bool, true, false, Option, Some, None, slice_get, string_bytes, count_by}
+use Rattle.std.specs.Prelude.{◌≡◌, ◌^◌, ◌<◌, ℕ, zero, suc, ℤ, List, [], ◌∷◌, ◌++◌, length, map, Bool, true, false, Option, Some, None, slice_get, string_bytes, count_by, Contains}
 use Rattle.std.specs.Str.{bytes_eq}
-use Rattle.std.specs.FinMap as map
+use Rattle.std.specs.FinMap as fin_map
+use Rattle.std.specs.List.{flat_map}
 use Rattle.puffin_data.specs.declared.data.form.Form.TheVariants.{Short}
 use Rattle.puffin_data.specs.Forest.{Forest, append}
 use Rattle.puffin_data.specs.Forest.Measures.{scope_count}
@@ -19,7 +20,7 @@ use Rattle.puffin.specs.Leaving.{accounts_of}
 use Rattle.puffin.specs.Members.{Member}
 use Rattle.puffin.specs.Recounted.{SpellInTurn, streams_under, ReportsNothing, Recounts}
 use Rattle.puffin.specs.Taking.{num_scopes_in}
-use Rattle.puffin.specs.Telling.{HasRun}
+use Rattle.puffin.specs.Telling.{HasRun, Job, HaveRun, num_unreported}
 
 -- Under a thread's start and name, the frames, one after the other, then what is pending, and then so many scopes that wait, are
 -- just the scopes of this code that began, in order, nested as the code nests them: none is lost, doubled or changed.
@@ -83,7 +84,7 @@ pub record ShowsProgram (takes : List Streams → Type 0) (known : ℕ) (is : �
   pub taken : takes frames
   pub as_many : length frames < 2 ^ 64 → outcome.frames ≡ length frames
   pub handed : outcome.settled.handed ≡ num_scopes_in frames
-  pub left : outcome.settled.pending ≡ total_scopes (map.values pending)
+  pub left : outcome.settled.pending ≡ total_scopes (fin_map.values pending)
   pub each : ShowsEach known is names (outcome.leader ∷ outcome.threads.items) frames pending
 
 -- what a program shows, if it states its code, and no thread failed
@@ -111,3 +112,71 @@ pub record NamedTold {C W : Type 0}
   pub named : AreNamed known names threads
   pub leader_named : (string_bytes leader.name ≡ leader_name) × (num_known leader.scopes ≡ known)
   pub told : HasTold tells leads takes threads leader program outcome
+
+-- ---- jobs
+
+-- the names of all jobs of these threads
+abbrev pub names_in : List (List Job) → List (List ℕ)
+names_in threads = flat_map (λ jobs. map (λ job. job.name) jobs) threads
+
+-- each thread, by its number, did these jobs, of which this is true, through its share
+abbrev pub EachDid : (is : ℕ → List ℕ → Code → Type 0) → (known : ℕ) → (threads : List (List Job)) →
+    (shares : List Member) → Type 0
+EachDid is known threads shares =
+    (k : ℕ) (jobs : List Job) → slice_get threads k ≡ Some jobs →
+    (share : Member) × (slice_get shares k ≡ Some share) × HaveRun (is k) known jobs [] share.own
+
+-- for each name that just one job has: the frames show code of which this is true for that job's thread and name
+abbrev pub ShowsJobs : (is : ℕ → List ℕ → Code → Type 0) → (known : ℕ) → (threads : List (List Job)) →
+    (frames : List Streams) → (pending : Streams) → Type 0
+ShowsJobs is known threads frames pending =
+    (name : List ℕ) → IsAlone name (names_in threads) →
+    (k : ℕ) × (jobs : List Job) × (job : Job)
+    × (slice_get threads k ≡ Some jobs)
+    × Contains jobs job
+    × (job.name ≡ name)
+    × is k name job.code
+    × ∥ ShowsCode known job.code name frames pending job.unreported ∥₁
+
+-- Where any number of threads, with as many shares, each did its jobs, and one share more took the frames: of each job whose name
+-- no other has, the frames show its code.
+abbrev pub FramesShowJobs : Type 1
+FramesShowJobs =
+    (known n : ℕ) (is : ℕ → List ℕ → Code → Type 0) (threads : List (List Job))
+    (shares : List Member) (taker : Member) (log : History) (pending : Streams) →
+    EachDid is known threads shares → length shares ≡ length threads →
+    ReportsNothing taker.own →
+    Recounts n (accounts_of (taker ∷ shares)) log pending →
+    ShowsJobs is known threads (frames_in taker.own) pending
+
+-- what is true of the code of a pool's leader, and then of each job of its threads
+abbrev pub leader_before : (Code → Type 0) → (List ℕ → Code → Type 0) → ℕ → List ℕ → Code → Type 0
+leader_before leads does zero = λ name code. leads code
+leader_before leads does (suc number) = does
+
+-- What the frames that a leader took, and what is pending, show of its pool. They are as many, and have as many scopes, as its
+-- outcome counts; and a thread's unreported scopes are those of its jobs.
+pub record ShowsPool (takes : List Streams → Type 0) (known : ℕ) (leads : Code → Type 0)
+    (does : List ℕ → Code → Type 0) (leader_name : List ℕ) (outcome : Outcome) : Type 0 where
+  pub frames : List Streams
+  pub pending : Streams
+  pub taken : takes frames
+  pub as_many : length frames < 2 ^ 64 → outcome.frames ≡ length frames
+  pub handed : outcome.settled.handed ≡ num_scopes_in frames
+  pub left : outcome.settled.pending ≡ total_scopes (fin_map.values pending)
+  -- what the leader did, and then what each thread did, in order
+  pub led : Job
+  pub threads : List (List Job)
+  pub leader : (led.name ≡ leader_name) × (led.unreported ≡ outcome.leader.unreported)
+  pub counted : (k : ℕ) (jobs : List Job) → slice_get threads k ≡ Some jobs →
+      (counts : ThreadCounts)
+      × (slice_get outcome.threads.items k ≡ Some counts)
+      × (counts.unreported ≡ num_unreported jobs)
+  pub each : ShowsJobs (leader_before leads does) known ((led ∷ []) ∷ threads) frames pending
+
+-- what a pool shows, if it states its code, and no thread failed
+abbrev pub PoolShows : Bool → (takes : List Streams → Type 0) → (known : ℕ) → (leads : Code → Type 0) →
+    (does : List ℕ → Code → Type 0) → (leader_name : List ℕ) → Outcome → Type 0
+PoolShows false takes known leads does leader_name outcome = Unit {0}
+PoolShows true takes known leads does leader_name outcome =
+    outcome.failed ≡ None → ShowsPool takes known leads does leader_name outcome

@@ -1,7 +1,8 @@
 -- What code on a new thread reports, where the reporter tells of each accepted report, and what waits.
-use Rattle.std.specs.Prelude.{◌≡◌, ℕ, ℤ, List, [], ◌∷◌, ◌++◌, ◌<◌, ◌^◌, length, map, Bool, true, false, Option, Result, OnOk}
+use Rattle.std.specs.Prelude.{◌≡◌, ℕ, ℤ, List, [], ◌∷◌, ◌++◌, ◌<◌, ◌^◌, ◌-◌, min, sum_by, length, map, Bool, true, false, Option, Result, OnOk}
 use Rattle.puffin_data.specs.declared.error.Error.{Error}
 use Rattle.puffin_data.specs.declared.data.form.Form.{Form}
+use Rattle.puffin_data.specs.declared.data.form.Form.TheVariants.{Short}
 use Rattle.puffin_data.specs.Forest.{Forest, append}
 use Rattle.puffin_data.specs.Forest.Measures.{scope_count}
 use Rattle.puffin_data.specs.Honesty.{StreamFacts}
@@ -70,3 +71,36 @@ abbrev pub HasLedAs : Bool → (Code → Type 0) → (name : List ℕ) → Form 
 HasLedAs false is name form known before after waiting = Unit {0}
 HasLedAs true is name form known before after waiting =
     (code : Code) × is code × HasRun name form known code before after waiting
+
+-- ---- jobs
+
+-- a job that a thread did: the name under which it was recorded, its code, and how many of its scopes closed and weren't reported
+pub record Job : Type 0 where
+  pub name : List ℕ
+  pub code : Code
+  pub unreported : ℕ
+
+-- Jobs ran one after the other on a thread that knew so many places, each under its own name, and each of code of which this is
+-- true.
+abbrev pub HaveRun : (is : List ℕ → Code → Type 0) → (known : ℕ) → List Job → (before after : List Happening) → Type 0
+HaveRun is known [] before after = after ≡ before
+HaveRun is known (job ∷ jobs) before after = (mid : List Happening)
+    × is job.name job.code
+    × HasRun job.name Short known job.code before mid job.unreported
+    × HaveRun is known jobs mid after
+
+-- the number of unreported scopes of jobs, or the largest `u64` if there are more
+abbrev pub num_unreported : List Job → ℕ
+num_unreported jobs = min (sum_by (λ job. job.unreported) jobs) (2 ^ 64 - 1)
+
+-- If this is stated: jobs of which this is true ran on a thread; and what that told.
+abbrev pub HaveRunAs : Bool → (List ℕ → Code → Type 0) → (known : ℕ) → (before after : List Happening) →
+    (unreported : ℕ) → Type 0
+HaveRunAs false is known before after unreported = Unit {0}
+HaveRunAs true is known before after unreported = (jobs : List Job)
+    × HaveRun is known jobs before after
+    × (unreported ≡ num_unreported jobs)
+
+-- a job has this name, and runs this code
+abbrev pub Named : {J : Type 0} → (J → List ℕ → Type 0) → (J → Code → Type 0) → List ℕ → Code → Type 0
+Named {J} names runs name code = (job : J) × names job name × runs job code

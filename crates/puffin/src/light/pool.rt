@@ -1,6 +1,9 @@
 //! Pools: threads that take jobs, each of which is recorded under a name of its own.
 
-ghost use Rattle.std.specs.Prelude.{◌≡◌, IfOk, vec_len};
+ghost use Rattle.std.specs.Prelude.{◌≡◌, IfOk, vec_len, length};
+ghost use Rattle.puffin.specs.Places.{details_in};
+ghost use Rattle.puffin.specs.Shown.{PoolShows};
+ghost use Rattle.puffin.specs.Telling.{Named};
 
 use crate::light::gate::Gate;
 use crate::light::guard::Records;
@@ -46,21 +49,49 @@ use std::thread::Threads;
 /// }
 /// ```
 pub trait Pool {
+    ghost use Rattle.std.specs.Prelude.{◌≡◌, ℕ, Bool, false, List, [], IfOk, IfSome, string_bytes};
+    ghost use Rattle.puffin_frames.specs.Frame.Contents.{Streams};
+    ghost use Rattle.puffin.specs.Code.{Code};
+    ghost use Rattle.puffin.specs.Telling.{RunsAs, LeadsAs};
+
     /// What a job consists of. It never leaves the thread that took it, but the proof of [`pooled`] needs it to be `Send`.
     type Job: Drop + Send;
+
+    /// Whether the pool states which code its jobs and its leader run. It doesn't, unless you write this, [`Pool::names`],
+    /// [`Pool::runs`] and [`Pool::leads`].
+    ghost states: { Self → Bool } = { λ pool. false };
+
+    /// Whether a job may have this name.
+    ghost names: { Self → Self.Job → List ℕ → Type 0 } = { λ pool job name. Unit {0} };
+
+    /// Whether a job may run this code.
+    ghost runs: { Self → Self.Job → Code → Type 0 } = { λ pool job code. Unit {0} };
+
+    /// Whether the leader may run this code.
+    ghost leads: { Self → Code → Type 0 } = { λ pool code. Unit {0} };
+
+    /// What the leader states of the frames that it took.
+    ghost takes: { Self → List Streams → Type 0 } = { λ pool frames. Unit {0} };
 
     /// Takes the next job, with the name under which it is recorded, or `None` if there is no other: the thread that asked ends
     /// then. The threads call it at the same time, and whenever they have nothing to do, so it may wait for a job. If it fails,
     /// the thread that asked ends, and the error is in [`Outcome::failed`].
-    fn next<R: Wait>(&self, rt: &R) -> io::Result<Option<(String, Self::Job)>>;
+    fn next<R: Wait>(&self, rt: &R) -> io::Result<Option<(String, Self::Job)>>
+        ensures { IfOk result (λ next. IfSome next (λ named.
+            names self.now named.1 (string_bytes named.0))) };
 
     /// Does a job. Its scopes begin on `thread`, which has the job's name; two jobs with the same name are two threads of a
     /// frame unless they begin at the same time. If it fails, the thread that did it takes no other job, and the error is in
     /// [`Outcome::failed`].
-    fn work<R: Wait, T: Records>(&self, rt: &R, job: Self::Job, thread: &mut T) -> io::Result<()>;
+    fn work<R: Wait, T: Records>(&self, rt: &R, job: Self::Job, thread: &mut T) -> io::Result<()>
+        ensures { RunsAs (states self.now) (runs self.now job) T.begins T.ends thread.old result
+            thread.new };
 
     /// Takes frames while the threads work, as [`Program::lead`](crate::light::Program::lead) does.
-    fn lead<R: Wait, T: Records, F: Frames>(&self, rt: &R, thread: &mut T, frames: &mut F);
+    fn lead<R: Wait, T: Records, F: Frames>(&self, rt: &R, thread: &mut T, frames: &mut F)
+        ensures runs { LeadsAs (states self.now) (leads self.now) T.begins T.ends thread.old
+            thread.new }
+        ensures takes { F.taken frames.old ≡ [] → takes self.now (F.taken frames.new) };
 }
 
 /// A pool whose threads wait at a gate.
@@ -70,12 +101,21 @@ struct Jobs<'p, W> {
 }
 
 impl<C: Clock + Copy + Drop, W: Pool> AnyProgram<Ready<SystemClock<C>>> for Jobs<'_, W> {
-    /// Nothing is stated of the jobs, nor of the leader.
-    ghost tells = { λ ready jobs number ended before after. Unit {0} };
+    ghost use Rattle.std.specs.Prelude.{OnOk, string_bytes};
+    ghost use Rattle.puffin_data.specs.declared.data.form.Form.{Form};
+    ghost use Rattle.puffin.specs.Places.{num_known};
+    ghost use Rattle.puffin.specs.Telling.{HasLedAs, HaveRunAs, Named};
 
-    ghost leads = { λ ready jobs unreported before after. Unit {0} };
+    ghost tells = { λ ready jobs number ended before after.
+        OnOk ended.result (HaveRunAs (W.states jobs.pool.now)
+        (Named (W.names jobs.pool.now) (W.runs jobs.pool.now)) (num_known ready.scopes) before
+        after ended.left.unreported) };
 
-    ghost takes = { λ ready jobs frames. Unit {0} };
+    ghost leads = { λ ready jobs unreported before after.
+        HasLedAs (W.states jobs.pool.now) (W.leads jobs.pool.now) (string_bytes ready.name)
+        Form.Short (num_known ready.scopes) before after unreported };
+
+    ghost takes = { λ ready jobs frames. W.takes jobs.pool.now frames };
 
     fn gate(&self) -> &Gate {
         &self.gate
@@ -127,8 +167,15 @@ impl<C: Clock + Copy + Drop, W: Pool> AnyProgram<Ready<SystemClock<C>>> for Jobs
             left = left.and(of_job);
             reporter = back;
             scopes = known;
-            if result.is_err() {
-                return (Ended { result, left }, reporter);
+            match result {
+                Ok(()) => {}
+                Err(e) => return (
+                    Ended {
+                        result: Err(e),
+                        left,
+                    },
+                    reporter,
+                ),
             }
         }
         unreachable!()
@@ -165,6 +212,10 @@ pub fn pooled<R: AllocGlobal + Threads + Wait + Clock + Copy + Send + Sync, W: P
     pool: &W,
 ) -> io::Result<Outcome>
     ensures threads { IfOk result (λ outcome. vec_len outcome.threads ≡ workers) }
+    ensures shows { IfOk result (λ outcome.
+        PoolShows (W.states pool.now) (W.takes pool.now) (length (details_in scopes.now))
+        (W.leads pool.now) (Named (W.names pool.now) (W.runs pool.now))
+        settings.now.leader.now outcome) }
 {
     let names = vec![in rt.alloc(); ""; workers]?;
     let jobs = Jobs {
