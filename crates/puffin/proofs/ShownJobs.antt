@@ -92,7 +92,7 @@ module _ (is : List ℕ → Code → Type 0) (known : ℕ) where
   present : (name : List ℕ) (jobs : List Job) (before after : List Happening) → times name (names_of jobs) ≡ 1 → HaveRun is known jobs before after → ((start : Option ℤ) → reports_under (key start name) before ≡ []) → Found name jobs after
   present name [] before after once ran none = absurd cc
   present name (job ∷ jobs) before after once (mid, it, ran, rest) none = at (which name job.name) (λ zero_here.
-    present name jobs mid after (let sum = times-cons name job.name (names_of jobs) in omega (arith, once, sum, zero_here)) rest (λ start. apart name job before mid (not_here name job.name zero_here) ran start ∙ none start))
+      present name jobs mid after (let sum = times-cons name job.name (names_of jobs) in omega (arith, once, sum, zero_here)) rest (λ start. apart name job before mid (not_here name job.name zero_here) ran start ∙ none start))
     where
       sum : times name (names_of (job ∷ jobs)) ≡ here name job.name + times name (names_of jobs)
       sum = times-cons name job.name (names_of jobs)
