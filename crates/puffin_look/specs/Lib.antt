@@ -15,4 +15,7 @@ pub mod Buckets
 pub mod Top
 pub mod TopTable
 pub mod Arguments
+pub mod Page
+pub mod PageChoice
+pub mod PageWords
 pub mod inner

@@ -25,7 +25,7 @@ pub enum View<'w> {
 }
 
 /// Parses a decimal number without a sign, below `2^64`.
-fn number(word: &str) -> Option<u64>
+pub(crate) fn number(word: &str) -> Option<u64>
     ensures { result ≡ number_in word.now }
 {
     if word.starts_with('+') {

@@ -5,6 +5,8 @@
 ghost use Rattle.std.specs.Prelude.{◌<◌, ◌^◌, ◌-◌, IfOk};
 ghost use Rattle.puffin_data.specs.Device.Counting.{failed_reads};
 
+mod page;
+mod pages;
 mod skimmed;
 
 use crate::skimmed::Skimmed;
@@ -12,8 +14,8 @@ use puffin_data::data::{Buffered, Counted};
 use puffin_data::{FileError, FrameIndex};
 use puffin_look::{
     Overview, TopChoice, View, print_folded, print_frame, print_frames, print_slowest,
-    print_threads, print_top, print_trace, read_overview, read_top, read_top_words, read_words,
-    threads_named,
+    print_threads, print_top, print_trace, read_overview, read_top, read_top_words,
+    read_view_words, read_words, threads_named,
 };
 use puffin_threads::thread_profiler::ThreadInfo;
 use std::fs::File;
@@ -37,6 +39,8 @@ const HELP: &str = "puffin-look shows what is in a file of frames.
     --by own|total|calls|max             the greatest of this first
     --limit N                            the first N rows
     --texts                              a row for each text of a name
+  puffin-look view FILE PAGE             a page for a browser: the slowest frames and the last ones, as flame charts
+    --frames A..B                        the frames from index A on and below B
   puffin-look --help, --version          this text; the version
 
 THREAD is START:NAME as `threads` lists it, or a name that only one thread has.";
@@ -46,7 +50,7 @@ const VERSION: &str = "puffin-look 0.20.0";
 
 /// What is told of words that are no request.
 const USAGE: &str =
-    "usage: puffin-look threads FILE | frames FILE [N] | frame FILE INDEX [THREAD] | trace FILE | folded FILE [THREAD] | top FILE [THREAD] [--by own|total|calls|max] [--limit N] [--texts]";
+    "usage: puffin-look threads FILE | frames FILE [N] | frame FILE INDEX [THREAD] | trace FILE | folded FILE [THREAD] | top FILE [THREAD] [--by own|total|calls|max] [--limit N] [--texts] | view FILE PAGE [--frames A..B]";
 
 /// The status of a tool that writes to a pipe that nobody reads any more, as a shell tells it.
 const UNREAD: u8 = 141;
@@ -71,6 +75,8 @@ enum Cause<'w> {
     NotInFrame(FrameIndex, &'w str),
     /// The file can't be read a second time.
     ReadOnce,
+    /// The file is one of frames, where a page is to be written.
+    HasFrames,
 }
 
 /// Why the program failed.
@@ -311,10 +317,11 @@ fn run<'w>(rt: &HostRuntime, words: &'w [String]) -> Result<(), LookFault<'w>> {
             "--version" => tell(rt, VERSION),
             _ => Err(LookFault::Words),
         },
-        _ => match (read_words(words), read_top_words(words)) {
-            (Some((view, path)), _) => show(rt, view, path),
-            (None, Some((choice, path))) => rank(rt, &choice, path),
-            (None, None) => Err(LookFault::Words),
+        _ => match (read_words(words), read_top_words(words), read_view_words(words)) {
+            (Some((view, path)), ..) => show(rt, view, path),
+            (None, Some((choice, path)), _) => rank(rt, &choice, path),
+            (None, None, Some(choice)) => pages::view(rt, &choice),
+            (None, None, None) => Err(LookFault::Words),
         },
     }
 }
@@ -350,6 +357,7 @@ fn print_fault(rt: &HostRuntime, name: &str, cause: &Cause<'_>) -> io::Result<()
         Cause::ReadOnce => {
             eprintln!(rt; "puffin-look: {name}: can't be read twice; write it to a file first")
         }
+        Cause::HasFrames => eprintln!(rt; "puffin-look: {name}: is a file of frames, not replaced"),
     }
 }
 
