@@ -26,3 +26,5 @@ mod Tallied
 mod RowsMade
 mod RowsTold
 mod TalliesTaken
+mod PagesMade
+mod PagesPrinted

@@ -1,5 +1,5 @@
 -- The data of a page: elements of HTML, each with an array in JSON.
-use Rattle.std.specs.Prelude.{◌≡◌, ℕ, ℤ, ◌-ℤ◌, Bool, ◌==◌, ◌&&◌, nat_eq, nat_le, List, [], ◌∷◌, ◌++◌, length, codes, Option, Some, None, if◌then◌else◌}
+use Rattle.std.specs.Prelude.{◌≡◌, ℕ, ℤ, ◌-ℤ◌, Bool, not, ◌==◌, ◌&&◌, nat_eq, nat_le, List, [], ◌∷◌, ◌++◌, length, codes, Option, Some, None, if◌then◌else◌}
 use Rattle.std.specs.Fmt.{decimal, signed_decimal}
 use Rattle.std.specs.FinMap.{values}
 use Rattle.std.specs.List.{flat_map, list_any}
@@ -27,6 +27,10 @@ embedded_byte byte = if byte == 60 then codes "\\u003c" else byte ∷ []
 
 abbrev pub embedded : List ℕ → List ℕ
 embedded json = flat_map embedded_byte json
+
+-- whether a byte begins no tag
+abbrev pub begins_none : ℕ → Bool
+begins_none byte = not (byte == 60)
 
 abbrev pub element : List ℕ → List ℕ → List ℕ
 element class json =

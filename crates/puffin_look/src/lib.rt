@@ -10,6 +10,7 @@
 //! | write a trace for other tools | [`print_trace`] |
 //! | write the folded stacks for them | [`print_folded`] |
 //! | list the scopes by name, with their times | [`read_top`], [`Top::sort_by`], [`print_top`] |
+//! | write a page for a browser | [`choose_frames`], [`print_page_data`] |
 #![tactic(auto)]
 
 mod columns;

@@ -1,15 +1,14 @@
 //! Prints the data of a page that shows frames.
 
-ghost use Rattle.std.specs.Prelude.{◌≡◌, ◌++◌, ◌+◌, ◌⊎◌, codes, OnOk, IfOk, IfErr};
+ghost use Rattle.std.specs.Prelude.{◌≡◌, ◌++◌, ◌+◌, ◌⊎◌, List, OnOk, IfOk, IfErr};
 ghost use Rattle.std.specs.FinMap as map;
 ghost use Rattle.puffin_data.specs.declared.error.Error.{Error};
 ghost use Rattle.puffin_data.specs.Device.{CanFail, TookNothing};
 ghost use Rattle.puffin_threads.specs.Details.{details_of};
-ghost use Rattle.puffin_threads.specs.Details.Collection.{by_ids};
 ghost use Rattle.puffin_frames.specs.Frame.Contents.{streams_held};
 ghost use Rattle.puffin_look.specs.Printed.{IsPrinted, IsStopped};
 ghost use Rattle.puffin_look.specs.Trees.{Tree, AreSpelled, AreUnread, RefusesUnread};
-ghost use Rattle.puffin_look.specs.Page.{embedded, element, id_json, details_json, details_elements, head_json, frame_json, is_chosen, chosen_streams, IsPageData};
+ghost use Rattle.puffin_look.specs.Page.{embedded_byte, embedded, element, id_json, details_json, details_elements, head_json, frame_json, is_chosen, chosen_streams, IsPageData};
 
 use crate::listing::{Listing, list_frames};
 use crate::overview::Overview;
@@ -43,16 +42,23 @@ impl PageFrames {
     }
 }
 
+/// Appends a byte of JSON, or an escape of a `<`.
+fn push_embedded_byte(text: &mut Vec<u8>, byte: u8) -> Result<(), AllocError>
+    ensures { OnOk result (text.new.items ≡ text.old.items ++ embedded_byte byte) }
+{
+    if byte == b'<' {
+        text.extend_from_slice(b"\\u003c")
+    } else {
+        Ok(text.push(byte)?)
+    }
+}
+
 /// Appends JSON with each `<` in an escape, so that nothing ends the element that it stands in.
 fn push_embedded(text: &mut Vec<u8>, json: &[u8]) -> Result<(), AllocError>
     ensures { OnOk result (text.new.items ≡ text.old.items ++ embedded json.now) }
 {
     for &byte in json {
-        if byte == b'<' {
-            text.extend_from_slice(b"\\u003c")?;
-        } else {
-            text.push(byte)?;
-        }
+        push_embedded_byte(text, byte)?;
     }
     Ok(())
 }
@@ -172,7 +178,7 @@ impl<'p> Listing for Page<'p> {
     }
 }
 
-/// Prints the data of a page, which stand within an HTML file, as `docs/FORMAT.md` describes them: an element for the details of each
+/// Prints the data of a page, which stand within an HTML file, as `docs/TOOLS.md` describes them: an element for the details of each
 /// scope, by the [overview](crate::read_overview), and then one for each of these frames, in the order of the file, as soon as it was
 /// read. Each holds an array in JSON without a `<`, so no name or text ends it.
 ///

@@ -1,5 +1,5 @@
-//! `puffin-look`: shows what is in a file of frames: its threads, its frames, a frame as a tree, all of it as a trace or as
-//! folded stacks.
+//! `puffin-look`: shows what is in a file of frames: its threads, its frames, a frame as a tree, all of it as a trace, as
+//! folded stacks or as a page.
 #![tactic(auto)]
 
 ghost use Rattle.std.specs.Prelude.{◌<◌, ◌^◌, ◌-◌, IfOk};

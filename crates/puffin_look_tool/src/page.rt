@@ -44,7 +44,7 @@ svg text { fill: var(--faint); font: 11px ui-monospace, monospace; pointer-event
 #ruler line { stroke: var(--line); }
 #info { position: fixed; inset: auto 0 0; min-height: 44px; padding: 8px 16px; background: var(--panel); border-top: 1px solid var(--line); font-variant-numeric: tabular-nums; overflow-wrap: anywhere; }
 #info b { margin-right: 10px; unicode-bidi: isolate; }
-#info span { margin-right: 14px; white-space: pre-wrap; }
+#info span { margin-right: 14px; white-space: pre-wrap; unicode-bidi: isolate; }
 .wide { overflow-x: auto; border: 1px solid var(--line); border-radius: 6px; background: var(--panel); }
 table { border-collapse: collapse; width: 100%; font-variant-numeric: tabular-nums; }
 th, td { padding: 3px 10px; text-align: right; white-space: nowrap; border-bottom: 1px solid var(--line); }
@@ -103,7 +103,7 @@ const time = (ns) => {
 };
 const percent = (part, whole) => whole > 0 ? `${(part / whole * 100).toFixed(1)} %` : "–";
 
-// ---- the data, as docs/FORMAT.md describes it
+// ---- the data, as docs/TOOLS.md describes it
 
 const elements = (kind) => [...document.querySelectorAll(`script.${kind}`)];
 const details = new Map(elements("details").map((it) => JSON.parse(it.textContent)).map(([id, ...rest]) => [id, rest]));

@@ -59,13 +59,13 @@ pub record TakesPage (v : Page) (frames : List OpenFrame) (text : List ℕ) (u :
   pub trees : List TreeFrame
   pub read : AreRead (chosen_streams v.frames.now) frames trees
   pub is : text ≡ flat_map (frame_element v.frames.now) trees
-  pub frames : u.frames ≡ v.frames
+  pub chosen : u.frames ≡ v.frames
 
 abbrev pub RefusesFrame : Page → OpenFrame → Error → Type 0
 RefusesFrame v frame cause = AreUnread (chosen_streams v.frames.now frame) cause
 
 pub page_none : (v : Page) → TakesPage v [] [] v
-page_none v = record { trees = []; read = tt; is = refl; frames = refl }
+page_none v = record { trees = []; read = tt; is = refl; chosen = refl }
 
 pub page_more : (u v w : Page) (xs ys : List OpenFrame) (s t : List ℕ) → TakesPage u xs s v →
     TakesPage v ys t w → TakesPage u (xs ++ ys) (s ++ t) w
@@ -74,10 +74,10 @@ page_more u v w xs ys s t a b =
     record {
       trees = a.trees ++ b.trees;
       read = AreRead-append (chosen_streams chosen) xs ys a.trees b.trees a.read (
-          subst (λ (p : Bor PageFrames). AreRead (chosen_streams p.now) ys b.trees) a.frames b.read);
+          subst (λ (p : Bor PageFrames). AreRead (chosen_streams p.now) ys b.trees) a.chosen b.read);
       is = (λ i. a.is i ++ b.is i)
           ∙ (λ i. flat_map (frame_element chosen) a.trees
-          ++ flat_map (frame_element (a.frames i).now) b.trees)
+          ++ flat_map (frame_element (a.chosen i).now) b.trees)
           ∙ sym (flat_map-append (frame_element chosen) a.trees b.trees);
-      frames = b.frames ∙ a.frames;
+      chosen = b.chosen ∙ a.chosen;
     }
