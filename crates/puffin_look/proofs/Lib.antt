@@ -28,3 +28,4 @@ mod RowsTold
 mod TalliesTaken
 mod PagesMade
 mod PagesPrinted
+mod PageChosen

@@ -1,5 +1,5 @@
 -- Which frames a page has by default: the last and the slowest.
-use Rattle.std.specs.Prelude.{◌≡◌, ◌⊎◌, ℕ, ◌-◌, ◌-ℤ◌, Bool, int_lt, nat_le, nat_lt, nat_eq, not, ◌&&◌, List, [], ◌∷◌, ◌++◌, length, drop, fold, map, take, reverse, Option, if◌then◌else◌}
+use Rattle.std.specs.Prelude.{◌≡◌, ◌⊎◌, ℕ, ◌-◌, ◌-ℤ◌, Bool, int_lt, nat_le, nat_eq, not, ◌&&◌, List, [], ◌∷◌, ◌++◌, fold, map, take, Option, if◌then◌else◌}
 use Rattle.std.specs.List.{list_any}
 use Rattle.puffin_data.specs.declared.file_error.FileError.{FileError}
 use Rattle.puffin_data.specs.Device.{FailsAt}
@@ -39,12 +39,9 @@ slowest n rows = fold (λ slow row. take n (with_slow slow row)) [] rows
 
 -- ---- the last
 
-abbrev pub without_first : ℕ → List Row → List Row
-without_first n rows = if nat_lt n (length rows) then drop 1 rows else rows
-
--- this many at the end
+-- this many, the last first
 abbrev pub recent : ℕ → List Row → List Row
-recent n rows = fold (λ last row. without_first n (last ++ row ∷ [])) [] rows
+recent n rows = fold (λ last row. take n (row ∷ last)) [] rows
 
 -- ---- both, as far as there is room
 
@@ -64,9 +61,9 @@ with_fitting c row =
 abbrev pub fitting : ℕ → List Row → List ℕ
 fitting room rows = (fold with_fitting (record { indices = []; room = room }) rows).indices
 
--- first the slowest, and then the last ones, from the end on
+-- first the slowest, and then the last ones
 abbrev pub candidates : PageLimits → List Row → List Row
-candidates limits rows = slowest limits.slow rows ++ reverse (recent limits.recent rows)
+candidates limits rows = slowest limits.slow rows ++ recent limits.recent rows
 
 -- the frames of a file that are before its end, or before the first that can't be read
 pub record IsPageChoice (limits : PageLimits) (unread left : Option (List ℕ)) (indices : List ℕ) : Type 0 where

@@ -1,9 +1,9 @@
 //! Chooses which frames a page has by default: the last and the slowest.
 
-ghost use Rattle.std.specs.Prelude.{◌≡◌, ◌++◌, [], ◌≤◌, length, insert, reverse, IfOk, IfErr, OnOk};
+ghost use Rattle.std.specs.Prelude.{◌≡◌, ◌++◌, [], ◌≤◌, length, insert, position, fold, IfOk, IfErr, OnOk};
 ghost use Rattle.puffin_data.specs.Device.{CanFail, IsOutside, failures_after};
 ghost use Rattle.puffin_frames.specs.Frame.Contents.{packet_fields};
-ghost use Rattle.puffin_look.specs.PageChoice.{row_of, with_slow, with_fitting, fitting, IsPageChoice};
+ghost use Rattle.puffin_look.specs.PageChoice.{row_of, is_faster, with_slow, with_fitting, fitting, IsPageChoice};
 ghost use Rattle.puffin_look.specs.inner.PageChoices.{AddsRow, ReadsRows, chosen_in};
 
 use crate::threads::fails_outside;
@@ -45,22 +45,28 @@ impl Row {
     }
 }
 
-/// The last and the slowest of the frames so far; the slowest first.
+/// Returns the place of the first row that is faster than this one, if there is one.
+fn first_faster(rows: &[Row], row: &Row) -> Option<usize>
+    ensures { result ≡ position (is_faster row.now) rows.now }
+{
+    rows.iter()
+        .position(|other| other.duration_ns < row.duration_ns)
+}
+
+/// Returns that place, or else the end.
+fn place_for(rows: &[Row], row: &Row) -> usize
+    ensures place { with_slow rows.now row.now ≡ insert rows.now result row.now }
+    ensures within { result ≤ length rows.now }
+{
+    first_faster(rows, row).unwrap_or(rows.len())
+}
+
+/// The last and the slowest of the frames so far: the last first, and the slowest first.
 #[derive(Drop)]
 struct Rows {
     recent: Vec<Row>,
     slow: Vec<Row>,
     limits: PageLimits,
-}
-
-/// Returns the place of a row: that of the first row that is faster, or else the end.
-fn place_for(rows: &[Row], row: &Row) -> usize
-    ensures place { with_slow rows.now row.now ≡ insert rows.now result row.now }
-    ensures within { result ≤ length rows.now }
-{
-    rows.iter()
-        .position(|other| other.duration_ns < row.duration_ns)
-        .unwrap_or(rows.len())
 }
 
 impl Rows {
@@ -69,10 +75,8 @@ impl Rows {
         ensures { OnOk result (AddsRow self.old self.new (row_of (packet_fields frame.now))) }
     {
         let row = Row::new(frame);
-        self.recent.push(row)?;
-        if self.recent.len() > self.limits.recent {
-            self.recent.remove(0);
-        }
+        self.recent.insert(0, row)?;
+        self.recent.truncate(self.limits.recent);
         let place = place_for(&self.slow, &row);
         self.slow.insert(place, row)?;
         self.slow.truncate(self.limits.slow);
@@ -122,23 +126,30 @@ impl Choice {
         }
         Ok(())
     }
+
+    /// Chooses these frames, one after the other.
+    fn add_all(&mut self, rows: &[Row]) -> Result<(), AllocError>
+        ensures { OnOk result (
+            chosen_in self.new ≡ fold with_fitting (chosen_in self.old) rows.now) }
+    {
+        for row in rows {
+            self.add(row)?;
+        }
+        Ok(())
+    }
 }
 
-/// Returns the indices of these frames, as far as there is room: first of the slowest, and then of the last ones, from the end on.
+/// Returns the indices of these frames, as far as there is room: first of the slowest, and then of the last ones.
 fn chosen(alloc: Global, rows: &Rows) -> Result<Vec<FrameIndex>, AllocError>
     ensures { IfOk result (λ indices. indices.items ≡ fitting rows.now.limits.bytes
-        (rows.now.slow.items ++ reverse rows.now.recent.items)) }
+        (rows.now.slow.items ++ rows.now.recent.items)) }
 {
     let mut choice = Choice {
         indices: Vec::new(alloc),
         room: rows.limits.bytes,
     };
-    for row in rows.slow.iter() {
-        choice.add(row)?;
-    }
-    for row in rows.recent.iter().rev() {
-        choice.add(row)?;
-    }
+    choice.add_all(&rows.slow)?;
+    choice.add_all(&rows.recent)?;
     Ok(choice.indices)
 }
 

@@ -1,12 +1,12 @@
 -- The choice of a page's frames, one frame after the other.
-use Rattle.std.specs.Prelude.{◌≡◌, ◌⊎◌, ℕ, List, [], ◌∷◌, ◌++◌, take, Option, Result, Ok, Err}
+use Rattle.std.specs.Prelude.{◌≡◌, ◌⊎◌, ℕ, List, [], ◌∷◌, take, Option, Result, Ok, Err}
 use Rattle.puffin_data.specs.declared.file_error.FileError.{FileError}
 use Rattle.puffin_data.specs.Device.{FailsAt, IsOutside}
 use Rattle.puffin_frames.specs.Packet.Stored.{Stored}
 use Rattle.puffin_view.specs.View.File.{file_at, TookFrames, FailsToRead}
 use Rattle.puffin_view.specs.View.FrameFile.{frame_at, HasGiven}
 use Rattle.puffin_look.specs.Printed.{Begins, IsFull}
-use Rattle.puffin_look.specs.PageChoice.{rows_of, with_slow, without_first, slowest, recent, Chosen}
+use Rattle.puffin_look.specs.PageChoice.{rows_of, with_slow, slowest, recent, Chosen}
 use Rattle.puffin_look.specs.declared.page_choice.PageLimits.{PageLimits}
 use Rattle.puffin_look.specs.declared.page_choice.Row.{Row}
 use Rattle.puffin_look.specs.declared.page_choice.Rows.{Rows}
@@ -14,7 +14,7 @@ use Rattle.puffin_look.specs.declared.page_choice.Choice.{Choice}
 
 -- one row more
 pub record AddsRow (v u : Rows) (row : Row) : Type 0 where
-  pub recent : u.recent.items ≡ without_first v.limits.recent (v.recent.items ++ row ∷ [])
+  pub recent : u.recent.items ≡ take v.limits.recent (row ∷ v.recent.items)
   pub slow : u.slow.items ≡ take v.limits.slow (with_slow v.slow.items row)
   pub limits : u.limits ≡ v.limits
 

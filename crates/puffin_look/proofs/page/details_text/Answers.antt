@@ -25,7 +25,7 @@ details-init c =
 pub details-preserved : goal.details-preserved
 details-preserved c =
     let left = rest_more deref_pair _ _ _ _ c.in-Some.is c.next.ensures.steps in
-    let json = c.deref-2.ensures.value ∙ c.in_ok-push_details.ensures ∙ (λ i. c.new-json.ensures.items i ++ details_json (details_of (c.deref.ensures i))) in
+    let json = c.deref-in-details.ensures.value ∙ c.in_ok-push_details.ensures ∙ (λ i. c.new-json.ensures.items i ++ details_json (details_of (c.deref.ensures i))) in
     details_more _ _ _ _ _ _ left (c.in_ok-push_element.ensures ∙ ap (λ (t : List ℕ). c.details.text.items ++ element (codes "details") t) json) c.details.invariant
 
 pub returns : goal.returns

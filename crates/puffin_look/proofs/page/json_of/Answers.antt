@@ -1,5 +1,6 @@
 -- What was made is the frame.
-use Rattle.std.proofs.Common.{rules, ◌≡◌, List, ℕ, map, ◌++◌, inl, inr, refl, ap, subst, sym, ◌∙◌}
+use Rattle.std.proofs.Common.{rules, ◌≡◌, List, ℕ, map, ◌++◌, inl, inr, ap, subst, sym, ◌∙◌, w64, arith}
+use Rattle.std.proofs.lemmas.Int.{ints, to_z-of_z}
 use Rattle.std.proofs.lemmas.Result.{err_from_is_err_and}
 use Rattle.std.proofs.lemmas.Map.Iter.{rest_more}
 use Rattle.std.specs.Map.{keys_of}
@@ -21,7 +22,7 @@ pub streams-init : goal.streams-init
 streams-init c =
     let same : c.into_iter-thread-iterator.result ≡ c.args.frame.now.thread_streams.entries = search rules in
     let head = c.in_ok-push_head.ensures ∙ ap (λ (t : List ℕ). t ++ head_json c.args.frame.now.meta) c.new.ensures.items in
-    making_at c.args.frame.now.meta _ _ _ head refl (ap (map entry_of) same)
+    making_at c.args.frame.now.meta _ _ _ head (to_z-of_z w64 c.args.frame.now.meta.range_ns.0 (omega (arith, ints))) (ap (map entry_of) same)
 
 pub streams-preserved : goal.streams-preserved
 streams-preserved c =
