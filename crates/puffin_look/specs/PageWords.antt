@@ -25,6 +25,9 @@ range_in word =
     from_to (number_in (before_first is_dot word))
     (option_and_then number_in (behind_dot (after_first is_dot word)))
 
+abbrev pub frames_in : List ℕ → List ℕ → Option (ℕ × ℕ)
+frames_in option range = if bytes_eq option (codes "--frames") then range_in range else None
+
 -- ---- the words
 
 -- the paths of a file and of a page, and which frames it has
@@ -36,9 +39,7 @@ pub record PageWish : Type 0 where
 abbrev pub pages_in : List (List ℕ) → Option PageWish
 pages_in (path ∷ (page ∷ [])) = Some (record { path = path; page = page; frames = None })
 pages_in (path ∷ (page ∷ (option ∷ (range ∷ [])))) =
-    if bytes_eq option (codes "--frames")
-    then option_map (λ r. record { path = path; page = page; frames = Some r }) (range_in range)
-    else None
+    option_map (λ r. record { path = path; page = page; frames = Some r }) (frames_in option range)
 pages_in _ = None
 
 abbrev pub view_in : List (List ℕ) → Option PageWish

@@ -2,7 +2,7 @@
 
 ghost use Rattle.std.specs.Prelude.{◌≡◌, option_map, map};
 ghost use Rattle.std.specs.String.{string_bytes};
-ghost use Rattle.puffin_look.specs.PageWords.{range_in, pages_in, view_in, wish_of};
+ghost use Rattle.puffin_look.specs.PageWords.{range_in, frames_in, pages_in, view_in, wish_of};
 
 use crate::task::number;
 use puffin_data::FrameIndex;
@@ -29,6 +29,16 @@ fn range_of(word: &str) -> Option<(FrameIndex, FrameIndex)>
     }
 }
 
+/// Parses an option that chooses frames.
+fn frames_of(option: &str, range: &str) -> Option<(FrameIndex, FrameIndex)>
+    ensures { result ≡ frames_in option.now range.now }
+{
+    if option != "--frames" {
+        return None;
+    }
+    range_of(range)
+}
+
 /// Parses the words behind `view`.
 fn page_of(words: &[String]) -> Option<ViewChoice<'_>>
     ensures { option_map wish_of result ≡ pages_in (map string_bytes words.now) }
@@ -39,10 +49,10 @@ fn page_of(words: &[String]) -> Option<ViewChoice<'_>>
             page: page.as_str(),
             frames: None,
         }),
-        [path, page, option, range] if option.as_str() == "--frames" => Some(ViewChoice {
+        [path, page, option, range] => Some(ViewChoice {
             path: path.as_str(),
             page: page.as_str(),
-            frames: Some(range_of(range.as_str())?),
+            frames: Some(frames_of(option.as_str(), range.as_str())?),
         }),
         _ => None,
     }
