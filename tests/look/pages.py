@@ -93,6 +93,18 @@ def faults_in_data(program, source):
     return faults[:3] or ([] if same else ["other frames"])
 
 
+def faults_in_cut(program, source):
+    """What is wrong with the page of a file whose last frame is cut off: it has the frames before, and its end."""
+    with tempfile.TemporaryDirectory() as place:
+        file, page = pathlib.Path(place, "file"), pathlib.Path(place, "page.html")
+        file.write_bytes(source.data[:-1])
+        done = subprocess.run([program, "view", file, page], capture_output=True, text=True, timeout=120)
+        found, ends = [it[0] for it in data_of(page)[1]], page.read_text().endswith("</script>\n")
+    wanted = [it.index for it in source.frames[:-1]]
+    said = done.returncode == 1 and done.stderr.startswith(f"puffin-look: {file}: ")
+    return [] if found == wanted and ends and said else [f"{done}, with the frames {found}, instead of {wanted}"]
+
+
 # ---- which frames
 
 def file_with(durations, size):
@@ -272,7 +284,7 @@ def in_browser(check):
     return check if browser.PROGRAM else left_out
 
 
-CHECKS = {"page_data": faults_in_data, "page": in_browser(faults_in_page)}
+CHECKS = {"page_data": faults_in_data, "page_cut": faults_in_cut, "page": in_browser(faults_in_page)}
 CHECKS_OF_NAMES = {
     "page_names": faults_in_names,
     "page_frames": faults_in_choice,

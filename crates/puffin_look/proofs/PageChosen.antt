@@ -51,8 +51,8 @@ placed_at rows row o place is at =
 
 -- ---- one frame more
 
-pub rows_more : (v u : Rows) (frame : FrameData) (stored : List Stored) → IsFresh frame → HasRows v stored → AddsRow v u (row_of (packet_fields frame)) → HasRows u (stored ++ stored_of frame ∷ [])
-rows_more v u frame stored fresh h a =
+pub rows_more : (v u : Rows) (frame : FrameData) (stored : List Stored) → IsFresh frame → HasRows v stored → AddsRow v u (row_of (packet_fields frame)) → u.limits ≡ v.limits → HasRows u (stored ++ stored_of frame ∷ [])
+rows_more v u frame stored fresh h a limits =
     let s = stored_of frame in
     let r : Row = row_of (fields_of (frame_stored s)) in
     let row : row_of (packet_fields frame) ≡ r = ap row_of (said_fresh frame fresh) in
@@ -61,18 +61,18 @@ rows_more v u frame stored fresh h a =
       recent = a.recent ∙ (λ i. take v.limits.recent (row i ∷ h.recent i))
           ∙ sym (fold-append (λ last row. take v.limits.recent (row ∷ last)) [] (rows_of stored) (r ∷ []))
           ∙ ap (recent v.limits.recent) (sym all)
-          ∙ ap (λ (l : PageLimits). recent l.recent (rows_of (stored ++ s ∷ []))) (sym a.limits);
+          ∙ ap (λ (l : PageLimits). recent l.recent (rows_of (stored ++ s ∷ []))) (sym limits);
       slow = a.slow ∙ (λ i. take v.limits.slow (with_slow (h.slow i) (row i)))
           ∙ sym (fold-append (λ slow row. take v.limits.slow (with_slow slow row)) [] (rows_of stored) (r ∷ []))
           ∙ ap (slowest v.limits.slow) (sym all)
-          ∙ ap (λ (l : PageLimits). slowest l.slow (rows_of (stored ++ s ∷ []))) (sym a.limits);
+          ∙ ap (λ (l : PageLimits). slowest l.slow (rows_of (stored ++ s ∷ []))) (sym limits);
     }
 
 -- ---- a file
 
 module _ (unread left : Option (List ℕ)) (v : Rows) where
   pub not_begun : (e : FileError) → v.recent.items ≡ [] → v.slow.items ≡ [] → FailsToRead file_at unread left e → HasRowsOf v unread left
-  not_begun e none no fails = record { stored = []; begins = inl refl; end = inr (inr (e, fails, refl)); rows = record { recent = none; slow = no } }
+  not_begun e last slow fails = record { stored = []; begins = inl refl; end = inr (inr (e, fails, refl)); rows = record { recent = last; slow = slow } }
 
   module _ (now : Option (List ℕ)) (stored : List Stored) (given : HasGiven unread now stored) (rows : HasRows v stored) where
     pub stops_at : (e : FileError) → FailsAt e now left frame_at → HasRowsOf v unread left

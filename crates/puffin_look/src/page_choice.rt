@@ -72,7 +72,8 @@ struct Rows {
 impl Rows {
     /// Adds the next frame, and drops those that are too many then.
     fn add(&mut self, frame: &FrameData) -> Result<(), AllocError>
-        ensures { OnOk result (AddsRow self.old self.new (row_of (packet_fields frame.now))) }
+        ensures row { OnOk result (AddsRow self.old self.new (row_of (packet_fields frame.now))) }
+        ensures limits { self.new.limits ≡ self.old.limits }
     {
         let row = Row::new(frame);
         self.recent.insert(0, row)?;

@@ -1,8 +1,8 @@
 //! The program's arguments for a page.
 
-ghost use Rattle.std.specs.Prelude.{◌≡◌, option_map, map};
+ghost use Rattle.std.specs.Prelude.{◌≡◌, Some, option_map, map};
 ghost use Rattle.std.specs.String.{string_bytes};
-ghost use Rattle.puffin_look.specs.PageWords.{range_in, frames_in, pages_in, view_in, wish_of};
+ghost use Rattle.puffin_look.specs.PageWords.{behind_dot, from_to, range_in, frames_in, pages_in, view_in, wish_of};
 
 use crate::task::number;
 use puffin_data::FrameIndex;
@@ -16,17 +16,30 @@ pub struct ViewChoice<'w> {
     pub frames: Option<(FrameIndex, FrameIndex)>,
 }
 
-/// Parses `A..B`: returns `A` and the index before `B`, which has to be above `A`.
-fn range_of(word: &str) -> Option<(FrameIndex, FrameIndex)>
-    ensures { result ≡ range_in word.now }
+/// Returns what is behind a point.
+fn behind_dot(word: &str) -> Option<&str>
+    ensures { option_map (λ t. t.now) result ≡ behind_dot word.now }
 {
-    let (first, rest) = word.split_once('.')?;
-    let (first, end) = (number(first)?, number(rest.strip_prefix('.')?)?);
+    word.strip_prefix('.')
+}
+
+/// Returns an index and the one before an end, if that is above the first.
+fn from_to(first: FrameIndex, end: FrameIndex) -> Option<(FrameIndex, FrameIndex)>
+    ensures { result ≡ from_to (Some first) (Some end) }
+{
     if first < end {
         Some((first, end - 1))
     } else {
         None
     }
+}
+
+/// Parses `A..B`: returns `A` and the index before `B`, which has to be above `A`.
+fn range_of(word: &str) -> Option<(FrameIndex, FrameIndex)>
+    ensures { result ≡ range_in word.now }
+{
+    let (first, rest) = word.split_once('.')?;
+    from_to(number(first)?, number(behind_dot(rest)?)?)
 }
 
 /// Parses an option that chooses frames.
@@ -49,6 +62,7 @@ fn page_of(words: &[String]) -> Option<ViewChoice<'_>>
             page: page.as_str(),
             frames: None,
         }),
+        [_, _, _] => None,
         [path, page, option, range] => Some(ViewChoice {
             path: path.as_str(),
             page: page.as_str(),

@@ -16,7 +16,6 @@ use Rattle.puffin_look.specs.declared.page_choice.Choice.{Choice}
 pub record AddsRow (v u : Rows) (row : Row) : Type 0 where
   pub recent : u.recent.items ≡ take v.limits.recent (row ∷ v.recent.items)
   pub slow : u.slow.items ≡ take v.limits.slow (with_slow v.slow.items row)
-  pub limits : u.limits ≡ v.limits
 
 -- these are the rows of these frames
 pub record HasRows (v : Rows) (stored : List Stored) : Type 0 where

@@ -26,11 +26,14 @@ frames-preserved g c =
     let fresh = rw c.in-Some.is at c.in_ok-frame.ensures.fresh in (
       before.0 ++ one,
       given,
-      rows_more _ _ frame before.0 fresh before.2 c.in_ok-add.ensures,
+      rows_more _ _ frame before.0 fresh before.2 c.in_ok-add.ensures.row c.in_ok-add.ensures.limits,
       omega (arith, length-append before.0 one, before.3),
       c.in_ok-frame.ensures.failures ∙ before.4,
       c.in_ok-add.ensures.limits ∙ before.5,
     )
+
+pub returns-in_err-add-clause-limits : goal.returns-in_err-add-clause-limits
+returns-in_err-add-clause-limits g c = c.in_err-add.ensures.limits ∙ c.frames.invariant.5
 
 pub returns-clause-read : goal.returns-clause-read
 returns-clause-read g c =

@@ -1,0 +1,7 @@
+use Rattle.std.proofs.Common.{lit<}
+use Rattle.std.proofs.lemmas.Str.Pattern.{strip_prefix_char}
+use Rattle.puffin_look.proofs.Dots.{is_behind_dot}
+use Rattle.puffin_look.proofs.page_task.behind_dot.Goals as goal
+
+pub returns : goal.returns
+returns c = is_behind_dot c.args.word.now c.strip_prefix.result (strip_prefix_char 46 c.args.word.now c.strip_prefix.result c.strip_prefix.ensures.cases (lit< tt))
