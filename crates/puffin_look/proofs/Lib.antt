@@ -29,4 +29,4 @@ mod TalliesTaken
 mod PagesMade
 mod PagesPrinted
 mod PageChosen
-mod Dots
+mod PageAsked

@@ -86,11 +86,7 @@ impl Rows {
 }
 
 /// Adds all frames of a file. Fails with the first fault of the file, with `Io`, or with `Memory`.
-fn add_frames<S: Source>(
-    alloc: Global,
-    source: &mut S,
-    rows: &mut Rows,
-) -> Result<(), FileError>
+fn add_frames<S: Source>(alloc: Global, source: &mut S, rows: &mut Rows) -> Result<(), FileError>
     requires source { CanFail S.failures source.old }
     requires recent { rows.old.recent.items ≡ [] }
     requires slow { rows.old.slow.items ≡ [] }

@@ -62,7 +62,6 @@ fn page_of(words: &[String]) -> Option<ViewChoice<'_>>
             page: page.as_str(),
             frames: None,
         }),
-        [_, _, _] => None,
         [path, page, option, range] => Some(ViewChoice {
             path: path.as_str(),
             page: page.as_str(),

@@ -317,7 +317,11 @@ fn run<'w>(rt: &HostRuntime, words: &'w [String]) -> Result<(), LookFault<'w>> {
             "--version" => tell(rt, VERSION),
             _ => Err(LookFault::Words),
         },
-        _ => match (read_words(words), read_top_words(words), read_view_words(words)) {
+        _ => match (
+            read_words(words),
+            read_top_words(words),
+            read_view_words(words),
+        ) {
             (Some((view, path)), ..) => show(rt, view, path),
             (None, Some((choice, path)), _) => rank(rt, &choice, path),
             (None, None, Some(choice)) => pages::view(rt, &choice),

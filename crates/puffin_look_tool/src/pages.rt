@@ -5,9 +5,7 @@ use crate::skimmed::Skimmed;
 use crate::{Cause, LookFault, fault_of, first_reading, open, reader, rewind};
 use puffin_data::FileError;
 use puffin_data::data::{Counted, Drain, Source, write_all};
-use puffin_look::{
-    Overview, PageFrames, PageLimits, ViewChoice, choose_frames, print_page_data,
-};
+use puffin_look::{Overview, PageFrames, PageLimits, ViewChoice, choose_frames, print_page_data};
 use std::alloc::Global;
 use std::fs::File;
 use std::io;

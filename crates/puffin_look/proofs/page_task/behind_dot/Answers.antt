@@ -1,6 +1,6 @@
 use Rattle.std.proofs.Common.{lit<}
 use Rattle.std.proofs.lemmas.Str.Pattern.{strip_prefix_char}
-use Rattle.puffin_look.proofs.Dots.{is_behind_dot}
+use Rattle.puffin_look.proofs.PageAsked.{is_behind_dot}
 use Rattle.puffin_look.proofs.page_task.behind_dot.Goals as goal
 
 pub returns : goal.returns
