@@ -121,7 +121,8 @@ def file_with(durations, size):
 
 
 def faults_in_choice(program, _source):
-    """Which frames a page should have and doesn't: the 256 slowest and the last 1000, as far as 16 MiB go."""
+    """Which frames a page should have and doesn't: the 256 slowest and the last 1000, as far as 16 MiB go. In the first file a
+    length lies on both sides of what is read ahead, with one byte behind."""
     durations = [1 + 7919 * it % 2003 for it in range(1500)]
     slow = sorted(range(1500), key=lambda it: -durations[it])[:256]
     faults = []

@@ -21,6 +21,8 @@ pub(crate) struct Skimmed<'f> {
     len: u64,
     /// Whether one byte alone was read last.
     is_behind_a_byte: bool,
+    /// Whether the last read gave fewer bytes than were asked for, so that the next one reads the rest of them.
+    is_short: bool,
     pub(crate) faults: u64,
     last: Option<io::Error>,
 }
@@ -36,6 +38,7 @@ impl<'f> Skimmed<'f> {
             reader,
             len,
             is_behind_a_byte: false,
+            is_short: false,
             faults: 0,
             last: None,
         })
@@ -64,11 +67,14 @@ impl<'f> Source for Skimmed<'f> {
     ghost failures = { λ s. s.faults };
 
     fn read(&mut self, buf: &mut [u8]) -> io::Result<usize> {
-        self.is_behind_a_byte = buf.len() == 1;
+        self.is_behind_a_byte = buf.len() == 1 && !self.is_short;
         let result = self.reader.read(buf);
-        if let Err(error) = &result {
-            self.faults += 1;
-            self.last = Some(*error);
+        match &result {
+            Ok(count) => self.is_short = *count < buf.len(),
+            Err(error) => {
+                self.faults += 1;
+                self.last = Some(*error);
+            }
         }
         result
     }
