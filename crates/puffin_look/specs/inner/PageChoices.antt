@@ -7,7 +7,6 @@ use Rattle.puffin_view.specs.View.File.{file_at, TookFrames, FailsToRead}
 use Rattle.puffin_view.specs.View.FrameFile.{frame_at, HasGiven}
 use Rattle.puffin_look.specs.Printed.{Begins, IsFull}
 use Rattle.puffin_look.specs.PageChoice.{rows_of, with_slow, slowest, recent, Chosen}
-use Rattle.puffin_look.specs.declared.page_choice.PageLimits.{PageLimits}
 use Rattle.puffin_look.specs.declared.page_choice.Row.{Row}
 use Rattle.puffin_look.specs.declared.page_choice.Rows.{Rows}
 use Rattle.puffin_look.specs.declared.page_choice.Choice.{Choice}

@@ -1,5 +1,5 @@
 -- The element's parts, one after the other.
-use Rattle.std.proofs.Common.{codes, ap, ◌∙◌}
+use Rattle.std.proofs.Common.{codes}
 use Rattle.std.proofs.lemmas.Result.{on_ok_weaker}
 use Rattle.puffin_look.proofs.Pushed.{pushed5, appended_if}
 use Rattle.puffin_look.proofs.page.push_element.Goals as goal

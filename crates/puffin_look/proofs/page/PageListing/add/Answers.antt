@@ -1,5 +1,5 @@
 -- The frame's element, if the page has it.
-use Rattle.std.proofs.Common.{◌≡◌, List, ℕ, true, ◌++◌, codes, inl, inr, refl, ap, sym, ◌∙◌}
+use Rattle.std.proofs.Common.{List, ℕ, ◌++◌, codes, inl, inr, refl, ap, sym, ◌∙◌}
 use Rattle.std.proofs.lemmas.Result.{err_from_is_err_and}
 use Rattle.puffin_look.specs.OpenFrame.{open_of}
 use Rattle.puffin_look.specs.Page.{element}
