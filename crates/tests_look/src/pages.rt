@@ -1,7 +1,8 @@
 use crate::equal::equal;
 use puffin_data::data::Counted;
 use puffin_look::{
-    Indices, PageFrames, PageLimits, View, choose_frames, print_page_data, read_overview, read_words,
+    Indices, PageFrames, PageLimits, View, choose_frames, print_page_data, read_overview,
+    read_words,
 };
 use std::test::Fail;
 use tests_support::samples::FILE;
@@ -46,6 +47,10 @@ fn the_words_of_a_page(rt: HostRuntime) {
         String::from_str(rt.alloc(), "a.puffin").expect(&rt, "a word"),
         String::from_str(rt.alloc(), "a.html").expect(&rt, "a word"),
     ];
-    equal(&rt, read_words(&words), Some((View::Page("a.html"), "a.puffin")));
+    equal(
+        &rt,
+        read_words(&words),
+        Some((View::Page("a.html"), "a.puffin")),
+    );
     equal(&rt, read_words(&words[..2]), None);
 }
