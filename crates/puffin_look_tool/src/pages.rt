@@ -1,12 +1,14 @@
 //! Writes the page of a file.
 
+ghost use Rattle.std.specs.Prelude.{◌<◌, ◌^◌, ◌-◌};
+ghost use Rattle.puffin_data.specs.Device.Counting.{failed_calls, failed_reads};
+
 use crate::page::{END, HEAD};
 use crate::skimmed::Skimmed;
-use crate::{Cause, LookFault, fault_of, first_reading, reader, rewind};
+use crate::{Cause, LookFault, Reader, fault_of, first_reading, reader, rewind};
 use puffin_data::FileError;
-use puffin_data::data::{Counted, Drain, Source, write_all};
+use puffin_data::data::{Counted, write_all};
 use puffin_look::{Indices, Overview, PageFrames, PageLimits, choose_frames, print_page_data};
-use std::alloc::Global;
 use std::fs::File;
 use std::io;
 use std::io::Read;
@@ -63,20 +65,19 @@ fn frames_of<'w>(
     Ok(PageFrames::These(indices))
 }
 
-/// Writes a page. Behind a fault of the file, the page ends as another does.
-fn write_page<S: Source, D: Drain>(
-    alloc: Global,
+/// Writes the beginning of a page, and its data.
+fn write_page(
+    rt: &HostRuntime,
     overview: &Overview,
-    source: &mut S,
-    out: &mut D,
+    source: &mut Reader<'_>,
+    out: &mut Counted<File>,
     frames: &PageFrames,
-) -> Result<(), FileError> {
+) -> Result<(), FileError>
+    requires source { failed_reads source.old < 2 ^ 64 - 1 }
+    requires out { failed_calls out.old < 2 ^ 64 - 1 }
+{
     write_all(out, HEAD.as_bytes())?;
-    let answer = print_page_data(alloc, overview, source, out, frames);
-    if !matches!(answer, Err(FileError::Io | FileError::Memory)) {
-        write_all(out, END.as_bytes())?;
-    }
-    answer
+    print_page_data(rt.alloc(), overview, source, out, frames)
 }
 
 /// Returns the fault of a call that read the file and wrote the page.
@@ -106,8 +107,17 @@ pub(crate) fn view<'w>(
     let frames = frames_of(rt, path, file, indices)?;
     let mut source = reader(rt, path, file)?;
     let mut out = Counted::new(create(rt, page)?);
-    match write_page(rt.alloc(), &overview, &mut source, &mut out, &frames) {
+    let answer = write_page(rt, &overview, &mut source, &mut out, &frames);
+    if let Err(error @ (FileError::Io | FileError::Memory)) = answer {
+        return Err(page_fault(path, page, error, source.last_error(), out.last_error()));
+    }
+    // (behind a fault of the file, the page ends as another does)
+    let mut out = Counted::new(out.into_inner());
+    if let Err(error) = write_all(&mut out, END.as_bytes()) {
+        return Err(page_fault(path, page, error, None, out.last_error()));
+    }
+    match answer {
         Ok(()) => Ok(()),
-        Err(error) => Err(page_fault(path, page, error, source.last_error(), out.last_error())),
+        Err(error) => Err(fault_of(path, error, None, None)),
     }
 }
