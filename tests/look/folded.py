@@ -67,5 +67,18 @@ def faults_in_names(program, _source):
     return [] if found == wanted else [f"{a!r} instead of {b!r}" for a, b in zip(found, wanted) if a != b][:3] or ["too few"]
 
 
+def faults_at_pieces(program, _source):
+    """What is missing where the length of a frame's details lies at the end of the 512 bytes that are read ahead, or on both sides."""
+    names, places, faults = ["first", "second"], set(), []
+    for count in range(256):
+        data = traces.file_of(names, [b"x" * 200, b"x" * count])
+        place = data.index(traces.block(b"first")) - len(b"\2\1\1\1") - 4
+        if 500 <= place <= 516:
+            places.add(place)
+            found = [path for path, _ in folded(program, data)]
+            faults += [] if found == names else [f"{found} with the length at {place}"]
+    return faults if places == set(range(500, 517)) else [f"lengths at {sorted(places)}"]
+
+
 CHECKS = {"folded": faults_in_paths}
-CHECKS_OF_NAMES = {"paths_of_all_bytes": faults_in_names}
+CHECKS_OF_NAMES = {"paths_of_all_bytes": faults_in_names, "paths_at_pieces": faults_at_pieces}

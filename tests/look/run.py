@@ -5,7 +5,8 @@
 A case is a folder in cases/ as those of tests/cli, which lists its files. SCRIPT is the script that builds and runs the
 program; it is run as the script of tests/cli is. EXAMPLE is the program of crates/example, which writes a file;
 another is of the Rust crate. On both each word of the program is run, and compared with another reading of the file: listings.py
-has the checks of lists and trees, traces.py of traces, folded.py of folded stacks, tops.py of scopes by name, selections.py of some frames and threads. tests/c runs the words on a file of a C
+has the checks of lists and trees, traces.py of traces, folded.py of folded stacks, tops.py of scopes by name, selections.py of some
+frames and threads, pages.py of pages, in headless Chromium. tests/c runs the words on a file of a C
 program. The last line is 'N passed, M failed'.
 """
 
@@ -16,7 +17,7 @@ import sys
 
 from .. import common
 from ..cli import run, starter
-from . import folded, listings, selections, sources, tops, traces
+from . import folded, listings, pages, selections, sources, tops, traces
 
 CASES = pathlib.Path(__file__).resolve().parent / "cases"
 
@@ -24,7 +25,7 @@ CASES = pathlib.Path(__file__).resolve().parent / "cases"
 def checks_of_file(name, make):
     """The checks of a file that is made for the first of them: each one's name, and what it compares."""
     source = functools.cache(make)
-    checks = listings.CHECKS | traces.CHECKS | folded.CHECKS | tops.CHECKS | selections.CHECKS
+    checks = listings.CHECKS | traces.CHECKS | folded.CHECKS | tops.CHECKS | selections.CHECKS | pages.CHECKS
     return [(f"{word}_of_{name}", lambda program, _, it=it: it(program, source())) for word, it in checks.items()]
 
 
@@ -33,7 +34,7 @@ def checks(example):
     found = checks_of_file("the_rust_crate", sources.original)
     found += checks_of_file("the_example", functools.partial(sources.of_example, example)) if example else []
     found += [("the_readings_of_both", sources.faults_in_python)]
-    return found + list((traces.CHECKS_OF_NAMES | folded.CHECKS_OF_NAMES | listings.CHECKS_OF_NAMES).items())
+    return found + list((traces.CHECKS_OF_NAMES | folded.CHECKS_OF_NAMES | listings.CHECKS_OF_NAMES | pages.CHECKS_OF_NAMES).items())
 
 
 def main():

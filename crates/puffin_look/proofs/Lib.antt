@@ -26,3 +26,6 @@ mod Tallied
 mod RowsMade
 mod RowsTold
 mod TalliesTaken
+mod PagesMade
+mod PagesPrinted
+mod PageChosen

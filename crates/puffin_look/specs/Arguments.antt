@@ -9,7 +9,7 @@ use Rattle.puffin_look.specs.declared.wanted.Indices.{Indices}
 use Rattle.puffin_look.specs.declared.top.By.{By}
 use Rattle.puffin_look.specs.declared.top.By.TheVariants as by
 use Rattle.puffin_look.specs.declared.task.View.{View}
-use Rattle.puffin_look.specs.declared.task.View.TheVariants.{Threads, Frames, Slowest, Frame, Trace, Folded, Top}
+use Rattle.puffin_look.specs.declared.task.View.TheVariants.{Threads, Frames, Slowest, Frame, Trace, Folded, Top, Page}
 
 -- a decimal number without a sign
 abbrev pub digits_in : List ℕ → Option ℕ
@@ -33,6 +33,7 @@ pub data Wish : Type 0 where
   a_trace : Wish
   folded_stacks : (thread : Option (List ℕ)) → Wish
   top_scopes : (thread : Option (List ℕ)) → Wish
+  a_page : (place : List ℕ) → Wish
 
 abbrev pub is_dot : ℕ → Bool
 is_dot byte = byte == 46
@@ -80,6 +81,7 @@ detailed_in word more =
     if bytes_eq word (codes "frames") then frames_in more else
     if bytes_eq word (codes "folded") then Some (folded_stacks (Some more)) else
     if bytes_eq word (codes "top") then Some (top_scopes (Some more)) else
+    if bytes_eq word (codes "view") then Some (a_page more) else
     frame_in word more None
 
 -- what to show, and the path of the file
@@ -103,6 +105,7 @@ wish_of (Frame index thread) = a_frame index (option_map (λ t. t.now) thread)
 wish_of Trace = a_trace
 wish_of (Folded thread) = folded_stacks (option_map (λ t. t.now) thread)
 wish_of (Top thread) = top_scopes (option_map (λ t. t.now) thread)
+wish_of (Page place) = a_page place.now
 
 abbrev pub request_of : View × Bor (List ℕ) → Request
 request_of t = (wish_of t.0, t.1.now)

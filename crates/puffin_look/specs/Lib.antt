@@ -16,4 +16,6 @@ pub mod Buckets
 pub mod Top
 pub mod TopTable
 pub mod Arguments
+pub mod Page
+pub mod PageChoice
 pub mod inner

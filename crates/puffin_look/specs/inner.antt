@@ -12,3 +12,5 @@ pub mod Foldings
 pub mod Counts
 pub mod Tallies
 pub mod Tops
+pub mod Pages
+pub mod PageChoices

@@ -47,7 +47,11 @@ pub(crate) fn push_share(text: &mut Vec<u8>, part: u64, whole: u64) -> Result<()
 }
 
 /// Appends the time from one moment to another in decimal digits, with a minus if it is negative.
-fn push_difference(text: &mut Vec<u8>, from: NanoSecond, to: NanoSecond) -> Result<(), AllocError>
+pub(crate) fn push_difference(
+    text: &mut Vec<u8>,
+    from: NanoSecond,
+    to: NanoSecond,
+) -> Result<(), AllocError>
     ensures { OnOk result (text.new.items ≡ text.old.items ++ signed_decimal (to -ℤ from)) }
 {
     if to < from {

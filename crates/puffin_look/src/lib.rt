@@ -10,6 +10,7 @@
 //! | write a trace for other tools | [`print_trace`] |
 //! | write the folded stacks for them | [`print_folded`] |
 //! | list the scopes by name, with their times | [`read_top`], [`Top::sort_by`], [`print_top`] |
+//! | write a page for a browser | [`choose_frames`], [`print_page_data`] |
 #![tactic(auto)]
 
 mod columns;
@@ -23,6 +24,9 @@ pub mod laws;
 mod listing;
 mod names;
 mod overview;
+mod page;
+mod page_choice;
+mod page_rows;
 mod quoting;
 mod slowest;
 mod stacks;
@@ -41,6 +45,8 @@ pub use folded::print_folded;
 pub use frame_tree::print_frame;
 pub use frames::print_frames;
 pub use overview::{Overview, read_overview};
+pub use page::{PageFrames, print_page_data};
+pub use page_choice::{PageLimits, choose_frames};
 pub use slowest::print_slowest;
 pub use task::{Options, View, order_of, range, read_words, take_options};
 pub use thread_names::threads_named;

@@ -25,6 +25,8 @@ pub enum View<'w> {
     Folded(Option<&'w str>),
     /// The scopes by name, of all threads or of those that this word names.
     Top(Option<&'w str>),
+    /// A page, which is written at this path.
+    Page(&'w str),
 }
 
 /// Parses a decimal number without a sign, below `2^64`.
@@ -98,6 +100,7 @@ fn detailed_of<'w>(word: &str, more: &'w str) -> Option<View<'w>>
         "frames" => frames_of(more),
         "folded" => Some(View::Folded(Some(more))),
         "top" => Some(View::Top(Some(more))),
+        "view" => Some(View::Page(more)),
         word => frame_of(word, more, None),
     }
 }

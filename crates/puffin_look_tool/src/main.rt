@@ -1,10 +1,12 @@
 //! `puffin-look`: shows what is in a file of frames: its threads, its frames, a frame as a tree, all of it as a trace, as folded
-//! stacks, or its scopes by name.
+//! stacks, its scopes by name, or a page of them.
 #![tactic(auto)]
 
 ghost use Rattle.std.specs.Prelude.{◌<◌, ◌^◌, ◌-◌, IfOk};
 ghost use Rattle.puffin_data.specs.Device.Counting.{failed_calls, failed_reads};
 
+mod page;
+mod pages;
 mod skimmed;
 
 use crate::skimmed::Skimmed;
@@ -37,7 +39,8 @@ const HELP: &str = "puffin-look shows what is in a file of frames.
     --by own|total|calls|max             the greatest of this first
     --limit N                            the first N rows
     --texts                              a row for each text of a name
-    --frames A..B                        of trace, folded and top: these frames alone
+  puffin-look view FILE PAGE             a page for a browser: the slowest frames and the last ones, as flame charts
+    --frames A..B                        of trace, folded, top and view: these frames alone
   puffin-look --help, --version          this text; the version
 
 A..B are the frames with indices from A on and below B. THREAD is START:NAME as `threads` lists it, or the name of all threads
@@ -48,7 +51,7 @@ const VERSION: &str = "puffin-look 0.20.0";
 
 /// What is told of words that are no request.
 const USAGE: &str =
-    "usage: puffin-look threads FILE | frames FILE [N|A..B] | frame FILE INDEX [THREAD] | trace FILE | folded FILE [THREAD] | top FILE [THREAD] [--by own|total|calls|max] [--limit N] [--texts] [--frames A..B]";
+    "usage: puffin-look threads FILE | frames FILE [N|A..B] | frame FILE INDEX [THREAD] | trace FILE [--frames A..B] | folded FILE [THREAD] [--frames A..B] | top FILE [THREAD] [--by own|total|calls|max] [--limit N] [--texts] [--frames A..B] | view FILE PAGE [--frames A..B]";
 
 /// The status of a tool that writes to a pipe that nobody reads any more, as a shell tells it.
 const UNREAD: u8 = 141;
@@ -71,6 +74,8 @@ enum Cause<'w> {
     NotInFrame(FrameIndex, &'w str),
     /// The file can't be read a second time.
     ReadOnce,
+    /// The file is one of frames, where a page is to be written.
+    HasFrames,
 }
 
 /// Why the program failed.
@@ -312,6 +317,7 @@ fn show<'w>(
     let file = open(rt, path)?;
     match view {
         View::Threads | View::Frames(_) | View::Slowest(_) => list(rt, view, path, &file),
+        View::Page(page) => pages::view(rt, path, &file, page, options.frames),
         View::Frame(..) | View::Trace | View::Folded(_) | View::Top(_) => {
             draw(rt, view, options, path, &file)
         }
@@ -322,7 +328,7 @@ fn show<'w>(
 fn takes(view: View<'_>, options: Options) -> bool {
     match view {
         View::Top(_) => true,
-        View::Trace | View::Folded(_) => !options.is_of_top(),
+        View::Trace | View::Folded(_) | View::Page(_) => !options.is_of_top(),
         _ => !options.is_of_top() && options.frames.is_none(),
     }
 }
@@ -374,6 +380,7 @@ fn print_fault(rt: &HostRuntime, name: &str, cause: &Cause<'_>) -> io::Result<()
         Cause::ReadOnce => {
             eprintln!(rt; "puffin-look: {name}: can't be read twice; write it to a file first")
         }
+        Cause::HasFrames => eprintln!(rt; "puffin-look: {name}: is a file of frames, not replaced"),
     }
 }
 

@@ -5,3 +5,5 @@
 mod equal;
 #[cfg(test)]
 mod lists;
+#[cfg(test)]
+mod pages;

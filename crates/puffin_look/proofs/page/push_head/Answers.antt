@@ -1,0 +1,16 @@
+-- The frame's index, start and stop.
+use Rattle.std.proofs.Common.{◌++◌, codes, ◌∙◌, w64, arith}
+use Rattle.std.specs.Fmt.{signed_decimal}
+use Rattle.std.proofs.lemmas.Int.{ints, to_z-of_z}
+use Rattle.std.proofs.lemmas.Result.{on_ok_weaker}
+use Rattle.puffin_look.proofs.Pushed.{pushed4, appended_if}
+use Rattle.puffin_look.proofs.page.push_head.Goals as goal
+
+pub returns : goal.returns
+returns c =
+    let start = to_z-of_z w64 c.args.meta.now.range_ns.0 (omega (arith, ints)) in
+    let stop = to_z-of_z w64 c.args.meta.now.range_ns.1 (omega (arith, ints)) in
+    let first = c.in_ok-push_moment.ensures ∙ (λ i. c.push_count.new.text.items ++ (codes ",\"" ++ signed_decimal (start i))) in
+    let last = c.in_ok-push_moment-2.ensures ∙ (λ i. c.push_moment.new.text.items ++ (codes "\",\"" ++ signed_decimal (stop i))) in
+    on_ok_weaker c.extend_from_slice.result (pushed4 _ _ _ _ _ _ _ _ _ c.in_ok-push_count.ensures first last)
+    (appended_if c.extend_from_slice.result c.extend_from_slice.new.self.items c.push_moment-2.new.text.items (codes "\"") c.extend_from_slice.ensures.items)
