@@ -4,12 +4,15 @@ import base64
 import json
 import os
 import pathlib
+import select
 import shutil
 import subprocess
 import tempfile
 
 PROGRAM = shutil.which("chromium")
-OPTIONS = ["--headless", "--no-sandbox", "--disable-gpu", "--hide-scrollbars", "--no-first-run", "--remote-debugging-pipe"]
+OPTIONS = ["--headless", "--no-sandbox", "--disable-gpu", "--disable-dev-shm-usage", "--hide-scrollbars", "--no-first-run", "--remote-debugging-pipe"]
+# Seconds within which it says something.
+LIMIT = 120
 
 
 class Browser:
@@ -41,6 +44,8 @@ class Browser:
     def message(self):
         """The next message of the browser."""
         while b"\0" not in self.unread:
+            if not select.select([self.back], [], [], LIMIT)[0]:
+                raise OSError("the browser doesn't answer")
             more = os.read(self.back, 1 << 20)
             if not more:
                 raise OSError("the browser ended")
