@@ -199,6 +199,9 @@ impl<C: Clock + Copy + Drop, W: Pool> AnyProgram<Ready<SystemClock<C>>> for Jobs
 /// calling thread, joins all threads and adds up what the leader and they reported. [`Outcome::threads`] has one entry for each of
 /// these threads, for all jobs that it did. However many jobs there are, they share this number of threads.
 ///
+/// If the pool states its code, and no job failed, then the frames that the leader took, and what is pending, show of each job whose
+/// name neither another job nor the leader has, and of the leader, just the scopes of its code that began.
+///
 /// Fails as [`profiled`](crate::light::profiled) does; no job was taken then.
 ///
 /// ```
