@@ -108,7 +108,8 @@ enum {
 
 /* Copies the name that a number has here to the front of name, as much of it as fits, and returns the size of the whole name in
  * bytes. No zero is added: fill name with zeros first. A file that is refused for another fault has both names, as in
- * "PUFFIN_FILE_REFUSED + 256 * PUFFIN_TOO_DEEP". Returns 0 if no call returns the number. */
+ * "PUFFIN_FILE_REFUSED + 256 * PUFFIN_TOO_DEEP". Returns 0 if no call returns the number. PUFFIN_MISSING_ID has its name, although
+ * calls return it only in the number of a file's fault. */
 size_t puffin_fault_name(uint32_t fault, char *name, size_t room);
 /* No name is longer, with a zero. */
 enum { PUFFIN_FAULT_NAME_ROOM = 64 };

@@ -1,6 +1,6 @@
 /* Hands damaged files to the listings of viewer.c and totals.c: the file in the first argument, twice over, cut at each byte, with
  * each byte changed, and one whose frame has 150 streams. Each is read from a block of its own size, so that the address sanitizer
- * and valgrind see a byte that is read too far. */
+ * sees a byte that is read too far. */
 #define main viewer_main
 #include "viewer.c"
 #undef main

@@ -1,5 +1,6 @@
 /* Scopes by puffin.hpp on two threads, each with its own recorder; the file of one frame goes to the first argument. */
 #include "puffin.hpp"
+#include <algorithm>
 #include <cstdio>
 #include <cstdlib>
 #include <mutex>
@@ -10,6 +11,8 @@
 static puffin::Ids ids;
 static puffin::Profiler profiler;
 static std::mutex lock;
+/* texts with a zero in them */
+static const std::string part_name("part\0of it", 10), step_text("step\0by step", 12);
 
 static void call(const char *what, std::uint32_t fault) {
     if (fault != PUFFIN_OK) {
@@ -26,12 +29,12 @@ static void work(const char *name) {
         std::lock_guard<std::mutex> held(lock);
         CALL(thread.open(ids, name));
         CALL(profiler.register_function("work", __FILE__, __LINE__, whole));
-        CALL(profiler.register_scope(std::string("part"), "work", __FILE__, __LINE__, part));
+        CALL(profiler.register_scope(part_name, "work", __FILE__, __LINE__, part));
     }
     {
         PUFFIN_SCOPE(thread, whole, puffin::Text());
         for (int step = 0; step < 3; step++) {
-            PUFFIN_SCOPE(thread, part, "step");
+            PUFFIN_SCOPE(thread, part, puffin::Text(step_text.data(), step_text.size()));
         }
     }
     std::lock_guard<std::mutex> held(lock);
@@ -59,7 +62,7 @@ static bool is_moved() {
     puffin::Thread thread;
     std::uint64_t place, scopes = 0;
     CALL(thread.open(ids, "moved"));
-    CALL(thread.begin(1, 1, "text\0with a zero", place));
+    CALL(thread.begin(1, 1, "a text", place));
     puffin::Thread other(std::move(thread));
     CALL(other.end(2, place));
     thread = std::move(other);
@@ -67,7 +70,7 @@ static bool is_moved() {
     return scopes == 1 && other.discard(scopes) == PUFFIN_NOT_OPEN;
 }
 
-/* The packet of the frame behind the letters of a file is a file, which has both threads. */
+/* The packet of the frame behind the letters of a file is a file, which has both threads and whole texts. */
 static bool is_seen() {
     const std::string start = PUFFIN_FILE_START;
     std::vector<std::uint8_t> file(start.begin(), start.end());
@@ -77,6 +80,11 @@ static bool is_seen() {
     std::uint8_t names[20];
     PuffinFileThreadList list = {threads, 3, names, sizeof names, 0, 0};
     CALL(puffin_file_threads(file.data(), file.size(), &list));
+    for (const std::string &text : {part_name, step_text}) {
+        if (std::search(file.begin(), file.end(), text.begin(), text.end()) == file.end()) {
+            return false;
+        }
+    }
     return list.num_rows == 2 && list.num_bytes == 10 && threads[0].scopes == 4 && threads[1].scopes == 4;
 }
 

@@ -8,7 +8,7 @@ of starter.py and, where there is no program, on those of the cases here that it
 A case is a folder in cases/ with the files
   args    the program's words, one a line
   script  a file that lies where the program runs
-  file.hex  the bytes of a file 'file' that lies there, in hexadecimal digits as below
+  file.hex  the bytes of a file 'file' that lies there, in hexadecimal digits as below, and other.hex those of 'other'
   stdin   standard input as it is, or stdin.hex in hexadecimal digits with blanks and '#' comments, or
           stdin.make, a line that names a function of streams.py with its arguments
   stdout  what it must write to standard output (no file: nothing)
@@ -57,8 +57,9 @@ def furnish(place, case, unusual):
     """Puts a case's files where the program runs."""
     if (case / "script").exists():
         shutil.copy(case / "script", place)
-    if (case / "file.hex").exists():
-        (place / "file").write_bytes(digits(case / "file.hex"))
+    for name in ("file", "other"):
+        if (case / f"{name}.hex").exists():
+            (place / name).write_bytes(digits(case / f"{name}.hex"))
     if "folder" in unusual:
         (place / "folder").mkdir()
     if "locked" in unusual:

@@ -5,7 +5,7 @@
 A case is a folder in cases/ as those of tests/cli, which lists its files. SCRIPT is the script that builds and runs the
 program; it is run as the script of tests/cli is. EXAMPLE is the program of crates/example, which writes a file;
 another is of the Rust crate. On both each word of the program is run, and compared with another reading of the file: listings.py
-has the checks of lists and trees, traces.py of traces, folded.py of folded stacks, tops.py of scopes by name, selections.py of some
+has the checks of lists and trees, traces.py of traces, folded.py of folded stacks, tops.py of scopes by name, slow_frames.py of the slowest frames, diffs.py of two files, selections.py of some
 frames and threads, pages.py of pages, in headless Chromium. tests/c runs the words on a file of a C
 program. The last line is 'N passed, M failed'.
 """
@@ -17,7 +17,7 @@ import sys
 
 from .. import common
 from ..cli import run, starter
-from . import folded, listings, pages, selections, sources, tops, traces
+from . import diffs, folded, listings, pages, selections, slow_frames, sources, tops, traces
 
 CASES = pathlib.Path(__file__).resolve().parent / "cases"
 
@@ -25,7 +25,8 @@ CASES = pathlib.Path(__file__).resolve().parent / "cases"
 def checks_of_file(name, make):
     """The checks of a file that is made for the first of them: each one's name, and what it compares."""
     source = functools.cache(make)
-    checks = listings.CHECKS | traces.CHECKS | folded.CHECKS | tops.CHECKS | selections.CHECKS | pages.CHECKS
+    modules = (listings, traces, folded, tops, slow_frames, diffs, selections, pages)
+    checks = {word: it for module in modules for word, it in module.CHECKS.items()}
     return [(f"{word}_of_{name}", lambda program, _, it=it: it(program, source())) for word, it in checks.items()]
 
 

@@ -2,15 +2,17 @@
 
     python3 -m tests.quick.run
 
-`rt try` builds each crate of tests, and tests/cli/unproved.py the program; as many go side by side as there are
-processors, up to four. The last line says how many passed and failed, and that nothing was proved.
+`rt try` builds the crates of tests, several as one since most of its time goes into what they stand on, and
+tests/cli/unproved.py the program; as many go side by side as there are processors, up to four. The last line says how many passed and failed, and that nothing was proved.
 """
 
 import concurrent.futures
 import os
+import pathlib
 import re
 import subprocess
 import sys
+import tempfile
 
 from .. import common
 
@@ -19,14 +21,37 @@ LANES = min(4, len(os.sched_getaffinity(0)))
 LIMIT, RUN_LIMIT = 1200, "300"
 
 
-def crates_with_tests():
-    """The crates of crates.txt that have tests, those with the most text first, as they take the longest."""
-    sizes = {}
-    for name, crate in common.crates().items():
-        texts = [it.read_text() for it in (crate.folder() / "src").rglob("*.rt")]
-        if any(re.search(r"^\s*#\[test\]", it, re.M) for it in texts):
-            sizes[name] = sum(map(len, texts))
-    return sorted(sizes, key=sizes.get, reverse=True)
+def groups():
+    """The crates of crates.txt that have tests, in groups that are built at once: those with nothing but tests as two, with the
+    profiler and without it, and each other by itself."""
+    own = common.crates()
+    tested = [it for it in own if any(re.search(r"^\s*#\[test\]", path.read_text(), re.M) for path in sources(own[it]))]
+    alone = [it for it in tested if not it.startswith("tests_")]
+    above = [it for it in tested if it not in alone and "puffin" in common.below(it)]
+    return [above, [it for it in tested if it not in alone + above], *([it] for it in alone)]
+
+
+def sources(crate):
+    return (crate.folder() / "src").rglob("*.rt")
+
+
+def join(crates, to):
+    """Copies crates of tests to a folder that isn't there yet, as one: the first, with the others as its modules."""
+    own, first = common.crates(), crates[0]
+    common.copy_crates({first}.union(*map(common.below, crates)), to)
+    src = to / "crates" / first / "src"
+    for name in crates[1:]:
+        for path in sources(own[name]):
+            inner = path.relative_to(own[name].folder() / "src")
+            place = src / (f"{name}.rt" if str(inner) == "lib.rt" else f"{name}/{inner}")
+            place.parent.mkdir(exist_ok=True)
+            text = re.sub(r"^#!\[.*\n", "", path.read_text(), flags=re.M)
+            place.write_text(text.replace("crate::", f"crate::{name}::"))
+    root = src / "lib.rt"
+    root.write_text(root.read_text() + "".join(f"#[cfg(test)]\nmod {name};\n" for name in crates[1:]))
+    used = dict.fromkeys(it for name in crates for it in own[name].used)
+    lines = (to / "crates.txt").read_text()
+    (to / "crates.txt").write_text(lines.replace(own[first].line(), f"{first}: {' '.join(used)}"))
 
 
 def ran(words, folder):
@@ -45,14 +70,19 @@ def counts(said, words):
     return [int(it) for it in lines[-1]] if lines else None
 
 
-def tests_of(crate):
-    """How many tests passed, how many failed and what to show."""
-    said, status = ran(["rt", "try", "--test", "--seconds", RUN_LIMIT], common.crate(crate).folder())
+def tests_of(crates):
+    """How many tests of a group passed, how many failed and what to show."""
+    with tempfile.TemporaryDirectory() as folder:
+        copy = pathlib.Path(folder) / "tests"
+        copy.mkdir()
+        join(crates, copy)
+        said, status = ran(["rt", "try", "--test", "--seconds", RUN_LIMIT], copy / "crates" / crates[0])
     found = counts(said, r"test result: \w+\. (\d+) passed; (\d+) failed; 0 ignored; 0 filtered out")
     is_well = status == 0 and found and found[0] and not found[1]
-    print(f"tests of {crate} ... {f'ok, {found[0]}' if is_well else 'FAILED'}", flush=True)
+    names = ", ".join(crates)
+    print(f"tests of {names} ... {f'ok, {found[0]}' if is_well else 'FAILED'}", flush=True)
     passed, failed = found or (0, 0)
-    return passed, failed if is_well else max(failed, 1), "" if is_well else f"== {crate}\n{said}"
+    return passed, failed if is_well else max(failed, 1), "" if is_well else f"== {names}\n{said}"
 
 
 def part(runner, words):
@@ -65,12 +95,12 @@ def part(runner, words):
 
 
 def main():
-    crates = crates_with_tests()
+    crates = groups()
     with concurrent.futures.ThreadPoolExecutor(LANES) as lanes:
         cases = lanes.submit(part, "tests.cli.unproved", r"(\d+) passed, (\d+) failed, (\d+) left out")
+        rules = lanes.submit(part, "tests.house.run", r"(\d+) passed, (\d+) failed")
         tests = list(lanes.map(tests_of, crates))
-        rules = part("tests.house.run", r"(\d+) passed, (\d+) failed")
-        cases = cases.result()
+    cases, rules = cases.result(), rules.result()
     parts = [*tests, cases, rules]
     for it in parts:
         print(it[2], end="")

@@ -178,7 +178,18 @@ def without(text, kinds):
         if word in kinds:
             gone[word] = kinds[word]
             del lines[start:end]
-    return "\n".join(lines), gone
+    return without_places("\n".join(lines)) if gone else text, gone
+
+
+def without_places(text):
+    """A file of answers without the names of a function's places that no answer cites: a check knows only those that are needed."""
+    cited = set(re.findall(r"[^\s(){},.;]+", re.sub(r"^use .*", "", text, flags=re.M)))
+
+    def left(line):
+        names = [it for it in line[2].split(", ") if it in cited]
+        return f"{line[1]}{{{', '.join(names)}}}" if names else ""
+
+    return re.sub(r"^(use \S+\.Goals\.)\{(.*)\}$", left, text, flags=re.M)
 
 
 def clause_of(goal):

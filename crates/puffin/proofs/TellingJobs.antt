@@ -1,6 +1,6 @@
 -- Jobs that run one after the other on a thread.
 use Rattle.std.proofs.Common.{◌≡◌, ◌⊎◌, ℕ, ℤ, ◌+◌, ◌-◌, ◌^◌, Bool, true, false, List, [], ◌∷◌, ◌++◌, Option, Some, None, Result, Ok, Err, inl, inr, refl, ap, subst, ◌∙◌, arith}
-use Rattle.std.specs.Prelude.{min, sum_by, IsOk}
+use Rattle.std.specs.Prelude.{min, IsOk}
 use Rattle.std.proofs.lemmas.List.Sums.{sum_by_push}
 use Rattle.puffin_data.specs.declared.data.form.Form.TheVariants.{Short}
 use Rattle.puffin_data.specs.declared.error.Error.{Error as Failure}

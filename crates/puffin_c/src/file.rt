@@ -1,6 +1,5 @@
 //! Counts the frames of a file.
 
-ghost use Rattle.std.specs.Prelude.{◌≡◌};
 ghost use Rattle.puffin_c.specs.Faults.{Returns};
 ghost use Rattle.puffin_c.specs.Reporting.{IsChecked};
 

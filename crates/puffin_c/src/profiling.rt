@@ -1,6 +1,6 @@
 //! Collects what threads report into frames.
 
-ghost use Rattle.std.specs.Prelude.{◌≡◌, None, Some, is_some, true};
+ghost use Rattle.std.specs.Prelude.{◌≡◌, None, Some, is_some};
 ghost use Rattle.puffin_collector.specs.Collector.State.{after_wanting};
 ghost use Rattle.puffin_c.specs.Faults.{Returns};
 ghost use Rattle.puffin_c.specs.Handles.{ids_in, profiler_in, thread_in, scopes_on};

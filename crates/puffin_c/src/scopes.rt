@@ -1,6 +1,6 @@
 //! Lists the scopes of a stream.
 
-ghost use Rattle.std.specs.Prelude.{◌≡◌, [], OnOk, IfOk, IfErr, ◌⊎◌};
+ghost use Rattle.std.specs.Prelude.{◌≡◌, [], IfOk, IfErr, ◌⊎◌};
 ghost use Rattle.puffin_data.specs.declared.error.Error.TheVariants as error;
 ghost use Rattle.puffin_data.specs.Forest.{Forest};
 ghost use Rattle.puffin_data.specs.Forest.Spelling.{Spells};

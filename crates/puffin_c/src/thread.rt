@@ -1,6 +1,6 @@
 //! Records the scopes of one thread.
 
-ghost use Rattle.std.specs.Prelude.{◌≡◌, ◌≢◌, None, Some, is_some, true, OnOk, OnErr, IfErr};
+ghost use Rattle.std.specs.Prelude.{◌≡◌, ◌≢◌, Some, is_some, true, OnOk, OnErr, IfErr};
 ghost use Rattle.puffin_c.specs.declared.fault.Fault.TheVariants as fault;
 ghost use Rattle.puffin_c.specs.Faults.{Returns};
 ghost use Rattle.puffin_c.specs.Handles.{ids_in, thread_in, scopes_on};

@@ -1,6 +1,5 @@
 //! What a profiler may hold: the limits of its view and of what waits for a frame; dropping the view's frames.
 
-ghost use Rattle.std.specs.Prelude.{◌≡◌};
 ghost use Rattle.puffin_c.specs.Faults.{Returns};
 ghost use Rattle.puffin_c.specs.Handles.{profiler_in};
 ghost use Rattle.puffin_c.specs.Profiling.{Changes, with_limits, without_view};

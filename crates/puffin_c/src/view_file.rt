@@ -1,6 +1,5 @@
 //! The file of a profiler's view, and the packet of its newest frame, read in pieces.
 
-ghost use Rattle.std.specs.Prelude.{◌≡◌};
 ghost use Rattle.puffin_c.specs.declared.unread.Piece.TheVariants as piece;
 ghost use Rattle.puffin_c.specs.Faults.{Returns};
 ghost use Rattle.puffin_c.specs.Handles.{profiler_in};

@@ -1,11 +1,12 @@
 //! Laws of forests, their spellings and their walks, and of layouts. Each is the contract of a function that does nothing; a
 //! proof of another crate cites it by calling the function.
 
-ghost use Rattle.std.specs.Prelude.{Result, Ok, map, IsTrue, ◌↔◌, List, ℕ, ℤ, ◌≡◌, ◌⊎◌, ◌+◌, ◌-◌, ◌++◌, ◌∷◌, [], ◌<◌, ◌≤◌, ◌^◌, ◌≤ℤ◌, ◌-ℤ◌, pos, negsuc, FitsSigned, length, max};
+ghost use Rattle.std.specs.Prelude.{Result, Ok, drop, map, IsTrue, ◌↔◌, List, ℕ, ℤ, ◌≡◌, ◌⊎◌, ◌+◌, ◌-◌, ◌++◌, ◌∷◌, [], ◌<◌, ◌≤◌, ◌^◌, ◌≤ℤ◌, ◌-ℤ◌, pos, negsuc, FitsSigned, length, max};
 ghost use Rattle.std.specs.List.{All};
 ghost use Rattle.std.specs.List.Sorted.{IsStrictlyIncreasing};
 ghost use Rattle.std.specs.Str.{IsUtf8};
 ghost use Rattle.std.specs.Int.{int_min, int_max, w64};
+ghost use Rattle.byteorder.specs.Endian.{little_number};
 ghost use Rattle.puffin_data.specs.Forest.{Forest, IsForest, empty, append};
 ghost use Rattle.puffin_data.specs.Forest.Measures.{scope_count, height, least_start, greatest_stop};
 ghost use Rattle.puffin_data.specs.Forest.Spelling.{spelling, Spells, begin_bytes, end_size, head_size};
@@ -181,24 +182,30 @@ pub fn cut_texts()
         All (λ b. b < 256) (cut_text form text) }
 {}
 
-/// How the bytes and the word of a stream with open scopes change when a scope begins and when the innermost one ends, and
-/// where the size of the innermost scope's children is. If no scope is open, the stream spells a forest whose tour is the word.
+/// How the bytes and the word of a stream with open scopes change when a scope begins and when the innermost one ends, where the
+/// size of the innermost scope's children is, and what stands there until it ends. If no scope is open, the stream spells a
+/// forest whose tour is the word.
 pub fn open_streams()
     ensures begins { (form : Form) (opened : List Opened) (closed : Forest) (id : ℕ) (start : ℤ)
-        (text : List ℕ) →
-        open_spelling form opened closed ++ begin_bytes form id start text (2 ^ 64 - 1)
+        (text : List ℕ) (size : ℕ) →
+        open_spelling form opened closed ++ begin_bytes form id start text size
         ≡ open_spelling form
-        (record { before = closed; id = id; start = start; text = text } ∷ opened)
+        (record { before = closed; id = id; start = start; text = text; size = size } ∷ opened)
         empty }
     ensures begins_word { (opened : List Opened) (closed : Forest) (id : ℕ) (start : ℤ) (
-        text : List ℕ) →
+        text : List ℕ) (size : ℕ) →
         open_word opened closed ++ (Open id text start ∷ [])
-        ≡ open_word (record { before = closed; id = id; start = start; text = text } ∷ opened)
+        ≡ open_word
+        (record { before = closed; id = id; start = start; text = text; size = size } ∷ opened)
         empty }
     ensures begins_place { (form : Form) (o : Opened) (outer : List Opened) →
         size_place form o outer + 8 ≡ length (open_spelling form (o ∷ outer) empty) }
     ensures place_within { (form : Form) (o : Opened) (outer : List Opened) (closed : Forest) →
         size_place form o outer + 8 ≤ length (open_spelling form (o ∷ outer) closed) }
+    ensures unfinished { (form : Form) (o : Opened) (outer : List Opened) (closed : Forest) →
+        o.size < 2 ^ 64 →
+        little_number 8 (drop (size_place form o outer) (open_spelling form (o ∷ outer) closed))
+        ≡ o.size }
     ensures ends { (form : Form) (o : Opened) (outer : List Opened) (closed : Forest) (stop : ℤ) →
         ended_bytes (open_spelling form (o ∷ outer) closed) (size_place form o outer) stop
         ≡ open_spelling form outer (with_ended o closed stop) }

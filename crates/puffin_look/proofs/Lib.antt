@@ -29,3 +29,6 @@ mod TalliesTaken
 mod PagesMade
 mod PagesPrinted
 mod PageChosen
+mod PartsHeld
+mod HeavySteps
+mod SlowKept

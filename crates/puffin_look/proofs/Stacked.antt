@@ -14,9 +14,9 @@ use Rattle.puffin_threads.specs.Details.Collection.{Collection}
 use Rattle.puffin_view.specs.View.Stats.{cut}
 use Rattle.puffin_look.specs.FrameTree.{time_of}
 use Rattle.puffin_look.specs.Folded.{Part, label, below, path_with, path_of, parts_at, scope_parts, parts_of, with_path, paths_in, own_time, path_line, folded_lines}
+use Rattle.puffin_look.specs.Heavy.{times_in, path_rows}
 use Rattle.puffin_look.specs.inner.Stacks.{Row, row_with, new_row, with_part, times_with, no_times, rows_of, path_at, row_text, HasMoreParts, TakesScopes, StandsFor}
 use Rattle.puffin_look.specs.declared.stacks.Stacks.{Stacks}
-use Rattle.puffin_look.specs.declared.stacks.Times.{Times}
 use Rattle.puffin_look.proofs.StackRows.{itself, turned, left_false, right_false}
 
 -- ---- a scope
@@ -46,12 +46,6 @@ entered v u w place around s time same more at stands =
 
 min_more : (m a b : ℕ) → min m (min m a + b) ≡ min m (a + b)
 min_more m a b = omega arith
-
-abbrev pub times_in : List Part → List ℕ → Times
-times_in all path = record {
-  whole = cut (sum_by (λ (s : Part). s.whole) (parts_of path all));
-  nested = cut (sum_by (λ (s : Part). s.nested) (parts_of path all));
-}
 
 abbrev row_in : List Part → List ℕ → Row
 row_in all path = (path, times_in all path)
@@ -132,10 +126,14 @@ table_more : (done ps : List Part) → fold with_part (table done) ps ≡ table 
 table_more done [] = ap table (sym (append-nil done))
 table_more done (s ∷ ps) = ap (λ (rows : List Row). fold with_part rows ps) (one_more done s) ∙ table_more (done ++ s ∷ []) ps ∙ ap table (append_assoc done (s ∷ []) ps)
 
+-- the rows that all parts lead to
+pub all_rows : (all : List Part) → fold with_part [] all ≡ path_rows all
+all_rows all = table_more [] all
+
 lines_in : (all : List Part) (paths : List (List ℕ)) → flat_map row_text (map (row_in all) paths) ≡ flat_map (λ path. path_line path (own_time all path)) paths
 lines_in all [] = refl
 lines_in all (p ∷ paths) = ap (λ (t : List ℕ). path_line p (own_time all p) ++ t) (lines_in all paths)
 
 -- the lines of the rows that all parts lead to
 pub folded_text : (all : List Part) → flat_map row_text (fold with_part [] all) ≡ folded_lines all
-folded_text all = ap (flat_map row_text) (table_more [] all) ∙ lines_in all (paths_in all)
+folded_text all = ap (flat_map row_text) (all_rows all) ∙ lines_in all (paths_in all)

@@ -9,7 +9,7 @@ use Rattle.puffin_look.specs.declared.wanted.Indices.{Indices}
 use Rattle.puffin_look.specs.declared.top.By.{By}
 use Rattle.puffin_look.specs.declared.top.By.TheVariants as by
 use Rattle.puffin_look.specs.declared.task.View.{View}
-use Rattle.puffin_look.specs.declared.task.View.TheVariants.{Threads, Frames, Slowest, Frame, Trace, Folded, Top, Page}
+use Rattle.puffin_look.specs.declared.task.View.TheVariants.{Threads, Frames, Slowest, Frame, Trace, Folded, Top, Diff, SlowFrames, Page}
 
 -- a decimal number without a sign
 abbrev pub digits_in : List ℕ → Option ℕ
@@ -33,6 +33,8 @@ pub data Wish : Type 0 where
   a_trace : Wish
   folded_stacks : (thread : Option (List ℕ)) → Wish
   top_scopes : (thread : Option (List ℕ)) → Wish
+  a_diff : (new : List ℕ) → (thread : Option (List ℕ)) → Wish
+  slow_paths : (limit : ℕ) → Wish
   a_page : (place : List ℕ) → Wish
 
 abbrev pub is_dot : ℕ → Bool
@@ -67,13 +69,14 @@ list_in word =
     if bytes_eq word (codes "frames") then Some (some_frames None) else
     if bytes_eq word (codes "trace") then Some a_trace else
     if bytes_eq word (codes "folded") then Some (folded_stacks None) else
-    if bytes_eq word (codes "top") then Some (top_scopes None) else None
+    if bytes_eq word (codes "top") then Some (top_scopes None) else
+    if bytes_eq word (codes "slowest") then Some (slow_paths 5) else None
 
--- a word that is followed by the path, an index, and perhaps a thread
-abbrev pub frame_in : List ℕ → List ℕ → Option (List ℕ) → Option Wish
-frame_in word index thread =
-    if bytes_eq word (codes "frame") then option_map (λ n. a_frame n thread) (number_in index)
-    else None
+-- a word that is followed by the path, an index or another path, and perhaps a thread
+abbrev pub threaded_in : List ℕ → List ℕ → Option (List ℕ) → Option Wish
+threaded_in word more thread =
+    if bytes_eq word (codes "frame") then option_map (λ n. a_frame n thread) (number_in more) else
+    if bytes_eq word (codes "diff") then Some (a_diff more thread) else None
 
 -- a word that is followed by the path and one more word
 abbrev pub detailed_in : List ℕ → List ℕ → Option Wish
@@ -81,8 +84,9 @@ detailed_in word more =
     if bytes_eq word (codes "frames") then frames_in more else
     if bytes_eq word (codes "folded") then Some (folded_stacks (Some more)) else
     if bytes_eq word (codes "top") then Some (top_scopes (Some more)) else
+    if bytes_eq word (codes "slowest") then option_map (λ n. slow_paths n) (number_in more) else
     if bytes_eq word (codes "view") then Some (a_page more) else
-    frame_in word more None
+    threaded_in word more None
 
 -- what to show, and the path of the file
 abbrev pub Request : Type 0
@@ -92,8 +96,8 @@ abbrev pub request_in : List (List ℕ) → Option Request
 request_in (word ∷ (path ∷ [])) = option_map (λ wish. (wish, path)) (list_in word)
 request_in (word ∷ (path ∷ (more ∷ []))) =
     option_map (λ wish. (wish, path)) (detailed_in word more)
-request_in (word ∷ (path ∷ (index ∷ (thread ∷ [])))) =
-    option_map (λ wish. (wish, path)) (frame_in word index (Some thread))
+request_in (word ∷ (path ∷ (more ∷ (thread ∷ [])))) =
+    option_map (λ wish. (wish, path)) (threaded_in word more (Some thread))
 request_in _ = None
 
 -- a view whose thread is borrowed, and a request with it
@@ -105,6 +109,8 @@ wish_of (Frame index thread) = a_frame index (option_map (λ t. t.now) thread)
 wish_of Trace = a_trace
 wish_of (Folded thread) = folded_stacks (option_map (λ t. t.now) thread)
 wish_of (Top thread) = top_scopes (option_map (λ t. t.now) thread)
+wish_of (Diff new thread) = a_diff new.now (option_map (λ t. t.now) thread)
+wish_of (SlowFrames limit) = slow_paths limit
 wish_of (Page place) = a_page place.now
 
 abbrev pub request_of : View × Bor (List ℕ) → Request

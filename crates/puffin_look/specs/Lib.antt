@@ -12,9 +12,14 @@ pub mod Trace
 pub mod FrameTree
 pub mod Slowest
 pub mod Folded
+pub mod Heavy
+pub mod SlowFrames
 pub mod Buckets
 pub mod Top
+pub mod Cells
 pub mod TopTable
+pub mod Diff
+pub mod DiffTable
 pub mod Arguments
 pub mod Page
 pub mod PageChoice

@@ -1,5 +1,5 @@
 -- The lines of the slowest frames of a file.
-use Rattle.std.specs.Prelude.{◌≡◌, ℕ, Bool, ◌-ℤ◌, int_lt, List, [], ◌∷◌, ◌++◌, fold, map, take, if◌then◌else◌}
+use Rattle.std.specs.Prelude.{◌≡◌, ℕ, ℤ, Bool, ◌-ℤ◌, int_lt, List, [], ◌∷◌, ◌++◌, fold, map, take, if◌then◌else◌}
 use Rattle.std.specs.FinMap as tree
 use Rattle.std.specs.List.{flat_map}
 use Rattle.puffin_look.specs.OpenFrame.{OpenFrame}
@@ -21,15 +21,25 @@ row_line row =
     counts_text row.index row.threads row.scopes
     ++ (range_text row.range_ns ++ duration_text row.duration_ns)
 
-abbrev pub is_faster : Row → Row → Bool
-is_faster row other = int_lt other.duration_ns row.duration_ns
+module _ {X : Type 0} (duration : X → ℤ) where
+  abbrev pub is_faster_by : X → X → Bool
+  is_faster_by row other = int_lt (duration other) (duration row)
 
--- a row before the first that is faster
+  -- a row before the first that is faster
+  abbrev pub with_row_by : List X → X → List X
+  with_row_by [] row = row ∷ []
+  with_row_by (first ∷ rows) row =
+      if is_faster_by row first then row ∷ (first ∷ rows)
+      else first ∷ with_row_by rows row
+
+abbrev pub duration_of : Row → ℤ
+duration_of row = row.duration_ns
+
+abbrev pub is_faster : Row → Row → Bool
+is_faster = is_faster_by duration_of
+
 abbrev pub with_row : List Row → Row → List Row
-with_row [] row = row ∷ []
-with_row (first ∷ rows) row =
-    if is_faster row first then row ∷ (first ∷ rows)
-    else first ∷ with_row rows row
+with_row = with_row_by duration_of
 
 -- the slowest first, and of equally slow ones the one that comes first in the file
 abbrev pub slowest_first : List Row → List Row

@@ -1,56 +1,23 @@
 -- The table of the scopes of a file by name.
-use Rattle.std.specs.Prelude.{ℕ, zero, suc, ◌-◌, ◌/◌, ◌%◌, nat_lt, ◌==◌, List, [], ◌∷◌, ◌++◌, length, codes, replicate, if◌then◌else◌}
-use Rattle.std.specs.Fmt.{decimal}
+use Rattle.std.specs.Prelude.{ℕ, List, [], ◌∷◌, ◌++◌, codes, Some}
 use Rattle.std.specs.List.{flat_map}
-use Rattle.puffin_look.specs.Escapes.{escaped}
-use Rattle.puffin_look.specs.FrameTree.{share_text}
-use Rattle.puffin_look.specs.Trace.{digit}
+use Rattle.puffin_look.specs.Cells.{value_cell, name_end}
+use Rattle.puffin_look.specs.declared.cells.Value.{Value}
+use Rattle.puffin_look.specs.declared.cells.Value.TheVariants.{Number, Time, Share}
 use Rattle.puffin_look.specs.declared.top.TopRow.{TopRow}
 
--- ---- numbers that a person reads
+abbrev pub time_value : ℕ → Value
+time_value time = Time (Some time)
 
--- what stands before so many digits
-abbrev pub comma : ℕ → List ℕ
-comma zero = []
-comma (suc n) = if suc n % 3 == 0 then codes "," else []
+-- the numbers of a row, with its own time's share of this time
+abbrev pub top_values : ℕ → TopRow → List Value
+top_values whole row =
+    Number row.calls ∷ time_value row.total ∷ time_value row.own ∷ time_value row.least
+    ∷ time_value row.median ∷ time_value row.p95 ∷ time_value row.p99 ∷ time_value row.greatest
+    ∷ Share row.own whole ∷ []
 
--- digits in groups of three, with a comma between groups
-abbrev pub grouped : List ℕ → List ℕ
-grouped [] = []
-grouped (byte ∷ bytes) = byte ∷ (comma (length bytes) ++ grouped bytes)
-
--- hundredths of a unit, with two digits behind the point
-abbrev pub in_hundredths : ℕ → List ℕ → List ℕ
-in_hundredths n unit = grouped (decimal (n / 100)) ++ (46 ∷ digit (n / 10) ∷ digit n ∷ unit)
-
--- nanoseconds in the greatest unit of which there is one, rounded down
-abbrev pub readable_time : ℕ → List ℕ
-readable_time time =
-    if nat_lt time 1000 then decimal time ++ codes " ns" else
-    if nat_lt time 1000000 then in_hundredths (time / 10) (codes " us") else
-    if nat_lt time 1000000000 then in_hundredths (time / 10000) (codes " ms") else
-    in_hundredths (time / 10000000) (codes " s")
-
--- ---- a line
-
--- a blank, and a text that ends where the column ends
-abbrev pub cell : ℕ → List ℕ → List ℕ
-cell width text = codes " " ++ (replicate (width - length text) 32 ++ text)
-
-abbrev pub time_cell : ℕ → List ℕ
-time_cell time = cell 11 (readable_time time)
-
-abbrev pub times_in : TopRow → List ℕ
-times_in row =
-    row.total ∷ row.own ∷ row.least ∷ row.median ∷ row.p95 ∷ row.p99 ∷ row.greatest ∷ []
-
--- a row, with its own time's share of this time
 abbrev pub top_line : ℕ → TopRow → List ℕ
-top_line whole row =
-    cell 13 (grouped (decimal row.calls))
-    ++ (flat_map time_cell (times_in row)
-    ++ (cell 7 (share_text row.own whole)
-    ++ (codes "  " ++ (escaped row.name.items ++ codes "\n"))))
+top_line whole row = flat_map value_cell (top_values whole row) ++ name_end row.name.items
 
 -- the names of the columns
 abbrev pub head_line : List ℕ

@@ -14,3 +14,6 @@ pub mod Tallies
 pub mod Tops
 pub mod Pages
 pub mod PageChoices
+pub mod Diffs
+pub mod Heavies
+pub mod SlowlyTaken

@@ -26,10 +26,10 @@ use std::alloc::{AllocError, Global};
 
 /// The stacks of the wanted threads.
 #[derive(Drop)]
-struct Folding<'t> {
-    stacks: Stacks<'t>,
-    wanted: &'t Wanted,
-    is_found: bool,
+pub(crate) struct Folding<'t> {
+    pub stacks: Stacks<'t>,
+    pub wanted: &'t Wanted,
+    pub is_found: bool,
 }
 
 impl<'t> Folding<'t> {

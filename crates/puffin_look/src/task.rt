@@ -2,7 +2,7 @@
 
 ghost use Rattle.std.specs.Prelude.{◌≡◌, ◌^◌, ◌<◌, length, Some, option_map, map, IfSome};
 ghost use Rattle.std.specs.String.{string_bytes};
-ghost use Rattle.puffin_look.specs.Arguments.{number_in, list_in, frame_in, detailed_in, request_in, wish_of, request_of, behind_dot, from_to, range_in, frames_in, order_in};
+ghost use Rattle.puffin_look.specs.Arguments.{number_in, list_in, threaded_in, detailed_in, request_in, wish_of, request_of, behind_dot, from_to, range_in, frames_in, order_in};
 
 use crate::top::By;
 use crate::wanted::Indices;
@@ -25,9 +25,16 @@ pub enum View<'w> {
     Folded(Option<&'w str>),
     /// The scopes by name, of all threads or of those that this word names.
     Top(Option<&'w str>),
+    /// The scopes by name beside those of the file at this path, of all threads or of those that this word names.
+    Diff(&'w str, Option<&'w str>),
+    /// What takes the most time in so many of the slowest frames.
+    SlowFrames(usize),
     /// A page, which is written at this path.
     Page(&'w str),
 }
+
+/// How many frames are shown by default.
+const SLOW_FRAMES: usize = 5;
 
 /// Parses a decimal number without a sign, below `2^64`.
 fn number(word: &str) -> Option<u64>
@@ -88,6 +95,7 @@ fn list_of<'w>(word: &str) -> Option<View<'w>>
         "trace" => Some(View::Trace),
         "folded" => Some(View::Folded(None)),
         "top" => Some(View::Top(None)),
+        "slowest" => Some(View::SlowFrames(SLOW_FRAMES)),
         _ => None,
     }
 }
@@ -100,20 +108,22 @@ fn detailed_of<'w>(word: &str, more: &'w str) -> Option<View<'w>>
         "frames" => frames_of(more),
         "folded" => Some(View::Folded(Some(more))),
         "top" => Some(View::Top(Some(more))),
+        "slowest" => Some(View::SlowFrames(number(more)? as usize)),
         "view" => Some(View::Page(more)),
-        word => frame_of(word, more, None),
+        word => threaded_of(word, more, None),
     }
 }
 
-/// Parses a word that is followed by the path, an index and perhaps a thread.
-fn frame_of<'w>(word: &str, index: &str, thread: Option<&'w str>) -> Option<View<'w>>
+/// Parses a word that is followed by the path, an index or another path, and perhaps a thread.
+fn threaded_of<'w>(word: &str, more: &'w str, thread: Option<&'w str>) -> Option<View<'w>>
     ensures { option_map wish_of result
-        ≡ frame_in word.now index.now (option_map (λ t. t.now) thread.entry) }
+        ≡ threaded_in word.now more.now (option_map (λ t. t.now) thread.entry) }
 {
-    if word != "frame" {
-        return None;
+    match word {
+        "frame" => Some(View::Frame(number(more)?, thread)),
+        "diff" => Some(View::Diff(more, thread)),
+        _ => None,
     }
-    Some(View::Frame(number(index)?, thread))
 }
 
 /// Parses the program's arguments: what is shown, and the path of a file. Returns `None` if they are anything else.
@@ -123,8 +133,8 @@ pub fn read_words(words: &[String]) -> Option<(View<'_>, &str)>
     match words {
         [word, path] => Some((list_of(word.as_str())?, path.as_str())),
         [word, path, more] => Some((detailed_of(word.as_str(), more.as_str())?, path.as_str())),
-        [word, path, index, thread] => Some((
-            frame_of(word.as_str(), index.as_str(), Some(thread.as_str()))?,
+        [word, path, more, thread] => Some((
+            threaded_of(word.as_str(), more.as_str(), Some(thread.as_str()))?,
             path.as_str(),
         )),
         _ => None,
@@ -154,13 +164,31 @@ pub struct Options {
     pub limit: Option<usize>,
     /// Whether texts are kept apart.
     pub texts: bool,
+    /// The percentage by which times may grow.
+    pub fail_above: Option<u64>,
 }
 
 impl Options {
-    /// Returns whether one of them is only an option of `top`.
-    pub fn is_of_top(self) -> bool {
-        self.order.is_some() || self.limit.is_some() || self.texts
+    /// Returns whether a view takes all of them that are there.
+    pub fn are_taken_by(self, view: View<'_>) -> bool {
+        let (has_frames, has_limit, is_of_top, is_of_diff) = match view {
+            View::Top(_) => (true, true, true, false),
+            View::Diff(..) => (true, true, false, true),
+            View::Trace | View::Folded(_) | View::SlowFrames(_) | View::Page(_) => (
+                true, false, false, false,
+            ),
+            _ => (false, false, false, false),
+        };
+        (has_frames || self.frames.is_none())
+            && (has_limit || self.limit.is_none())
+            && (is_of_top || self.order.is_none() && !self.texts)
+            && (is_of_diff || self.fail_above.is_none())
     }
+}
+
+/// Parses a percentage, such as `10%`.
+fn percentage(word: &str) -> Option<u64> {
+    number(word.strip_suffix('%')?)
 }
 
 /// Returns the place of the first such word, if that is behind the path.
@@ -211,6 +239,10 @@ pub fn take_options(words: &mut Vec<String>) -> Option<Options> {
         Some(word) => Some(number(word.as_str())? as usize),
         None => None,
     };
+    let fail_above = match take_value(words, "--fail-above") {
+        Some(word) => Some(percentage(word.as_str())?),
+        None => None,
+    };
     let texts = take_flag(words, "--texts");
     if words
         .iter()
@@ -224,5 +256,6 @@ pub fn take_options(words: &mut Vec<String>) -> Option<Options> {
         order,
         limit,
         texts,
+        fail_above,
     })
 }

@@ -127,7 +127,7 @@ fn rows_of(alloc: Global, tallies: &Tallies) -> Result<Vec<TopRow>, AllocError>
 }
 
 /// Returns the duration of a range.
-fn length_of(range_ns: (NanoSecond, NanoSecond)) -> u64
+pub(crate) fn length_of(range_ns: (NanoSecond, NanoSecond)) -> u64
     ensures { result ≡ length_of range_ns }
 {
     range_ns.1.abs_diff(range_ns.0)

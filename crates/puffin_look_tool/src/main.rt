@@ -8,13 +8,14 @@ ghost use Rattle.puffin_data.specs.Device.Counting.{failed_calls, failed_reads};
 mod page;
 mod pages;
 mod skimmed;
+mod tops;
 
 use crate::skimmed::Skimmed;
 use puffin_data::data::{Buffered, Counted};
 use puffin_data::{FileError, FrameIndex};
 use puffin_look::{
-    By, Indices, Options, Overview, View, Wanted, print_folded, print_frame, print_frames,
-    print_slowest, print_threads, print_top, print_trace, read_overview, read_top, read_words,
+    Indices, Options, Overview, View, Wanted, print_folded, print_frame, print_frames,
+    print_slow_frames, print_slowest, print_threads, print_trace, read_overview, read_words,
     take_options, threads_named,
 };
 use puffin_threads::thread_profiler::ThreadInfo;
@@ -37,10 +38,13 @@ const HELP: &str = "puffin-look shows what is in a file of frames.
   puffin-look folded FILE [THREAD]       folded stacks, for flamegraph.pl
   puffin-look top FILE [THREAD]          its scopes by name, those that take the most time first
     --by own|total|calls|max             the greatest of this first
-    --limit N                            the first N rows
     --texts                              a row for each text of a name
+  puffin-look slowest FILE [N]           the N (5) slowest frames, each with the path of scopes that takes the most time
+  puffin-look diff OLD NEW [THREAD]      the scopes of two files by name, those that changed the most first
+    --fail-above N%                      status 3 if own time in each frame grew by more
+    --limit N                            of top and diff: the first N rows
   puffin-look view FILE PAGE             a page for a browser: the slowest frames and the last ones, as flame charts
-    --frames A..B                        of trace, folded, top and view: these frames alone
+    --frames A..B                        of trace, folded, top, slowest, diff and view: these alone
   puffin-look --help, --version          this text; the version
 
 A..B are the frames with indices from A on and below B. THREAD is START:NAME as `threads` lists it, or the name of all threads
@@ -51,10 +55,13 @@ const VERSION: &str = "puffin-look 0.20.0";
 
 /// What is told of words that are no request.
 const USAGE: &str =
-    "usage: puffin-look threads FILE | frames FILE [N|A..B] | frame FILE INDEX [THREAD] | trace FILE [--frames A..B] | folded FILE [THREAD] [--frames A..B] | top FILE [THREAD] [--by own|total|calls|max] [--limit N] [--texts] [--frames A..B] | view FILE PAGE [--frames A..B]";
+    "usage: puffin-look threads FILE | frames FILE [N|A..B] | frame FILE INDEX [THREAD] | trace FILE [--frames A..B] | folded FILE [THREAD] [--frames A..B] | top FILE [THREAD] [--by own|total|calls|max] [--limit N] [--texts] [--frames A..B] | slowest FILE [N] [--frames A..B] | diff OLD NEW [THREAD] [--limit N] [--fail-above N%] [--frames A..B] | view FILE PAGE [--frames A..B]";
 
 /// The status of a tool that writes to a pipe that nobody reads any more, as a shell tells it.
 const UNREAD: u8 = 141;
+
+/// The status if a time has grown by more than it may.
+const GROWN: u8 = 3;
 
 /// The name of standard output in faults.
 const OUTPUT: &str = "standard output";
@@ -72,6 +79,8 @@ enum Cause<'w> {
     NoThread(&'w str),
     /// The frame with this index has no scopes of the thread that this word names.
     NotInFrame(FrameIndex, &'w str),
+    /// The own time of a name in each frame has grown by more than so many percent.
+    Grown(u64),
     /// The file can't be read a second time.
     ReadOnce,
     /// The file is one of frames, where a page is to be written.
@@ -274,8 +283,13 @@ fn draw<'w>(
         View::Folded(_) => {
             print_folded(rt.alloc(), &overview, &mut source, &mut out, &wanted).map(|_| true)
         }
+        View::SlowFrames(limit) => {
+            print_slow_frames(rt.alloc(), &overview, &mut source, &mut out, &wanted, limit).map(
+                |()| true,
+            )
+        }
         View::Top(_) => {
-            rank(rt, &overview, &mut source, &mut out, &wanted, options).map(|()| true)
+            tops::print(rt, &overview, &mut source, &mut out, &wanted, options).map(|()| true)
         }
         _ => print_trace(rt.alloc(), &overview, &mut source, &mut out, wanted.frames).map(
             |()| true,
@@ -287,26 +301,6 @@ fn draw<'w>(
     }
 }
 
-/// Prints the scopes of a file by name.
-fn rank(
-    rt: &HostRuntime,
-    overview: &Overview,
-    source: &mut Reader<'_>,
-    out: &mut Counted<Stdout>,
-    wanted: &Wanted,
-    options: Options,
-) -> Result<(), FileError>
-    requires source { failed_reads source.old < 2 ^ 64 - 1 }
-    requires out { failed_calls out.old < 2 ^ 64 - 1 }
-{
-    let mut top = read_top(rt.alloc(), overview, source, wanted, options.texts)?;
-    top.sort_by(
-        options.order.unwrap_or(By::Own),
-        options.limit.unwrap_or(usize::MAX),
-    )?;
-    print_top(rt.alloc(), out, &top)
-}
-
 /// Prints what was asked for of the file at a path.
 fn show<'w>(
     rt: &HostRuntime,
@@ -314,22 +308,14 @@ fn show<'w>(
     options: Options,
     path: &'w str,
 ) -> Result<(), LookFault<'w>> {
+    if let View::Diff(new, word) = view {
+        return tops::diff(rt, path, new, word, options);
+    }
     let file = open(rt, path)?;
     match view {
         View::Threads | View::Frames(_) | View::Slowest(_) => list(rt, view, path, &file),
         View::Page(page) => pages::view(rt, path, &file, page, options.frames),
-        View::Frame(..) | View::Trace | View::Folded(_) | View::Top(_) => {
-            draw(rt, view, options, path, &file)
-        }
-    }
-}
-
-/// Returns whether a view takes these options.
-fn takes(view: View<'_>, options: Options) -> bool {
-    match view {
-        View::Top(_) => true,
-        View::Trace | View::Folded(_) | View::Page(_) => !options.is_of_top(),
-        _ => !options.is_of_top() && options.frames.is_none(),
+        _ => draw(rt, view, options, path, &file),
     }
 }
 
@@ -347,7 +333,7 @@ fn run<'w>(
         }
     }
     match (read_words(words), options) {
-        (Some((view, path)), Some(options)) if takes(view, options) => {
+        (Some((view, path)), Some(options)) if options.are_taken_by(view) => {
             show(rt, view, options, path)
         }
         _ => Err(LookFault::Words),
@@ -377,6 +363,11 @@ fn print_fault(rt: &HostRuntime, name: &str, cause: &Cause<'_>) -> io::Result<()
         Cause::NotInFrame(index, word) => {
             eprintln!(rt; "puffin-look: {name}: no frame {index} with the thread {word}")
         }
+        Cause::Grown(percent) => {
+            eprintln!(rt;
+                "puffin-look: {name}: own time in each frame grew by more than {percent}%"
+            )
+        }
         Cause::ReadOnce => {
             eprintln!(rt; "puffin-look: {name}: can't be read twice; write it to a file first")
         }
@@ -391,6 +382,7 @@ fn finish(rt: &HostRuntime, ended: &Result<(), LookFault<'_>>) -> u8 {
         Err(LookFault::Words) => (eprintln!(rt; "{USAGE}"), 2),
         Err(LookFault::Memory) => (eprintln!(rt; "puffin-look: Memory"), 1),
         Err(LookFault::Unread) => (Ok(()), UNREAD),
+        Err(LookFault::At(name, cause @ Cause::Grown(_))) => (print_fault(rt, name, cause), GROWN),
         Err(LookFault::At(name, cause)) => (print_fault(rt, name, cause), 1),
     };
     // (there is nobody to tell that standard error failed)

@@ -50,10 +50,10 @@ module _ (form : Form) where
   opening_start : (latest : ℤ) (opened : List Opened) → StartedBy form latest opened → (more : List ℕ) → start_in (opening_bytes form opened ++ more) ≡ option_or (first_open (opening_word opened)) (start_in more)
   opening_start latest [] h more = refl
   opening_start latest (o ∷ outer) h more =
-      let begin = begin_bytes form o.id o.start o.text (2 ^ 64 - 1) in
+      let begin = begin_bytes form o.id o.start o.text o.size in
       ap start_in (regroup_opened (opening_bytes form outer) (spelling form o.before) begin more)
-      ∙ opening_start latest outer h.3 (spelling form o.before ++ (begin ++ more))
-      ∙ ap (option_or (first_open (opening_word outer))) (forest_start o.before h.0.before (begin ++ more) ∙ ap (option_or (first_open (tour o.before))) (start_there form o.id (2 ^ 64 - 1) o.start o.text more _ h.0.start refl))
+      ∙ opening_start latest outer h.4 (spelling form o.before ++ (begin ++ more))
+      ∙ ap (option_or (first_open (opening_word outer))) (forest_start o.before h.0.before (begin ++ more) ∙ ap (option_or (first_open (tour o.before))) (start_there form o.id o.size o.start o.text more _ h.0.start refl))
       ∙ sym (some_or (first_open (opening_word outer)) (first_open (tour o.before)) o.start (start_in more))
       ∙ ap (λ (x : Option ℤ). option_or x (start_in more)) (sym (first_open-append (opening_word outer) (tour o.before ++ (Open o.id o.text o.start ∷ [])) ∙ ap (option_or (first_open (opening_word outer))) (first_open-append (tour o.before) (Open o.id o.text o.start ∷ []))))
 

@@ -1,6 +1,7 @@
 pub mod lemmas
 mod RecordedScopes
 mod FirstStarts
+mod Readiness
 mod ThreadStates
 mod Inserting
 mod InsertingAll

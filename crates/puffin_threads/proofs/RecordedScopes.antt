@@ -6,6 +6,7 @@ use Rattle.std.proofs.Props.{props}
 use Rattle.std.proofs.lemmas.Int.{ints}
 use Rattle.std.proofs.lemmas.List.{length-drop}
 use Rattle.std.proofs.lemmas.List.Sums.{fold-append}
+use Rattle.byteorder.specs.Endian.{little_number}
 use Rattle.puffin_data.specs.declared.data.form.Form.{Form}
 use Rattle.puffin_data.specs.Text.Lengths.{stored_limit}
 use Rattle.puffin_data.specs.Forest.{Forest, IsForest, IsSpan, Span, empty, node}
@@ -15,9 +16,9 @@ use Rattle.puffin_data.specs.Forest.Measures.{scope_count}
 use Rattle.puffin_data.specs.Forest.Words.{word_size, open_after, num_begun}
 use Rattle.puffin_data.specs.Forest.Open.{Opened, IsOpened, open_spelling, open_word, opening_word, size_place, ended_bytes, with_ended}
 use Rattle.puffin_data.proofs.lemmas.WordMeasures.{num_begun-append, num_begun-tour}
-use Rattle.puffin_data.proofs.lemmas.Opening.{begins, begins-word, finishes, finishes-word, ended-written, open_size, size_within}
+use Rattle.puffin_data.proofs.lemmas.Opening.{begins, begins-word, finishes, finishes-word, ended-written, open_size, size_within, size_there}
 use Rattle.puffin_threads.specs.Thread.Events.{events_in}
-use Rattle.puffin_threads.specs.inner.StoredThread.{scopes_closed, scopes_with, scopes_in, size_places, StartedBy, HoldsScopes}
+use Rattle.puffin_threads.specs.inner.StoredThread.{scopes_closed, scopes_with, scopes_in, size_places, innermost_place, StartedBy, HoldsScopes}
 use Rattle.puffin_threads.specs.inner.FirstStart.{first_open, start_in}
 use Rattle.puffin_threads.specs.Thread.Calls.{opened_after, open_offsets, num_ended}
 use Rattle.puffin_threads.proofs.FirstStarts.{open_start}
@@ -51,8 +52,8 @@ module _ (form : Form) where
 
   pub Holds-prop : (bytes : List ℕ) (latest : ℤ) → IsProp (HoldsScopes form bytes latest)
   Holds-prop bytes latest =
-      let opened = (scopes_in (events_in form bytes)).0 in
-      let closed = (scopes_in (events_in form bytes)).1 in
+      let opened = (scopes_in form (events_in form bytes)).0 in
+      let closed = (scopes_in form (events_in form bytes)).1 in
       Prim.hlevel (props, StartedBy-prop latest opened, IsForest-prop closed)
 
   pub held : (bytes : List ℕ) (latest : ℤ) → ∥ HoldsScopes form bytes latest ∥₁ → HoldsScopes form bytes latest
@@ -60,19 +61,19 @@ module _ (form : Form) where
 
   -- the same with the scopes named
   record Parts (bytes : List ℕ) (latest : ℤ) (opened : List Opened) (closed : Forest) : Type 0 where
-    is_opened : (scopes_in (events_in form bytes)).0 ≡ opened
-    is_closed : (scopes_in (events_in form bytes)).1 ≡ closed
+    is_opened : (scopes_in form (events_in form bytes)).0 ≡ opened
+    is_closed : (scopes_in form (events_in form bytes)).1 ≡ closed
     whole : bytes ≡ open_spelling form opened closed
     started : StartedBy form latest opened
     written : IsForest form closed
     places : open_offsets form (events_in form bytes) ≡ size_places form opened
 
-  parts : (bytes : List ℕ) (latest : ℤ) → HoldsScopes form bytes latest → Parts bytes latest (scopes_in (events_in form bytes)).0 (scopes_in (events_in form bytes)).1
+  parts : (bytes : List ℕ) (latest : ℤ) → HoldsScopes form bytes latest → Parts bytes latest (scopes_in form (events_in form bytes)).0 (scopes_in form (events_in form bytes)).1
   parts bytes latest h = record { is_opened = refl; is_closed = refl; whole = h.whole; started = h.opened; written = h.closed; places = h.places }
 
   holds : (bytes : List ℕ) (latest : ℤ) (opened : List Opened) (closed : Forest) → Parts bytes latest opened closed → HoldsScopes form bytes latest
   holds bytes latest opened closed p = record {
-    whole = p.whole ∙ ap (λ (os : List Opened). open_spelling form os closed) (sym p.is_opened) ∙ ap (λ (f : Forest). open_spelling form (scopes_in (events_in form bytes)).0 f) (sym p.is_closed);
+    whole = p.whole ∙ ap (λ (os : List Opened). open_spelling form os closed) (sym p.is_opened) ∙ ap (λ (f : Forest). open_spelling form (scopes_in form (events_in form bytes)).0 f) (sym p.is_closed);
     opened = subst (λ (os : List Opened). StartedBy form latest os) (sym p.is_opened) p.started;
     closed = subst (λ (f : Forest). IsForest form f) (sym p.is_closed) p.written;
     places = p.places ∙ ap (size_places form) (sym p.is_opened);
@@ -99,14 +100,14 @@ module _ (form : Form) where
 
   pub begun_held : (bytes : List ℕ) (latest : ℤ) → HoldsScopes form bytes latest → num_begun (events_in form bytes) ≡ num_ended (events_in form bytes) + length (open_offsets form (events_in form bytes))
   begun_held bytes latest h =
-      let opened = (scopes_in (events_in form bytes)).0 in
+      let opened = (scopes_in form (events_in form bytes)).0 in
       omega (arith, begun_parts bytes latest _ _ (parts bytes latest h), ap length h.places, length-size_places opened)
 
   -- one event more
 
-  scopes_more : (w : List Event) (e : Event) → scopes_in (w ++ (e ∷ [])) ≡ scopes_with (scopes_in w) e
+  scopes_more : (w : List Event) (e : Event) → scopes_in form (w ++ (e ∷ [])) ≡ scopes_with form (scopes_in form w) e
   unfolding scopes_in
-  scopes_more w e = fold-append scopes_with ([], empty) w (e ∷ [])
+  scopes_more w e = fold-append (scopes_with form) ([], empty) w (e ∷ [])
 
   offsets_sum : (n : ℕ) (places : List ℕ) (w : List Event) → (fold (opened_after form) (n, places) w).0 ≡ n + word_size form w
   offsets_sum n places [] = omega arith
@@ -123,7 +124,7 @@ module _ (form : Form) where
 
   later : (a b : ℤ) (opened : List Opened) → a ≤ℤ b → StartedBy form a opened → StartedBy form b opened
   later a b [] le h = tt
-  later a b (o ∷ outer) le h = (h.0, h.1, omega (arith, ints, h.2), later a b outer le h.3)
+  later a b (o ∷ outer) le h = (h.0, h.1, omega (arith, ints, h.2), h.3, later a b outer le h.4)
 
   offsets_count : (n : ℕ) (places : List ℕ) (w : List Event) → length (fold (opened_after form) (n, places) w).1 ≡ open_after (length places) w
   offsets_count n places [] = refl
@@ -140,23 +141,24 @@ module _ (form : Form) where
     pub holds : HoldsScopes form next at
     pub word : events_in form next ≡ events_in form bytes ++ (e ∷ [])
 
-  begins_parts : (bytes next : List ℕ) (latest at : ℤ) (id : ℕ) (text : List ℕ) (opened : List Opened) (closed : Forest) → Parts bytes latest opened closed
+  begins_parts : (bytes next : List ℕ) (latest at : ℤ) (id : ℕ) (text : List ℕ) (around : ℕ) (opened : List Opened) (closed : Forest) → Parts bytes latest opened closed
       → latest ≤ℤ at → pos 0 ≤ℤ at → FitsSigned w64 at → 0 < id → id < 2 ^ 32 → length text ≤ stored_limit form → All (λ b. b < 256) text
-      → next ≡ bytes ++ begin_bytes form id at text (2 ^ 64 - 1) → Goes bytes next at (Open id text at)
-  begins_parts bytes next latest at id text opened closed p le low fits id_low id_high size small e =
-      let o : Opened = record { before = closed; id = id; start = at; text = text } in
-      let whole : next ≡ open_spelling form (o ∷ opened) empty = e ∙ ap (λ (x : List ℕ). x ++ begin_bytes form id at text (2 ^ 64 - 1)) p.whole ∙ begins form opened closed id at text in
+      → around ≡ innermost_place (open_offsets form (events_in form bytes)) → next ≡ bytes ++ begin_bytes form id at text around → Goes bytes next at (Open id text at)
+  begins_parts bytes next latest at id text around opened closed p le low fits id_low id_high size small first e =
+      let o : Opened = record { before = closed; id = id; start = at; text = text; size = around } in
+      let linked : around ≡ innermost_place (size_places form opened) = first ∙ ap innermost_place p.places in
+      let whole : next ≡ open_spelling form (o ∷ opened) empty = e ∙ ap (λ (x : List ℕ). x ++ begin_bytes form id at text around) p.whole ∙ begins form opened closed id at text around in
       let is : IsOpened form o = record { before = p.written; id_low = id_low; id_high = id_high; start = fits; text_size = size; text_bytes = small } in
-      let started : StartedBy form at (o ∷ opened) = (is, low, omega (arith, ints), later latest at opened le p.started) in
+      let started : StartedBy form at (o ∷ opened) = (is, low, omega (arith, ints), linked, later latest at opened le p.started) in
       let before = word_is bytes latest opened closed p in
-      let word : events_in form next ≡ events_in form bytes ++ (Open id text at ∷ []) = ap (events_in form) whole ∙ events_open form at (o ∷ opened) empty started tt ∙ sym (begins-word opened closed id at text) ∙ ap (λ (w : List Event). w ++ (Open id text at ∷ [])) (sym before) in
-      let scopes = ap scopes_in word ∙ scopes_more (events_in form bytes) (Open id text at) in
+      let word : events_in form next ≡ events_in form bytes ++ (Open id text at ∷ []) = ap (events_in form) whole ∙ events_open form at (o ∷ opened) empty started tt ∙ sym (begins-word opened closed id at text around) ∙ ap (λ (w : List Event). w ++ (Open id text at ∷ [])) (sym before) in
+      let scopes = ap (scopes_in form) word ∙ scopes_more (events_in form bytes) (Open id text at) in
       let place : word_size form (events_in form bytes) + size_offset form text ≡ size_place form o opened = omega (arith, ap (word_size form) before, open_size form opened closed) in
       record {
         holds = holds next at (o ∷ opened) empty (record {
           is_opened = ap (λ (s : List Opened × Forest). s.0) scopes
-              ∙ ap (λ (f : Forest). record { before = f; id = id; start = at; text = text } ∷ (scopes_in (events_in form bytes)).0) p.is_closed
-              ∙ ap (λ (os : List Opened). o ∷ os) p.is_opened;
+              ∙ ap (λ (s : List Opened × Forest). record { before = s.1; id = id; start = at; text = text; size = innermost_place (size_places form s.0) } ∷ s.0) (λ i. (p.is_opened i, p.is_closed i))
+              ∙ ap (λ (n : ℕ). record { before = closed; id = id; start = at; text = text; size = n } ∷ opened) (sym linked);
           is_closed = ap (λ (s : List Opened × Forest). s.1) scopes;
           whole = whole;
           started = started;
@@ -166,10 +168,10 @@ module _ (form : Form) where
         word = word;
       }
 
-  pub begins_held : (bytes next : List ℕ) (latest at : ℤ) (id : ℕ) (text : List ℕ) → HoldsScopes form bytes latest
+  pub begins_held : (bytes next : List ℕ) (latest at : ℤ) (id : ℕ) (text : List ℕ) (around : ℕ) → HoldsScopes form bytes latest
       → latest ≤ℤ at → pos 0 ≤ℤ at → FitsSigned w64 at → 0 < id → id < 2 ^ 32 → length text ≤ stored_limit form → All (λ b. b < 256) text
-      → next ≡ bytes ++ begin_bytes form id at text (2 ^ 64 - 1) → Goes bytes next at (Open id text at)
-  begins_held bytes next latest at id text h = begins_parts bytes next latest at id text _ _ (parts bytes latest h)
+      → around ≡ innermost_place (open_offsets form (events_in form bytes)) → next ≡ bytes ++ begin_bytes form id at text around → Goes bytes next at (Open id text at)
+  begins_held bytes next latest at id text around h = begins_parts bytes next latest at id text around _ _ (parts bytes latest h)
 
   -- a scope's end
 
@@ -179,13 +181,13 @@ module _ (form : Form) where
   ends_parts bytes next latest at place rest (o ∷ outer) closed p le fits is e =
       let same : place ≡ size_place form o outer = cc in
       let whole : next ≡ open_spelling form outer (with_ended o closed at) = e ∙ ap (λ (n : ℕ). ended_bytes bytes n at) same ∙ ap (λ (bs : List ℕ). ended_bytes bs (size_place form o outer) at) p.whole ∙ finishes form o outer closed at in
-      let started : StartedBy form at outer = later latest at outer le p.started.3 in
+      let started : StartedBy form at outer = later latest at outer le p.started.4 in
       let low = p.started.1 in
       let until = p.started.2 in
       let written : IsForest form (with_ended o closed at) = ended-written form o closed at p.started.0 p.written fits (omega (arith, ints)) (omega (arith, ints)) in
       let before = word_is bytes latest (o ∷ outer) closed p in
       let word : events_in form next ≡ events_in form bytes ++ (Close at ∷ []) = ap (events_in form) whole ∙ events_open form at outer (with_ended o closed at) started written ∙ sym (finishes-word o outer closed at) ∙ ap (λ (w : List Event). w ++ (Close at ∷ [])) (sym before) in
-      let scopes = ap scopes_in word ∙ scopes_more (events_in form bytes) (Close at) ∙ ap (λ (os : List Opened). scopes_closed os (scopes_in (events_in form bytes)).1 at) p.is_opened ∙ ap (λ (f : Forest). scopes_closed (o ∷ outer) f at) p.is_closed in
+      let scopes = ap (scopes_in form) word ∙ scopes_more (events_in form bytes) (Close at) ∙ ap (λ (os : List Opened). scopes_closed os (scopes_in form (events_in form bytes)).1 at) p.is_opened ∙ ap (λ (f : Forest). scopes_closed (o ∷ outer) f at) p.is_closed in
       record {
         holds = holds next at outer (with_ended o closed at) (record {
           is_opened = ap (λ (s : List Opened × Forest). s.0) scopes;
@@ -211,18 +213,38 @@ module _ (form : Form) where
   pub place_held : (bytes : List ℕ) (latest : ℤ) (place : ℕ) (rest : List ℕ) → HoldsScopes form bytes latest → open_offsets form (events_in form bytes) ≡ place ∷ rest → place + 8 ≤ length bytes
   place_held bytes latest place rest h is = place_parts bytes latest place rest _ _ (parts bytes latest h) (sym h.places ∙ is)
 
+  -- the offset that stands in the place of an open scope's size lies before it
+  around_before : (o : Opened) (outer : List Opened) → innermost_place (size_places form outer) ≤ size_place form o outer
+  around_before o [] = omega arith
+  around_before o (around ∷ outer) = omega (arith, size_within form around outer o.before)
+
+  size_parts : (bytes : List ℕ) (latest : ℤ) (place : ℕ) (rest : List ℕ) (opened : List Opened) (closed : Forest) → Parts bytes latest opened closed → place < 2 ^ 64 → size_places form opened ≡ place ∷ rest → little_number 8 (drop place bytes) ≡ innermost_place rest
+  size_parts bytes latest place rest [] closed p fits is = cc
+  size_parts bytes latest place rest (o ∷ outer) closed p fits is =
+      let same : place ≡ size_place form o outer = cc in
+      let others : size_places form outer ≡ rest = cc in
+      let linked : o.size ≡ innermost_place (size_places form outer) = p.started.3 in
+      ap (λ (n : ℕ). little_number 8 (drop n bytes)) same
+      ∙ ap (λ (bs : List ℕ). little_number 8 (drop (size_place form o outer) bs)) p.whole
+      ∙ size_there form o outer closed (omega (arith, fits, same, linked, around_before o outer))
+      ∙ linked ∙ ap innermost_place others
+
+  -- in the place of the innermost scope's size stands the offset of the next one's
+  pub around_held : (bytes : List ℕ) (latest : ℤ) (place : ℕ) (rest : List ℕ) → HoldsScopes form bytes latest → place < 2 ^ 64 → open_offsets form (events_in form bytes) ≡ place ∷ rest → little_number 8 (drop place bytes) ≡ innermost_place rest
+  around_held bytes latest place rest h fits is = size_parts bytes latest place rest _ _ (parts bytes latest h) fits (sym h.places ∙ is)
+
   -- the counts of what is held
 
   pub size_held : (bytes : List ℕ) (latest : ℤ) → HoldsScopes form bytes latest → length bytes ≡ word_size form (events_in form bytes)
   size_held bytes latest h =
-      let opened = (scopes_in (events_in form bytes)).0 in
-      let closed = (scopes_in (events_in form bytes)).1 in
+      let opened = (scopes_in form (events_in form bytes)).0 in
+      let closed = (scopes_in form (events_in form bytes)).1 in
       ap length h.whole ∙ open_size form opened closed ∙ ap (word_size form) (sym (word_is bytes latest opened closed (parts bytes latest h)))
 
   pub start_held : (bytes : List ℕ) (latest : ℤ) → HoldsScopes form bytes latest → start_in bytes ≡ first_open (events_in form bytes)
   start_held bytes latest h =
-      let opened = (scopes_in (events_in form bytes)).0 in
-      let closed = (scopes_in (events_in form bytes)).1 in
+      let opened = (scopes_in form (events_in form bytes)).0 in
+      let closed = (scopes_in form (events_in form bytes)).1 in
       ap start_in h.whole ∙ open_start form latest opened closed h.opened h.closed ∙ ap first_open (sym (word_is bytes latest opened closed (parts bytes latest h)))
 
   -- without an open scope the bytes spell a forest whose tour is the word
@@ -235,10 +257,10 @@ module _ (form : Form) where
   closed_parts bytes latest [] closed p none = record { whole = p.whole; written = p.written; word = word_is bytes latest [] closed p }
   closed_parts bytes latest (o ∷ outer) closed p none = absurd (omega arith)
 
-  pub closed_held : (bytes : List ℕ) (latest : ℤ) → HoldsScopes form bytes latest → open_after 0 (events_in form bytes) ≡ 0 → Closes bytes (scopes_in (events_in form bytes)).1
+  pub closed_held : (bytes : List ℕ) (latest : ℤ) → HoldsScopes form bytes latest → open_after 0 (events_in form bytes) ≡ 0 → Closes bytes (scopes_in form (events_in form bytes)).1
   closed_held bytes latest h none =
-      let opened = (scopes_in (events_in form bytes)).0 in
-      closed_parts bytes latest opened (scopes_in (events_in form bytes)).1 (parts bytes latest h) (omega (arith, length-open_offsets (events_in form bytes), ap length h.places, length-size_places opened))
+      let opened = (scopes_in form (events_in form bytes)).0 in
+      closed_parts bytes latest opened (scopes_in form (events_in form bytes)).1 (parts bytes latest h) (omega (arith, length-open_offsets (events_in form bytes), ap length h.places, length-size_places opened))
 
   -- a stream without bytes
   pub nothing_held : (bytes : List ℕ) (latest : ℤ) → bytes ≡ [] → HoldsScopes form bytes latest
@@ -246,8 +268,8 @@ module _ (form : Form) where
   nothing_held bytes latest e =
       let word : events_in form bytes ≡ [] = ap (events_in form) e ∙ events_of_none form in
       holds bytes latest [] empty (record {
-        is_opened = ap (λ (w : List Event). (scopes_in w).0) word;
-        is_closed = ap (λ (w : List Event). (scopes_in w).1) word;
+        is_opened = ap (λ (w : List Event). (scopes_in form w).0) word;
+        is_closed = ap (λ (w : List Event). (scopes_in form w).1) word;
         whole = e;
         started = tt;
         written = tt;

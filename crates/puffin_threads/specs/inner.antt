@@ -2,3 +2,4 @@
 pub mod StoredThread
 pub mod HeldCollection
 pub mod FirstStart
+pub mod Supplied

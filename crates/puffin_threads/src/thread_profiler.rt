@@ -5,6 +5,7 @@ mod clock;
 pub mod laws;
 mod profiler;
 mod reporter;
+mod supply;
 mod thread_info;
 mod thread_state;
 

@@ -36,8 +36,8 @@ fn one_scope_is_written_within_the_room(rt: HostRuntime) {
     let mut stream = Stream::new(rt.alloc());
     let begin = stream.form().begin_limit("data");
     stream.reserve(begin + END_SIZE).expect(&rt, "memory");
-    let offset = stream.begin_within(100, id(1).expect(&rt, "an id"), "data");
-    stream.end_within(offset, 300);
+    let offset = stream.begin_within(100, id(1).expect(&rt, "an id"), "data", 7);
+    equal(&rt, stream.end_within(offset, 300), 7);
     equal(&rt, offset, 18);
     equal(&rt, stream.bytes(), ONE_SCOPE.as_slice());
 }

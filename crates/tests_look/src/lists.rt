@@ -2,9 +2,9 @@ use crate::equal::equal;
 use puffin_data::FileError;
 use puffin_data::data::Counted;
 use puffin_look::{
-    By, Indices, Options, Overview, Top, View, Wanted, order_of, print_folded, print_frame,
-    print_frames, print_slowest, print_threads, print_top, print_trace, range, read_overview,
-    read_top, read_words, take_options, threads_named,
+    By, Indices, Options, Overview, Top, View, Wanted, compare, order_of, print_diff, print_folded,
+    print_frame, print_frames, print_slow_frames, print_slowest, print_threads, print_top,
+    print_trace, range, read_overview, read_top, read_words, take_options, threads_named,
 };
 use puffin_threads::thread_profiler::ThreadInfo;
 use std::alloc::AllocGlobal;
@@ -52,6 +52,11 @@ const TEXTS: &[u8] =
     b"         calls       total         own       least      median         p95         p99    greatest   share  name\n\
 \x20            1      200 ns      200 ns      200 ns      200 ns      200 ns      200 ns      200 ns   99.5%  #1 (data)\n\
 \x20            1        1 ns        1 ns        1 ns        1 ns        1 ns        1 ns        1 ns    0.4%  #1 (a)\n";
+
+/// What [`FILE`] has in each frame, beside its first frame.
+const CHANGES: &[u8] =
+    b"     old_own     new_own   own_change   own_growth   old_total   new_total total_change total_growth     old_calls     new_calls  name\n\
+\x20     200 ns      100 ns      -100 ns       -50.0%      200 ns      100 ns      -100 ns       -50.0%          1.00          1.00  #1\n";
 
 /// Where the line of the second frame begins.
 const SECOND_LINE: usize = 54;
@@ -160,6 +165,25 @@ fn table_of<R: AllocGlobal + Abort>(rt: &R, top: &Top) -> Vec<u8> {
     let mut out = Counted::new(Vec::new(rt.alloc()));
     print_top(rt.alloc(), &mut out, top).expect(rt, "a table");
     out.into_inner()
+}
+
+/// Returns the scopes of the first frame of [`FILE`].
+fn first_top<R: AllocGlobal + Abort>(rt: &R) -> Top {
+    top_of(rt, &FILE[..ONE_FRAME], false).expect(rt, "a frame")
+}
+
+/// Shows what takes the most time in the slowest frames of a file.
+fn slow_frames_of<R: AllocGlobal + Abort>(rt: &R, file: &[u8], limit: usize) -> Printed {
+    let mut out = Counted::new(Vec::new(rt.alloc()));
+    let answer = print_slow_frames(
+        rt.alloc(),
+        &overview_of(rt, file),
+        &mut Counted::new(file),
+        &mut out,
+        &wanted_of(rt, None, None),
+        limit,
+    );
+    (answer, out.into_inner())
 }
 
 /// Returns the info of a thread named `main`.
@@ -272,10 +296,52 @@ fn a_name_has_the_times_of_its_scopes(rt: HostRuntime) {
 }
 
 #[test]
+fn a_slow_frame_has_its_heaviest_path(rt: HostRuntime) {
+    let lines = b"frame 0: 200 ns, scopes 1\n      200 ns  100.0%  #1\n";
+    prints(&rt, &slow_frames_of(&rt, &FILE, 1), Ok(()), lines);
+    let cut = slow_frames_of(&rt, &FILE[..ONE_FRAME + 20], 1);
+    prints(&rt, &cut, Err(FileError::Truncated), b"");
+}
+
+#[test]
 fn texts_are_kept_apart(rt: HostRuntime) {
     let mut top = top_of(&rt, &FILE, true).expect(&rt, "a file");
     top.sort_by(By::Own, 9).expect(&rt, "memory");
     equal(&rt, table_of(&rt, &top).as_slice(), TEXTS);
+}
+
+#[test]
+fn a_name_has_what_it_takes_in_each_frame_of_two_files(rt: HostRuntime) {
+    let new = top_of(&rt, &FILE, false).expect(&rt, "a file");
+    let mut diff = compare(rt.alloc(), &first_top(&rt), &new).expect(&rt, "memory");
+    diff.sort(9).expect(&rt, "memory");
+    let mut out = Counted::new(Vec::new(rt.alloc()));
+    print_diff(rt.alloc(), &mut out, &diff).expect(&rt, "a table");
+    equal(&rt, out.into_inner().as_slice(), CHANGES);
+    equal(&rt, diff.grows_above(0), false);
+    let back = compare(rt.alloc(), &new, &first_top(&rt)).expect(&rt, "memory");
+    equal(
+        &rt,
+        (back.grows_above(99), back.grows_above(100)),
+        (true, false),
+    );
+}
+
+#[test]
+fn names_that_one_file_has_are_compared_with_nothing(rt: HostRuntime) {
+    let new = top_of(&rt, &FILE, true).expect(&rt, "a file");
+    let mut diff = compare(rt.alloc(), &first_top(&rt), &new).expect(&rt, "memory");
+    equal(&rt, diff.rows.len(), 3);
+    let owns = |place: usize| match diff.rows.get(place) {
+        Some(row) => (row.old.map(|part| part.own), row.new.map(|part| part.own)),
+        None => (None, None),
+    };
+    equal(&rt, owns(0), (Some(200), None));
+    equal(&rt, owns(1), (None, Some(100)));
+    equal(&rt, owns(2), (None, Some(0)));
+    equal(&rt, diff.grows_above(1_000_000), true);
+    diff.sort(1).expect(&rt, "memory");
+    equal(&rt, diff.rows.len(), 1);
 }
 
 #[test]
@@ -294,9 +360,11 @@ fn options_are_taken_from_the_words(rt: HostRuntime) -> Result<(), Fail> {
         order: Some(By::Greatest),
         limit: None,
         texts: false,
+        fail_above: None,
     };
     equal(&rt, take_options(&mut words), Some(options));
-    equal(&rt, options.is_of_top(), true);
+    equal(&rt, options.are_taken_by(View::Top(None)), true);
+    equal(&rt, options.are_taken_by(View::Trace), false);
     equal(&rt, words.len(), 2);
     equal(&rt, order_of("most"), None);
     equal(&rt, range("5..5"), None);

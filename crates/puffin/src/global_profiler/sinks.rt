@@ -1,5 +1,5 @@
 //! The sinks of a profiler.
-ghost use Rattle.std.specs.Prelude.{◌≡◌, ◌+◌, ◌-◌, ◌<◌, ◌⊎◌, ◌∷◌, [], ◌++◌, ◌^◌, length, slice_get, Some, IfOk, IfErr, IfSome, IfNone};
+ghost use Rattle.std.specs.Prelude.{◌≡◌, ◌+◌, ◌-◌, ◌<◌, ◌⊎◌, [], ◌^◌, length, slice_get, Some, IfOk, IfErr, IfSome, IfNone};
 ghost use Rattle.std.specs.Arc.{arc_value};
 ghost use Rattle.puffin.specs.Sinks.Handing.{HandsOn};
 ghost use Rattle.puffin.specs.Sinks.{PutsIn, TakesOut, HasNone};

@@ -1,6 +1,6 @@
 //! Guards that end their scope when they are dropped, and report after the outermost one.
 
-ghost use Rattle.std.specs.Prelude.{◌≡◌, Some, None, []};
+ghost use Rattle.std.specs.Prelude.{◌≡◌, []};
 
 use crate::Switch;
 use crate::light::place::Place;

@@ -1,5 +1,5 @@
 //! The frames that a program's leader takes, through a share of its own.
-ghost use Rattle.std.specs.Prelude.{◌≡◌, ◌≤◌, ◌<◌, ◌^◌};
+ghost use Rattle.std.specs.Prelude.{◌≡◌, ◌≤◌, ◌<◌};
 ghost use Rattle.puffin.specs.Taking.{CountsTaken, TookAll};
 
 use crate::global_profiler::{Emitted, Share, SharedProfiler};

@@ -9,9 +9,12 @@ use Rattle.std.specs.List.{All}
 use Rattle.std.proofs.lemmas.List.{take_all, length-take}
 use Rattle.std.proofs.lemmas.List.Elements.{All-take}
 use Rattle.std.proofs.lemmas.Str.{IsCharBoundary-start, IsCharBoundary-end, IsUtf8-take, utf8_valid_len-IsUtf8}
-use Rattle.puffin_data.specs.Text.Lengths.{text_limit}
+use Rattle.puffin_data.specs.Forest.Spelling.{head_size}
+use Rattle.puffin_data.specs.Text.Lengths.{text_limit, length_layout}
 use Rattle.puffin_data.specs.declared.data.form.Form.{Form}
+use Rattle.puffin_data.specs.declared.data.form.Form.TheVariants.{Short, Long}
 use Rattle.puffin_data.specs.Text.{cut_text, IsCut, text_in}
+use Rattle.puffin_data.proofs.lemmas.Lengths.{short_room, one_group}
 
 start_from : (b : ℕ) → (128 ≤ b → 192 ≤ b) → is_char_start b ≡ true
 start_from b h = elim (cases_lt b 128) [
@@ -143,3 +146,11 @@ cut_text-bytes form text bytes =
           let test : nat_le (length text) (text_limit form) ≡ true = grind arith in
           rw test bytes
     ]
+
+-- the beginning of a scope with a short text takes at most 149 bytes in both forms
+pub most_of_one_byte : (form : Form) (text : List ℕ) → length text ≤ 127 → head_size form (cut_text form text) ≤ 149
+most_of_one_byte Short text small = omega (arith, short_room (cut_text Short text), cut_text-short Short text)
+most_of_one_byte Long text small =
+    let short : length (cut_text Long text) ≤ 127 = omega (arith, small, cut_text-within Long text) in
+    let one : length (length_layout Long (length (cut_text Long text))) ≡ 1 = ap length (one_group Long (length (cut_text Long text)) short) in
+    omega (arith, one, short)

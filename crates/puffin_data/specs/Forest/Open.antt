@@ -16,19 +16,21 @@ ended_bytes bytes place stop =
     (take place bytes ++ (little_bytes 8 (length bytes - (place + 8)) ++ drop (place + 8) bytes))
     ++ end_bytes stop
 
--- an open scope, and the closed scopes before it within the same parent
+-- An open scope, and the closed scopes before it within the same parent. The size of its children isn't known yet: `size` is the
+-- number that stands in its place.
 pub record Opened : Type 0 where
   pub before : Forest
   pub id : ℕ
   pub start : ℤ
   pub text : List ℕ
+  pub size : ℕ
 
--- The bytes up to the children of the innermost open scope, which is the first in the list. The sizes are unfinished.
+-- The bytes up to the children of the innermost open scope, which is the first in the list.
 abbrev pub opening_bytes : Form → List Opened → List ℕ
 opening_bytes form [] = []
 opening_bytes form (o ∷ outer) =
     opening_bytes form outer
-    ++ (spelling form o.before ++ begin_bytes form o.id o.start o.text (2 ^ 64 - 1))
+    ++ (spelling form o.before ++ begin_bytes form o.id o.start o.text o.size)
 
 -- the bytes of a stream with these open scopes, and with these closed ones within the innermost
 abbrev pub open_spelling : Form → List Opened → Forest → List ℕ

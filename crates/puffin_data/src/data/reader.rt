@@ -1,4 +1,4 @@
-ghost use Rattle.std.specs.Prelude.{◌≡◌, ℕ, ℤ, ◌+◌, ◌-◌, ◌≤◌, ◌<◌, ◌^◌, ◌-ℤ◌, ◌+ℤ◌, ◌↔◌, FitsSigned, length, IfOk, IfErr, IsErr, MatchResult, ◌⊎◌, IsOkUnless};
+ghost use Rattle.std.specs.Prelude.{◌≡◌, ◌+◌, ◌-◌, ◌≤◌, ◌<◌, ◌^◌, ◌-ℤ◌, ◌↔◌, FitsSigned, length, IfOk, IfErr, IsErr, MatchResult, ◌⊎◌, IsOkUnless};
 ghost use Rattle.std.specs.Int.{w64};
 ghost use Rattle.std.specs.Iterator.{at_most};
 ghost use Rattle.puffin_data.specs.Forest.{Forest};

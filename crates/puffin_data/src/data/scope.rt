@@ -61,7 +61,8 @@ fn time_at(region: &[u8], place: usize) -> NanoSecond
 }
 
 /// Reads the size of the children, which is at an offset of a region.
-fn size_at(region: &[u8], place: usize) -> u64
+#[inline(always)]
+pub(crate) fn size_at(region: &[u8], place: usize) -> u64
     requires { place + 8 ≤ length region.now }
     ensures { result ≡ little_number 8 (drop place region.now) }
 {

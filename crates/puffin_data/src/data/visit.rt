@@ -1,6 +1,6 @@
 //! The strict walk with a visitor, which is given each scope as the walk enters it.
 
-ghost use Rattle.std.specs.Prelude.{◌≡◌, ℕ, ◌+◌, ◌*◌, ◌≤◌, List, [], ◌∷◌, ◌++◌, length, IfOk, IfErr, ◌⊎◌};
+ghost use Rattle.std.specs.Prelude.{◌≡◌, ◌+◌, ◌*◌, ◌≤◌, List, [], ◌++◌, length, IfOk, IfErr, ◌⊎◌};
 ghost use Rattle.puffin_data.specs.Forest.{Span, IsSpan};
 ghost use Rattle.puffin_data.specs.Walk.FoundScopes.{found_of};
 ghost use Rattle.puffin_data.specs.Walk.PlacedScopes.{ScopeInContext};

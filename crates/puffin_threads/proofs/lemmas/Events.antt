@@ -161,16 +161,16 @@ module _ (form : Form) where
   opening_events : (latest : ℤ) (opened : List Opened) → StartedBy form latest opened → (n : ℕ) (more : List ℕ) → events_from form (length (opening_word opened) + n) (opening_bytes form opened ++ more) ≡ opening_word opened ++ events_from form n more
   opening_events latest [] h n more = ap (λ (k : ℕ). events_from form k more) (omega arith)
   opening_events latest (o ∷ outer) h n more =
-      let begin = begin_bytes form o.id o.start o.text (2 ^ 64 - 1) in
+      let begin = begin_bytes form o.id o.start o.text o.size in
       let event = Open o.id o.text o.start in
       let later = length (tour o.before) + suc n in
       let fuel : length (opening_word (o ∷ outer)) + n ≡ length (opening_word outer) + later = omega (arith, length-append (opening_word outer) (tour o.before ++ (event ∷ [])), length-append (tour o.before) (event ∷ [])) in
       ap (λ (k : ℕ). events_from form k (opening_bytes form (o ∷ outer) ++ more)) fuel
       ∙ ap (events_from form (length (opening_word outer) + later)) (regroup_opened (opening_bytes form outer) (spelling form o.before) begin more)
-      ∙ opening_events latest outer h.3 later (spelling form o.before ++ (begin ++ more))
+      ∙ opening_events latest outer h.4 later (spelling form o.before ++ (begin ++ more))
       ∙ ap (λ (w : List Event). opening_word outer ++ w)
       (forest_events o.before h.0.before (suc n) (begin ++ more)
-      ∙ ap (λ (w : List Event). tour o.before ++ w) ((opens o.id (2 ^ 64 - 1) o.start o.text more _ h.0.id_high h.0.start h.0.text_size refl).step n))
+      ∙ ap (λ (w : List Event). tour o.before ++ w) ((opens o.id o.size o.start o.text more _ h.0.id_high h.0.start h.0.text_size refl).step n))
       ∙ regroup_word (opening_word outer) (tour o.before) (events_from form n more) event
 
   no_bytes : (n : ℕ) → events_from form n [] ≡ []

@@ -1,5 +1,5 @@
 -- How a thread stores its scopes, and the invariant of its state.
-use Rattle.std.specs.Prelude.{◌≡◌, ◌≢◌, ℕ, ◌*◌, ◌≤◌, ℤ, pos, ◌≤ℤ◌, List, [], ◌∷◌, length, reverse, fold, Option, Some, None, string_bytes}
+use Rattle.std.specs.Prelude.{◌≡◌, ◌≢◌, ℕ, ◌*◌, ◌≤◌, ℤ, pos, ◌≤ℤ◌, List, [], ◌∷◌, fold, Option, Some, None, string_bytes}
 use Rattle.std.specs.Option.{option_map, option_or, IfSome}
 use Rattle.puffin_data.specs.declared.data.form.Form.{Form}
 use Rattle.puffin_data.specs.Forest.Spelling.{end_size}
@@ -13,39 +13,47 @@ use Rattle.puffin_threads.specs.Details.{details_seen}
 use Rattle.puffin_threads.specs.Thread.Events.{events_in}
 use Rattle.puffin_threads.specs.Thread.Calls.{Thread, open_offsets}
 use Rattle.puffin_threads.specs.inner.FirstStart.{first_open}
-
--- the open scopes of a word, the innermost first, and the closed siblings of the next scope to begin
-abbrev pub scopes_closed : List Opened → Forest → ℤ → List Opened × Forest
-scopes_closed [] closed stop = ([], closed)
-scopes_closed (o ∷ outer) closed stop = (outer, with_ended o closed stop)
-
-abbrev pub scopes_with : List Opened × Forest → Event → List Opened × Forest
-scopes_with sofar (Open id text start) =
-    (record { before = sofar.1; id = id; start = start; text = text } ∷ sofar.0, empty)
-scopes_with sofar (Close stop) = scopes_closed sofar.0 sofar.1 stop
-
-unfoldable pub scopes_in : List Event → List Opened × Forest
-scopes_in word = fold scopes_with ([], empty) word
+use Rattle.puffin_threads.specs.inner.Supplied.{IsSupplied}
 
 -- the offsets of the open scopes' sizes
 abbrev pub size_places : Form → List Opened → List ℕ
 size_places form [] = []
 size_places form (o ∷ outer) = size_place form o outer ∷ size_places form outer
 
--- open scopes that can be written, with starts from 0 up to this time
+-- the innermost of these offsets, or 0
+abbrev pub innermost_place : List ℕ → ℕ
+innermost_place [] = 0
+innermost_place (place ∷ places) = place
+
+-- the open scopes of a word, the innermost first, and the closed siblings of the next scope to begin
+abbrev pub scopes_closed : List Opened → Forest → ℤ → List Opened × Forest
+scopes_closed [] closed stop = ([], closed)
+scopes_closed (o ∷ outer) closed stop = (outer, with_ended o closed stop)
+
+abbrev pub scopes_with : Form → List Opened × Forest → Event → List Opened × Forest
+scopes_with form sofar (Open id text start) =
+    (record { before = sofar.1; id = id; start = start; text = text; size = innermost_place (size_places form sofar.0) } ∷ sofar.0, empty)
+scopes_with form sofar (Close stop) = scopes_closed sofar.0 sofar.1 stop
+
+unfoldable pub scopes_in : Form → List Event → List Opened × Forest
+scopes_in form word = fold (scopes_with form) ([], empty) word
+
+-- Open scopes that can be written, with starts from 0 up to this time. Until one ends, the offset of the size of the scope around
+-- it stands in the place of its size.
 abbrev pub StartedBy : Form → ℤ → List Opened → Type 0
 StartedBy form latest [] = Unit {0}
 StartedBy form latest (o ∷ outer) =
-    IsOpened form o × (pos 0 ≤ℤ o.start) × (o.start ≤ℤ latest) × StartedBy form latest outer
+    IsOpened form o × (pos 0 ≤ℤ o.start) × (o.start ≤ℤ latest)
+    × (o.size ≡ innermost_place (size_places form outer)) × StartedBy form latest outer
 
 -- the bytes are those of a stream with the scopes of their word, which can be written
 pub record HoldsScopes (form : Form) (bytes : List ℕ) (latest : ℤ) : Type 0 where
-  pub whole : bytes ≡ open_spelling form (scopes_in (events_in form bytes)).0
-      (scopes_in (events_in form bytes)).1
-  pub opened : StartedBy form latest (scopes_in (events_in form bytes)).0
-  pub closed : IsForest form (scopes_in (events_in form bytes)).1
+  pub whole : bytes ≡ open_spelling form (scopes_in form (events_in form bytes)).0
+      (scopes_in form (events_in form bytes)).1
+  pub opened : StartedBy form latest (scopes_in form (events_in form bytes)).0
+  pub closed : IsForest form (scopes_in form (events_in form bytes)).1
   pub places : open_offsets form (events_in form bytes)
-      ≡ size_places form (scopes_in (events_in form bytes)).0
+      ≡ size_places form (scopes_in form (events_in form bytes)).0
 
 -- the counts of a stream's scopes, open ones included; without scopes, also their range
 pub record Counted (info : StreamInfo) (word : List Event) : Type 0 where
@@ -71,7 +79,7 @@ thread_in r = record {
 
 -- the copy of the name, if there is one
 abbrev pub spare_name : Inside → Option (List ℕ)
-spare_name r = option_map (λ s. string_bytes s) r.spare
+spare_name r = option_map (λ s. string_bytes s) r.supply.copy
 
 -- the invariant of a recording in this form
 pub record IsThreadStateIn (form : Form) (r : Inside) : Type 0 where
@@ -79,10 +87,12 @@ pub record IsThreadStateIn (form : Form) (r : Inside) : Type 0 where
   pub scopes : ∥ HoldsScopes form r.info.stream.bytes r.latest ∥₁
   pub counted : Counted r.info (events_in form r.info.stream.bytes)
   pub in_order : IsInOrder (events_in form r.info.stream.bytes) r.latest
-  pub offsets : reverse r.offsets.items ≡ open_offsets form (events_in form r.info.stream.bytes)
+  pub num_open : r.num_open ≡ open_after 0 (events_in form r.info.stream.bytes)
+  pub innermost : r.innermost ≡ innermost_place (open_offsets form (events_in form r.info.stream.bytes))
   -- each open scope can end without an allocation, and while one is open a copy of the name is ready for the report
-  pub room : end_size * length r.offsets.items ≤ r.info.stream.room
-  pub has_spare : spare_name r ≡ None → r.offsets.items ≡ []
+  pub room : end_size * r.num_open ≤ r.info.stream.room
+  pub has_spare : spare_name r ≡ None → r.num_open ≡ 0
+  pub supplied : IsSupplied r.supply r.info.stream
   pub spare : (name : List ℕ) → spare_name r ≡ Some name → name ≡ string_bytes r.name
 
 abbrev pub IsThreadState : Inside → Type 0

@@ -1,4 +1,4 @@
-ghost use Rattle.std.specs.Prelude.{◌≡◌, IsOkUnless};
+ghost use Rattle.std.specs.Prelude.{IsOkUnless};
 ghost use Rattle.puffin_data.specs.declared.error.Error.{Error};
 
 use puffin_data::data::ScopeId;

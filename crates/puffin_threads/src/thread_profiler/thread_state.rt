@@ -1,9 +1,9 @@
 //! The records of one thread, apart from its clock.
 
-ghost use Rattle.std.specs.Prelude.{◌≡◌, ◌+◌, ◌-◌, ◌*◌, ◌^◌, ◌<◌, ◌≤◌, ◌++◌, ℤ, pos, ◌≤ℤ◌, ◌==◌, length, max, OnOk, OnErr, IfOk, IfErr, IfSome, IfNone, string_bytes, slice_get, unwrap_or, option_map, IsOkUnless};
+ghost use Rattle.std.specs.Prelude.{◌≡◌, ◌+◌, ◌-◌, ◌*◌, ◌<◌, ◌≤◌, ℤ, pos, ◌≤ℤ◌, ◌==◌, length, OnOk, OnErr, IfOk, IfErr, IfSome, IfNone, string_bytes, slice_get, IsOkUnless};
 ghost use Rattle.std.specs.Option.{option_or};
 ghost use Rattle.puffin_data.specs.declared.error.Error.{Error};
-ghost use Rattle.puffin_data.specs.Forest.Spelling.{begin_bytes, size_offset, head_size};
+ghost use Rattle.puffin_data.specs.Forest.Spelling.{size_offset};
 ghost use Rattle.puffin_data.specs.Text.{cut_text};
 ghost use Rattle.puffin_data.specs.Forest.Words.{word_size, open_after};
 ghost use Rattle.puffin_data.specs.Walk.Reading.{time_in};
@@ -16,9 +16,10 @@ ghost use Rattle.puffin_threads.specs.inner.FirstStart.{start_in, completed};
 use crate::scope_details::{ScopeDetails, ScopeIds};
 use crate::thread_profiler::clock::NsSource;
 use crate::thread_profiler::reporter::Reporter;
+use crate::thread_profiler::supply::Supply;
 use crate::thread_profiler::thread_info::ThreadInfo;
 use byteorder::{ByteOrder, LittleEndian};
-use puffin_data::data::{END_SIZE, Form, ScopeId, Stream, StreamInfo};
+use puffin_data::data::{Form, ScopeId, Stream, StreamInfo};
 use puffin_data::{Error, NanoSecond, Result};
 use std::alloc::Global;
 use std::marker::Model;
@@ -27,14 +28,16 @@ use std::marker::Model;
 #[derive(Drop)]
 pub struct ThreadState {
     name: String,
-    // A copy of the name for the next report. It is made when a scope begins, so that ending one allocates nothing.
-    spare: Option<String>,
+    // What scopes and the next report need. It is made when a scope begins, so that ending one allocates nothing.
+    supply: Supply,
     info: StreamInfo,
     // The start of the first scope, once it was reported or discarded.
     first_start: Option<NanoSecond>,
     latest: NanoSecond,
-    // The offsets of the open scopes' sizes, the innermost last.
-    offsets: Vec<usize>,
+    // The number of open scopes.
+    num_open: usize,
+    // The offset of the innermost open scope's size, or 0. Until a scope ends, its size holds that of the scope around it.
+    innermost: usize,
     // The details registered since the last accepted report.
     details: Vec<ScopeDetails>,
 }
@@ -51,79 +54,15 @@ impl Model for ThreadState {
     ghost invariant = { IsThreadState };
 }
 
-/// Copies a name. Fails only with `Memory`.
-#[inline(never)]
-fn copy_of(name: &String) -> Result<String>
-    ensures ok { IfOk result (λ s. string_bytes s ≡ string_bytes name.now) }
-    ensures memory { IsOkUnless result Error.Memory }
-{
-    Ok(name.clone()?)
-}
-
-/// Sets the spare, which must be missing, to a copy of the name. Fails only with `Memory`.
-#[cold]
-#[inline(never)]
-fn fill(spare: &mut Option<String>, name: &String) -> Result<()>
-    requires { spare.old ≡ None }
-    ensures ok { OnOk result (
-        option_map (λ s. string_bytes s) spare.new ≡ Some (string_bytes name.now)) }
-    ensures err { OnErr result (spare.new ≡ spare.old) }
-    ensures memory { IsOkUnless result Error.Memory }
-{
-    *spare = Some(copy_of(name)?);
-    Ok(())
-}
-
-/// Sets the spare to a copy of the name if it is missing. Fails only with `Memory`.
-#[inline(always)]
-fn keep_copy(spare: &mut Option<String>, name: &String) -> Result<()>
-    ensures ok { OnOk result (
-        option_map (λ s. string_bytes s) spare.new ≡ Some (
-        unwrap_or (option_map (λ s. string_bytes s) spare.old) (
-        string_bytes name.now))) }
-    ensures err { OnErr result (spare.new ≡ spare.old) }
-    ensures memory { IsOkUnless result Error.Memory }
-{
-    if spare.is_none() {
-        return fill(spare, name);
-    }
-    Ok(())
-}
-
-/// Sets the first start if it is missing. An existing one isn't written.
-#[inline(always)]
-fn keep_first(first: &mut Option<NanoSecond>, at: NanoSecond)
-    ensures { first.new ≡ option_or first.old (Some at) }
-{
-    if first.is_none() {
-        *first = Some(at);
-    }
-}
-
-/// Raises `number` to `to` if it is less. Always writes it, so that there is no branch.
-#[inline(always)]
-fn raise(number: &mut usize, to: usize)
-    ensures { number.new ≡ max number.old to }
-{
-    *number = (*number).max(to);
-}
-
-/// Reads the start of the scope at the front of the bytes.
-fn read_start(bytes: &[u8]) -> NanoSecond
-    requires { 13 ≤ length bytes.now }
-    ensures { result ≡ time_in bytes.now 5 }
-{
-    LittleEndian::read_i64(&bytes[5..])
-}
-
 /// Returns the start of the scope at the front of the bytes, if there is one.
+#[tactic(auto, unfolding(puffin_data::specs::Walk::Reading::time_in))]
 fn start_of(bytes: &[u8]) -> Option<NanoSecond>
     ensures { result ≡ start_in bytes.now }
 {
     if bytes.len() < 13 {
         return None;
     }
-    Some(read_start(bytes))
+    Some(LittleEndian::read_i64(&bytes[5..]))
 }
 
 /// Completes what is known of scopes once all have ended: the first start, and the range, since times never fall.
@@ -132,36 +71,9 @@ fn complete(info: &mut StreamInfo, first: &mut Option<NanoSecond>, latest: NanoS
     ensures first { first.new ≡ option_or first.old (start_in info.old.stream.bytes) }
 {
     if let Some(start) = start_of(info.stream.bytes()) {
-        keep_first(first, start);
+        *first = first.or(Some(start));
         info.range_ns = (start, latest);
     }
-}
-
-/// Returns the number of bytes that the ends of the open scopes and of one more take.
-fn size_of_ends(offsets: &[usize]) -> usize
-    ensures size { result ≡ END_SIZE * (length offsets.now + 1) }
-    ensures small { result + 2 ^ 15 < 2 ^ 64 }
-{
-    END_SIZE * (offsets.len() + 1)
-}
-
-/// Appends the beginning of a scope with this start, and returns the offset of its size. The beginning must fit the room.
-#[inline(always)]
-fn write_begin(stream: &mut Stream, at: NanoSecond, id: ScopeId, text: &str) -> usize
-    requires { head_size stream.old.form (cut_text stream.old.form text.now) ≤ stream.old.room }
-    ensures bytes { stream.new.bytes
-        ≡ stream.old.bytes
-        ++ begin_bytes stream.old.form id at (cut_text stream.old.form text.now)
-        (2 ^ 64 - 1) }
-    ensures offset { result + 8 ≡ length stream.new.bytes }
-    ensures form { stream.new.form ≡ stream.old.form }
-    ensures room { stream.old.room
-        ≤ stream.new.room + head_size stream.old.form (cut_text stream.old.form text.now) }
-    ensures id { (0 < id) × (id < 2 ^ 32) }
-{
-    // Shows the contract's last clause: the range of an id's number.
-    let _number = id.get();
-    stream.begin_within(at, id, text)
 }
 
 impl ThreadState {
@@ -171,11 +83,16 @@ impl ThreadState {
     {
         ThreadState {
             name,
-            spare: None,
+            supply: Supply {
+                copy: None,
+                ready: 0,
+                limit: 0,
+            },
             info: StreamInfo::with_form(alloc, form),
             first_start: None,
             latest: 0,
-            offsets: Vec::new(alloc),
+            num_open: 0,
+            innermost: 0,
             details: Vec::new(alloc),
         }
     }
@@ -191,14 +108,14 @@ impl ThreadState {
     pub(crate) fn depth(&self) -> usize
         ensures { result ≡ open_after 0 self.now.word }
     {
-        self.offsets.len()
+        self.num_open
     }
 
     /// Returns the number of closed scopes that wait for a report.
     pub(crate) fn num_closed(&self) -> usize
         ensures { result ≡ num_ended self.now.word }
     {
-        self.info.num_scopes - self.offsets.len()
+        self.info.num_scopes - self.num_open
     }
 
     /// Returns whether no scope is open and none waits for a report.
@@ -209,10 +126,14 @@ impl ThreadState {
     }
 
     /// Returns the offset of the innermost open scope's size.
+    #[inline(always)]
     pub(crate) fn innermost(&self) -> Option<usize>
         ensures { result ≡ slice_get (offsets_of self.now) 0 }
     {
-        self.offsets.last().copied()
+        if self.num_open == 0 {
+            return None;
+        }
+        Some(self.innermost)
     }
 
     /// Begins a scope, and returns the offset of its size. First allocates for its end and its report, then reads the clock.
@@ -236,21 +157,23 @@ impl ThreadState {
         ensures unchanged { OnErr result ((self.new ≡ self.old) × (clock.new ≡ clock.old)) }
         ensures memory { IsOkUnless result Error.Memory }
     {
-        keep_copy(&mut self.spare, &self.name)?;
-        self.offsets.reserve(1)?;
-        let ends = size_of_ends(&self.offsets);
-        let begin = self.info.stream.form().begin_limit(text);
-        self.info.stream.reserve(begin + ends)?;
+        self.supply
+            .prepare(&self.name, &mut self.info.stream, self.num_open, text)?;
         let at = self.latest.max(clock.now_ns());
-        let offset = write_begin(&mut self.info.stream, at, id, text);
-        self.offsets.push_reserved(offset);
+        // Shows the range of an id's number.
+        let _number = id.get();
+        let around = self.innermost as u64;
+        let offset = self.info.stream.begin_within(at, id, text, around);
+        self.innermost = offset;
+        self.num_open += 1;
         self.latest = at;
         self.info.num_scopes += 1;
-        raise(&mut self.info.depth, self.offsets.len());
+        self.info.depth = self.info.depth.max(self.num_open);
         Ok(offset)
     }
 
     /// Ends the innermost scope, without an allocation. If it was the last open one, returns a copy of the name for the report.
+    #[inline]
     pub(crate) fn close(&mut self, now_ns: NanoSecond) -> Option<String>
         requires { 0 < open_after 0 self.old.word }
         ensures closed { self.new ≡ after_end self.old now_ns }
@@ -258,25 +181,26 @@ impl ThreadState {
         ensures last { IfSome result (λ name.
             (open_after 0 self.old.word ≡ 1) × (string_bytes name ≡ self.old.name)) }
     {
-        let offset = self.offsets.pop().unwrap();
         let at = self.latest.max(now_ns);
-        self.info.stream.end_within(offset, at);
+        self.innermost = self.info.stream.end_within(self.innermost, at) as usize;
+        self.num_open -= 1;
         self.latest = at;
-        if self.offsets.is_empty() {
-            self.spare.take()
+        if self.num_open == 0 {
+            self.supply.take_copy()
         } else {
             None
         }
     }
 
     /// Ends the innermost scope, without an allocation. Keeps the copy of the name.
+    #[inline(always)]
     pub(crate) fn finish(&mut self, now_ns: NanoSecond)
         requires { 0 < open_after 0 self.old.word }
         ensures { self.new ≡ after_end self.old now_ns }
     {
-        let offset = self.offsets.pop().unwrap();
         let stop = self.latest.max(now_ns);
-        self.info.stream.end_within(offset, stop);
+        self.innermost = self.info.stream.end_within(self.innermost, stop) as usize;
+        self.num_open -= 1;
         self.latest = stop;
     }
 
@@ -287,7 +211,7 @@ impl ThreadState {
         ensures unchanged { self.new ≡ self.old }
         ensures memory { IsOkUnless result Error.Memory }
     {
-        match self.spare.take() {
+        match self.supply.take_copy() {
             Some(name) => Ok(name),
             None => Ok(self.name.clone()?),
         }

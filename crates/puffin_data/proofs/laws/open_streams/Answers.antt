@@ -3,16 +3,19 @@ use Rattle.puffin_data.proofs.lemmas.Opening as Opening
 use Rattle.puffin_data.proofs.laws.open_streams.Goals as goal
 
 pub returns-clause-begins : goal.returns-clause-begins
-returns-clause-begins c form opened closed id start text = Opening.begins form opened closed id start text
+returns-clause-begins c form opened closed id start text size = Opening.begins form opened closed id start text size
 
 pub returns-clause-begins_word : goal.returns-clause-begins_word
-returns-clause-begins_word c opened closed id start text = Opening.begins-word opened closed id start text
+returns-clause-begins_word c opened closed id start text size = Opening.begins-word opened closed id start text size
 
 pub returns-clause-begins_place : goal.returns-clause-begins_place
 returns-clause-begins_place c form o outer = Opening.size_last form o outer
 
 pub returns-clause-place_within : goal.returns-clause-place_within
 returns-clause-place_within c form o outer closed = Opening.size_within form o outer closed
+
+pub returns-clause-unfinished : goal.returns-clause-unfinished
+returns-clause-unfinished c form o outer closed fits = Opening.size_there form o outer closed fits
 
 pub returns-clause-ends : goal.returns-clause-ends
 returns-clause-ends c form o outer closed stop = Opening.finishes form o outer closed stop

@@ -1,15 +1,17 @@
 //! Writing scopes, each in two steps: when it begins and when it ends.
 
-ghost use Rattle.std.specs.Prelude.{◌≡◌, ◌+◌, ◌-◌, ◌≤◌, ◌++◌, length, IfOk, OnOk, OnErr, IsOk, ◌^◌, ◌∷◌, IsOkUnless};
+ghost use Rattle.std.specs.Prelude.{◌≡◌, ◌+◌, ◌-◌, ◌≤◌, ◌++◌, length, drop, IfOk, OnOk, OnErr, IsOk, ◌^◌, ◌∷◌, IsOkUnless};
+ghost use Rattle.byteorder.specs.Endian.{little_number};
 ghost use Rattle.puffin_data.specs.Forest.Spelling.{begin_bytes, head_size};
 ghost use Rattle.puffin_data.specs.Forest.Open.{ended_bytes};
+ghost use Rattle.puffin_data.specs.Stream.{BeginsScope};
 ghost use Rattle.puffin_data.specs.Text.{cut_text};
 ghost use Rattle.puffin_data.specs.Text.Lengths.{text_limit, length_layout};
 ghost use Rattle.puffin_data.specs.inner.Groups.{second_byte};
 ghost use Rattle.puffin_data.specs.inner.Beginnings.{Begins};
 
 use crate::data::form::{ONE_GROUP, groups};
-use crate::data::scope::{END_SIZE, FRONT_SIZE};
+use crate::data::scope::{END_SIZE, FRONT_SIZE, size_at};
 use crate::data::scope_id::ScopeId;
 use crate::data::spelling::{back, copy_text, front, size_word};
 use crate::data::stream::Stream;
@@ -30,23 +32,8 @@ impl Stream {
         text: &str,
     ) -> Result<(usize, NanoSecond)>
         requires { F.IsAlwaysCallable now_ns }
-        // What is appended and returned, and what a refusal leaves.
-        ensures begun { IfOk result (λ at.
-            self.new.bytes
-            ≡ self.old.bytes
-            ++ begin_bytes self.old.form id at.1 (cut_text self.old.form text.now)
-            (2 ^ 64 - 1)) }
-        ensures offset { IfOk result (λ at. at.0 + 8 ≡ length self.new.bytes) }
+        ensures begun { BeginsScope self.old self.new id text.now result }
         ensures clock { IfOk result (λ at. F.post now_ns at.1) }
-        ensures err { OnErr result (self.new.bytes ≡ self.old.bytes) }
-        ensures form { self.new.form ≡ self.old.form }
-
-        // When it is refused, and how much room it uses.
-        ensures memory { IsOkUnless result Error.Memory }
-        ensures succeeds { head_size self.old.form (cut_text self.old.form text.now)
-            ≤ self.old.room → IsOk result }
-        ensures room { self.old.room
-            ≤ self.new.room + head_size self.old.form (cut_text self.old.form text.now) }
     {
         let mut now_ns = now_ns;
         self.begin_scope_by(&mut now_ns, id, text)
@@ -62,29 +49,14 @@ impl Stream {
         text: &str,
     ) -> Result<(usize, NanoSecond)>
         requires { F.IsAlwaysCallable now_ns.old }
-        // What is appended and returned, and what a refusal leaves.
-        ensures begun { IfOk result (λ at.
-            self.new.bytes
-            ≡ self.old.bytes
-            ++ begin_bytes self.old.form id at.1 (cut_text self.old.form text.now)
-            (2 ^ 64 - 1)) }
-        ensures offset { IfOk result (λ at. at.0 + 8 ≡ length self.new.bytes) }
+        ensures begun { BeginsScope self.old self.new id text.now result }
         ensures clock { IfOk result (λ at. F.step now_ns.old at.1 now_ns.new) }
-        ensures err { OnErr result (self.new.bytes ≡ self.old.bytes) }
-        ensures form { self.new.form ≡ self.old.form }
         ensures unasked { OnErr result (now_ns.new ≡ now_ns.old) }
-
-        // When it is refused, and how much room it uses.
-        ensures memory { IsOkUnless result Error.Memory }
-        ensures succeeds { head_size self.old.form (cut_text self.old.form text.now)
-            ≤ self.old.room → IsOk result }
-        ensures room { self.old.room
-            ≤ self.new.room + head_size self.old.form (cut_text self.old.form text.now) }
     {
         let size = self.form().begin_size(text);
         self.reserve(size)?;
         let start = now_ns();
-        Ok((self.begin_within(start, id, text), start))
+        Ok((self.begin_within(start, id, text, u64::MAX), start))
     }
 
     /// Appends the beginning of a scope as [`Stream::begin_scope`] does, but with a given start. Returns the offset of the
@@ -109,17 +81,17 @@ impl Stream {
             ≤ self.new.room + head_size self.old.form (cut_text self.old.form text.now) }
     {
         self.reserve(self.form().begin_size(text))?;
-        Ok(self.begin_within(start, id, text))
+        Ok(self.begin_within(start, id, text, u64::MAX))
     }
 
-    /// Appends the beginning of a scope as [`Stream::begin_scope_at`] does. The beginning must fit the room, so the call
-    /// neither allocates nor fails.
+    /// Appends the beginning of a scope as [`Stream::begin_scope_at`] does, with this number as the placeholder. The beginning
+    /// must fit the room, so the call neither allocates nor fails.
     #[inline(always)]
-    pub fn begin_within(&mut self, start: NanoSecond, id: ScopeId, text: &str) -> usize
+    pub fn begin_within(&mut self, start: NanoSecond, id: ScopeId, text: &str, size: u64) -> usize
         requires { head_size self.old.form (cut_text self.old.form text.now) ≤ self.old.room }
         ensures begun { self.new.bytes
             ≡ self.old.bytes
-            ++ begin_bytes self.old.form id start (cut_text self.old.form text.now) (2 ^ 64 - 1) }
+            ++ begin_bytes self.old.form id start (cut_text self.old.form text.now) size }
         ensures offset { result + 8 ≡ length self.new.bytes }
         ensures form { self.new.form ≡ self.old.form }
         ensures room { self.old.room
@@ -127,21 +99,21 @@ impl Stream {
     {
         // Both forms encode a text of this length alike.
         if text.len() <= ONE_GROUP {
-            return self.write_begin(start, id, text, text.len() as u8, None);
+            return self.write_begin(start, id, text, size, text.len() as u8, None);
         }
-        self.longer_within(start, id, text)
+        self.longer_within(start, id, text, size)
     }
 
     /// Appends the beginning of a scope with a text that may have to be cut and whose length may take two bytes. It is out of
     /// line, so that a scope with a short text needs few registers.
     #[inline(never)]
-    fn longer_within(&mut self, start: NanoSecond, id: ScopeId, text: &str) -> usize
+    fn longer_within(&mut self, start: NanoSecond, id: ScopeId, text: &str, size: u64) -> usize
         requires { head_size self.old.form (cut_text self.old.form text.now) ≤ self.old.room }
-        ensures { Begins self.old self.new id start (cut_text self.old.form text.now) result }
+        ensures { Begins self.old self.new id start (cut_text self.old.form text.now) size result }
     {
         let kept = self.form().cut(text);
         let (group, second) = groups(self.form(), kept.len());
-        self.write_begin(start, id, kept, group, second)
+        self.write_begin(start, id, kept, size, group, second)
     }
 
     /// Appends the beginning of a scope with a text that isn't cut. `group` and `second` must encode the text's length.
@@ -151,6 +123,7 @@ impl Stream {
         start: NanoSecond,
         id: ScopeId,
         text: &str,
+        size: u64,
         group: u8,
         second: Option<u8>,
     ) -> usize
@@ -158,7 +131,7 @@ impl Stream {
         requires short { length text.now ≤ text_limit self.old.form }
         requires layout { length_layout self.old.form (length text.now)
             ≡ group ∷ second_byte second }
-        ensures { Begins self.old self.new id start text.now result }
+        ensures { Begins self.old self.new id start text.now size result }
     {
         let len = self.len;
         let text = text.as_bytes();
@@ -173,7 +146,7 @@ impl Stream {
             copy_text(&mut room[place..place + text.len()], text);
             place += text.len();
         }
-        room[place..place + 8].copy_from_slice(&size_word(u64::MAX));
+        room[place..place + 8].copy_from_slice(&size_word(size));
         self.len = len + place + 8;
         len + place
     }
@@ -199,19 +172,23 @@ impl Stream {
         Ok(())
     }
 
-    /// Ends a scope as [`Stream::end_scope`] does. The end must fit the room, so the call neither allocates nor fails.
+    /// Ends a scope as [`Stream::end_scope`] does, and returns the placeholder. The end must fit the room, so the call neither
+    /// allocates nor fails.
     #[inline(always)]
-    pub fn end_within(&mut self, offset: usize, stop_ns: NanoSecond)
+    pub fn end_within(&mut self, offset: usize, stop_ns: NanoSecond) -> u64
         requires inside { offset + 8 ≤ length self.old.bytes }
         requires room { END_SIZE ≤ self.old.room }
+        ensures size { result ≡ little_number 8 (drop offset self.old.bytes) }
         ensures ended { self.new.bytes ≡ ended_bytes self.old.bytes offset stop_ns }
         ensures form { self.new.form ≡ self.old.form }
         ensures room { self.old.room ≤ self.new.room + END_SIZE }
     {
         let len = self.len;
         let block = &mut self.block[..];
+        let size = size_at(block, offset);
         block[offset..offset + 8].copy_from_slice(&size_word((len - (offset + 8)) as u64));
         block[len..len + END_SIZE].copy_from_slice(&back(stop_ns));
         self.len = len + END_SIZE;
+        size
     }
 }

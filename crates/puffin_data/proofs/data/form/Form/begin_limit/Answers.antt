@@ -2,11 +2,10 @@
 use Rattle.std.proofs.Common.{◌≡◌, ◌≤◌, ◌+◌, ℕ, List, length, min, sym, ap, subst, arith}
 use Rattle.puffin_data.specs.Forest.Spelling.{head_size}
 use Rattle.puffin_data.specs.Text.{cut_text}
-use Rattle.puffin_data.specs.Text.Lengths.{length_layout}
 use Rattle.puffin_data.specs.declared.data.form.Form.{Form}
 use Rattle.puffin_data.specs.declared.data.form.Form.TheVariants.{Short, Long}
-use Rattle.puffin_data.proofs.lemmas.Cuts.{cut_text-short, cut_text-within}
-use Rattle.puffin_data.proofs.lemmas.Lengths.{short_room, long_room, one_group}
+use Rattle.puffin_data.proofs.lemmas.Cuts.{cut_text-short, cut_text-within, most_of_one_byte}
+use Rattle.puffin_data.proofs.lemmas.Lengths.{short_room, long_room}
 use Rattle.puffin_data.proofs.data.form.Form.begin_limit.Goals as goal
 
 most_short : (form : Form) (text : List ℕ) → form ≡ Short → head_size form (cut_text form text) ≤ 149
@@ -16,13 +15,6 @@ most_short form text is =
 most_long : (form : Form) (text : List ℕ) → form ≡ Long → head_size form (cut_text form text) ≤ 23 + min (length text) 16383
 most_long form text is =
     subst (λ (f : Form). head_size f (cut_text f text) ≤ 23 + min (length text) 16383) (sym is) (omega (arith, long_room (cut_text Long text), cut_text-short Long text, cut_text-within Long text))
-
-most_of_one_byte : (form : Form) (text : List ℕ) → length text ≤ 127 → head_size form (cut_text form text) ≤ 149
-most_of_one_byte Short text small = omega (arith, short_room (cut_text Short text), cut_text-short Short text)
-most_of_one_byte Long text small =
-    let short : length (cut_text Long text) ≤ 127 = omega (arith, small, cut_text-within Long text) in
-    let one : length (length_layout Long (length (cut_text Long text))) ≡ 1 = ap length (one_group Long (length (cut_text Long text)) short) in
-    omega (arith, one, short)
 
 pub returns-then-text-le-ONE_GROUP-clause-most : goal.returns-then-text-le-ONE_GROUP-clause-most
 returns-then-text-le-ONE_GROUP-clause-most c =

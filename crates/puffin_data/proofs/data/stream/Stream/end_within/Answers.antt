@@ -1,10 +1,17 @@
 -- The size written over the unfinished one, and the end put behind all bytes.
-use Rattle.std.proofs.Common.{rules, ◌∙◌, ap, sym, ℤ, ◌∷◌, length, w64}
+use Rattle.std.proofs.Common.{rules, ◌∙◌, ap, sym, ℕ, ℤ, List, ◌∷◌, length, drop, w64}
 use Rattle.std.proofs.lemmas.Int.{to_z-of_z}
+use Rattle.byteorder.specs.Endian.{little_number}
 use Rattle.puffin_data.specs.Stream.{StreamState}
 use Rattle.puffin_data.specs.Forest.Spelling.{end_bytes, time_bytes}
-use Rattle.puffin_data.proofs.Blocks.{ended}
+use Rattle.puffin_data.proofs.Blocks.{ended, number_before}
 use Rattle.puffin_data.proofs.data.stream.Stream.end_within.Goals as goal
+
+pub returns-clause-size : goal.returns-clause-size
+returns-clause-size c =
+    let s = c.self.inside in
+    c.size_at-size.ensures ∙ ap (λ (xs : List ℕ). little_number 8 (drop c.args.offset xs)) c.deref_mut.ensures.value
+    ∙ sym (number_before s.block.items c.args.offset s.len (search rules) (search rules)) ∙ ap (λ (h : StreamState). little_number 8 (drop c.args.offset h.bytes)) c.self.view_is
 
 pub returns-clause-ended : goal.returns-clause-ended
 unfolding end_bytes

@@ -44,9 +44,9 @@ returns c =
     let within : s.len ≤ length s.block.items = search rules in
     record {
       begun = behind s.block.items c.deref_mut.result.now spread _ _ s.len b.place s.block.len c.deref_mut.ensures.value within long fits
-          ∙ ap (λ (x : List ℕ). take s.len s.block.items ++ x) (pieces ∙ begun form (take 14 c.front.result) second text c.copy_from_slice-2.new.self c.args.id 18446744073709551615 group start front c.requires.layout word)
-          ∙ ap (λ (x : List ℕ). x ++ begin_bytes form c.args.id start text 18446744073709551615) (ap (λ (h : StreamState). h.bytes) c.self.view_is);
-      size = lengthened s.block.items spread _ s.len b.place (behind s.block.items c.deref_mut.result.now spread _ _ s.len b.place s.block.len c.deref_mut.ensures.value within long fits) within long;
+          ∙ ap (λ (x : List ℕ). take s.len s.block.items ++ x) (pieces ∙ begun form (take 14 c.front.result) second text c.copy_from_slice-2.new.self c.args.id c.args.size group start front c.requires.layout word)
+          ∙ ap (λ (x : List ℕ). x ++ begin_bytes form c.args.id start text c.args.size) (ap (λ (h : StreamState). h.bytes) c.self.view_is);
+      place = lengthened s.block.items spread _ s.len b.place (behind s.block.items c.deref_mut.result.now spread _ _ s.len b.place s.block.len c.deref_mut.ensures.value within long fits) within long;
       form = search rules;
       room = room_left _ s.block.items s.block.len s.len b.place c.args.self.now.room (8 + (13 + (length (length_layout form (length text)) + length text))) s.block.ok.0 (sym (ap (λ (h : StreamState). h.room) c.self.view_is))
           (placed (take 14 c.front.result) second text c.copy_from_slice-2.new.self spread (length_layout form (length text)) group b.place pieces long (ap length front) (ap length word) c.requires.layout);

@@ -1,125 +1,80 @@
-use Rattle.std.proofs.Common.{rules, ◌≡◌, ◌<◌, ℤ, ◌≤ℤ◌, [], ◌∷◌, ◌++◌, length, Option, Some, None, string_bytes, w64, FitsSigned, to_z, of_z, refl, sym, ap, subst, ◌∙◌, arith, option_map}
-use Rattle.std.specs.Option.{option_or, option_to_list, IfSome}
+use Rattle.std.proofs.Common.{rules, ◌≡◌, ℤ, ◌≤ℤ◌, w64, FitsSigned, to_z, of_z, refl, sym, ap, subst, ◌∙◌, arith, option_map, string_bytes}
 use Rattle.std.specs.Int.{int_max}
 use Rattle.std.proofs.lemmas.Bool.Decides.{nat_tests}
 use Rattle.std.proofs.lemmas.Int.{ints, to_z-of_z, clamps}
-use Rattle.std.proofs.lemmas.List.{length-append}
-use Rattle.puffin_data.specs.declared.data.form.Form.{Form}
-use Rattle.puffin_data.specs.Forest.Tour.{Close}
-use Rattle.puffin_data.specs.Forest.Words.{open_after}
-use Rattle.puffin_threads.specs.Thread.Events.{events_in}
-use Rattle.puffin_threads.specs.Thread.Calls.{Thread, time_of}
-use Rattle.puffin_threads.specs.inner.FirstStart.{first_open}
-use Rattle.puffin_threads.proofs.FirstStarts.{closed_first}
-use Rattle.puffin_threads.proofs.ThreadStates.{ended_in, ended_goes, place_in, depth_in, nothing, same_thread}
+use Rattle.puffin_threads.specs.Thread.Calls.{Thread, after_end}
+use Rattle.puffin_threads.proofs.ThreadStates.{ended_in, ended_thread, none_supplied, place_in, some_open}
+use Rattle.puffin_threads.specs.declared.thread_profiler.supply.Supply.{Supply}
+use Rattle.puffin_threads.specs.inner.Supplied.{IsSupplied}
 use Rattle.puffin_threads.proofs.thread_profiler.thread_state.ThreadState.close.Goals as goal
 
-pub unwrap-offset-requires : goal.unwrap-offset-requires
-unwrap-offset-requires c =
-    let deep = depth_in c.self.inside c.self.invariant in
-    c.pop.ensures.variant.1 (omega (arith, deep, ap (λ (t : Thread). open_after 0 t.word) c.self.view_is, c.requires))
-
 pub end_within-requires-clause-inside : goal.end_within-requires-clause-inside
-end_within-requires-clause-inside c =
-    place_in c.self.inside c.self.invariant c.pop.new.self.items c.unwrap-offset.result
-    (c.pop.ensures.items ∙ ap (λ o. c.pop.new.self.items ++ option_to_list o) c.unwrap-offset.ensures)
+end_within-requires-clause-inside c = place_in c.self.inside c.self.invariant (some_open c.self.inside _ c.self.invariant c.self.view_is c.requires)
 
 pub end_within-requires-clause-room : goal.end_within-requires-clause-room
-end_within-requires-clause-room c =
-    let items : c.self.inside.offsets.items ≡ c.pop.new.self.items ++ (c.unwrap-offset.result ∷ []) = c.pop.ensures.items ∙ ap (λ o. c.pop.new.self.items ++ option_to_list o) c.unwrap-offset.ensures in
-    omega (arith, c.self.invariant.room, ap length items, length-append c.pop.new.self.items (c.unwrap-offset.result ∷ []))
+end_within-requires-clause-room c = omega (arith, c.self.invariant.room, some_open c.self.inside _ c.self.invariant c.self.view_is c.requires)
+
+pub overflow_sub-self : goal.overflow_sub-self
+overflow_sub-self c = omega (arith, some_open c.self.inside _ c.self.invariant c.self.view_is c.requires)
 
 pub invariant_of-self : goal.invariant_of-self
 invariant_of-self c =
     let at = to_z w64 (of_z w64 c.max-at.result) in
     let fits : FitsSigned w64 c.max-at.result = search rules in
     let same : at ≡ c.max-at.result = to_z-of_z w64 c.max-at.result fits in
-    ended_in c.self.inside _ at c.unwrap-offset.result c.self.invariant (record {
+    ended_in c.self.inside _ at c.self.invariant (record {
       form = c.end_within.ensures.form;
       later = subst (λ (t : ℤ). c.self.inside.latest ≤ℤ t) (sym same) (omega (arith, ints, c.max-at.ensures.self_bound));
       fits = subst (λ (t : ℤ). FitsSigned w64 t) (sym same) fits;
-      items = c.pop.ensures.items ∙ ap (λ o. c.pop.new.self.items ++ option_to_list o) c.unwrap-offset.ensures;
+      num_open = omega (arith, some_open c.self.inside _ c.self.invariant c.self.view_is c.requires);
+      innermost = c.end_within.ensures.size;
+      small = search rules;
       bytes = search rules;
       num_scopes = refl;
       depth = refl;
       latest = refl;
       room = omega (arith, c.end_within.ensures.room);
-      has_spare = λ _. nothing c.pop.new.self.items (grind (arith, nat_tests));
-      spare = λ name is. cc (ap (option_map (λ s. string_bytes s)) c.take.ensures.after, is);
+      has_spare = λ _. grind (arith, nat_tests);
+      supplied = subst (λ (x : Supply). IsSupplied x c.self.inside.info.stream) (sym c.take_copy.ensures.left) (none_supplied c.self.inside.supply c.self.inside.info.stream c.self.invariant.supplied);
+      spare = λ name is. cc (ap (λ (x : Supply). option_map (λ s. string_bytes s) x.copy) c.take_copy.ensures.left, is);
     })
 
-pub invariant_of-self-else-is_empty : goal.invariant_of-self-else-is_empty
-invariant_of-self-else-is_empty c =
+pub invariant_of-self-else-self-eq0 : goal.invariant_of-self-else-self-eq0
+invariant_of-self-else-self-eq0 c =
     let at = to_z w64 (of_z w64 c.max-at.result) in
     let fits : FitsSigned w64 c.max-at.result = search rules in
     let same : at ≡ c.max-at.result = to_z-of_z w64 c.max-at.result fits in
-    let items : c.self.inside.offsets.items ≡ c.pop.new.self.items ++ (c.unwrap-offset.result ∷ []) = c.pop.ensures.items ∙ ap (λ o. c.pop.new.self.items ++ option_to_list o) c.unwrap-offset.ensures in
-    ended_in c.self.inside _ at c.unwrap-offset.result c.self.invariant (record {
+    ended_in c.self.inside _ at c.self.invariant (record {
       form = c.end_within.ensures.form;
       later = subst (λ (t : ℤ). c.self.inside.latest ≤ℤ t) (sym same) (omega (arith, ints, c.max-at.ensures.self_bound));
       fits = subst (λ (t : ℤ). FitsSigned w64 t) (sym same) fits;
-      items = items;
+      num_open = omega (arith, some_open c.self.inside _ c.self.invariant c.self.view_is c.requires);
+      innermost = c.end_within.ensures.size;
+      small = search rules;
       bytes = search rules;
       num_scopes = refl;
       depth = refl;
       latest = refl;
       room = omega (arith, c.end_within.ensures.room);
-      has_spare = λ none. absurd (omega (arith, ap length (c.self.invariant.has_spare none), ap length items, length-append c.pop.new.self.items (c.unwrap-offset.result ∷ [])));
+      has_spare = λ none. absurd (omega (arith, c.self.invariant.has_spare none, some_open c.self.inside _ c.self.invariant c.self.view_is c.requires));
+      supplied = c.self.invariant.supplied;
       spare = c.self.invariant.spare;
     })
 
-pub returns-then-is_empty-clause-closed : goal.returns-then-is_empty-clause-closed
-returns-then-is_empty-clause-closed c =
-    let now = c.args.self.now in
-    let inside = c.self.inside in
+pub returns-then-self-eq0-clause-closed : goal.returns-then-self-eq0-clause-closed
+returns-then-self-eq0-clause-closed c =
     let at = to_z w64 (of_z w64 c.max-at.result) in
     let fits : FitsSigned w64 c.max-at.result = search rules in
     let same : at ≡ c.max-at.result = to_z-of_z w64 c.max-at.result fits in
-    let goes = ended_goes inside c.end_within.new.self.bytes c.pop.new.self.items at c.unwrap-offset.result c.self.invariant
-    (subst (λ (t : ℤ). inside.latest ≤ℤ t) (sym same) (omega (arith, ints, c.max-at.ensures.self_bound)))
-    (subst (λ (t : ℤ). FitsSigned w64 t) (sym same) fits)
-    (c.pop.ensures.items ∙ ap (λ o. c.pop.new.self.items ++ option_to_list o) c.unwrap-offset.ensures)
-    (search rules) in
-    let greatest : at ≡ int_max inside.latest c.args.now_ns = grind (arith, ints, clamps, to_z-of_z) in
-    let time : at ≡ time_of now c.args.now_ns = greatest ∙ ap (λ (t : Thread). int_max t.latest c.args.now_ns) c.self.view_is in
-    let word : events_in c.end_within.new.self.form c.end_within.new.self.bytes ≡ now.word ++ (Close (time_of now c.args.now_ns) ∷ []) = ap (λ (form : Form). events_in form c.end_within.new.self.bytes) c.end_within.ensures.form ∙ goes.word ∙ ap (λ (t : Thread). t.word ++ (Close at ∷ [])) c.self.view_is ∙ ap (λ (t : ℤ). now.word ++ (Close t ∷ [])) time in
-    same_thread _ _ (ap (λ (t : Thread). t.name) c.self.view_is) (c.end_within.ensures.form ∙ ap (λ (t : Thread). t.form) c.self.view_is) (closed_first inside.first_start _ now.word (time_of now c.args.now_ns) word ∙ ap (λ (t : Thread). option_or inside.first_start (first_open t.word)) (sym c.self.view_is) ∙ ap (λ (t : Thread). t.first_start) c.self.view_is) time word (ap (λ (t : Thread). t.details) c.self.view_is)
+    let time : at ≡ int_max c.self.inside.latest c.args.now_ns = grind (arith, ints, clamps, to_z-of_z) in
+    ended_thread c.self.inside c.end_within.new.self.form c.end_within.new.self.bytes at c.args.now_ns c.self.invariant c.end_within.ensures.form (subst (λ (t : ℤ). FitsSigned w64 t) (sym same) fits) time (some_open c.self.inside _ c.self.invariant c.self.view_is c.requires) (search rules)
+    ∙ ap (λ (t : Thread). after_end t c.args.now_ns) c.self.view_is
 
--- what holds of the value, where there is one
-if_some : {S : Type 0} (o : Option S) (P : S → Type 0) → ((x : S) → o ≡ Some x → P x) → IfSome o P
-if_some None P h = tt
-if_some (Some x) P h = h x refl
-
-pub returns-then-is_empty-clause-last : goal.returns-then-is_empty-clause-last
-returns-then-is_empty-clause-last c =
-    let items : c.self.inside.offsets.items ≡ c.pop.new.self.items ++ (c.unwrap-offset.result ∷ []) = c.pop.ensures.items ∙ ap (λ o. c.pop.new.self.items ++ option_to_list o) c.unwrap-offset.ensures in
-    let none : length c.pop.new.self.items ≡ 0 = grind (arith, nat_tests) in
-    let deep = depth_in c.self.inside c.self.invariant in
-    if_some c.take.result _ (λ name is. (
-      omega (arith, deep, ap (λ (t : Thread). open_after 0 t.word) c.self.view_is, ap length items, length-append c.pop.new.self.items (c.unwrap-offset.result ∷ []), none),
-      c.self.invariant.spare (string_bytes name) (ap (option_map (λ s. string_bytes s)) (sym c.take.ensures.value ∙ is)) ∙ ap (λ (t : Thread). t.name) c.self.view_is,
-    ))
-
-pub returns-else-is_empty-clause-closed : goal.returns-else-is_empty-clause-closed
-returns-else-is_empty-clause-closed c =
-    let now = c.args.self.now in
-    let inside = c.self.inside in
+pub returns-else-self-eq0-clause-closed : goal.returns-else-self-eq0-clause-closed
+returns-else-self-eq0-clause-closed c =
     let at = to_z w64 (of_z w64 c.max-at.result) in
     let fits : FitsSigned w64 c.max-at.result = search rules in
     let same : at ≡ c.max-at.result = to_z-of_z w64 c.max-at.result fits in
-    let goes = ended_goes inside c.end_within.new.self.bytes c.pop.new.self.items at c.unwrap-offset.result c.self.invariant
-    (subst (λ (t : ℤ). inside.latest ≤ℤ t) (sym same) (omega (arith, ints, c.max-at.ensures.self_bound)))
-    (subst (λ (t : ℤ). FitsSigned w64 t) (sym same) fits)
-    (c.pop.ensures.items ∙ ap (λ o. c.pop.new.self.items ++ option_to_list o) c.unwrap-offset.ensures)
-    (search rules) in
-    let greatest : at ≡ int_max inside.latest c.args.now_ns = grind (arith, ints, clamps, to_z-of_z) in
-    let time : at ≡ time_of now c.args.now_ns = greatest ∙ ap (λ (t : Thread). int_max t.latest c.args.now_ns) c.self.view_is in
-    let word : events_in c.end_within.new.self.form c.end_within.new.self.bytes ≡ now.word ++ (Close (time_of now c.args.now_ns) ∷ []) = ap (λ (form : Form). events_in form c.end_within.new.self.bytes) c.end_within.ensures.form ∙ goes.word ∙ ap (λ (t : Thread). t.word ++ (Close at ∷ [])) c.self.view_is ∙ ap (λ (t : ℤ). now.word ++ (Close t ∷ [])) time in
-    same_thread _ _ (ap (λ (t : Thread). t.name) c.self.view_is) (c.end_within.ensures.form ∙ ap (λ (t : Thread). t.form) c.self.view_is) (closed_first inside.first_start _ now.word (time_of now c.args.now_ns) word ∙ ap (λ (t : Thread). option_or inside.first_start (first_open t.word)) (sym c.self.view_is) ∙ ap (λ (t : Thread). t.first_start) c.self.view_is) time word (ap (λ (t : Thread). t.details) c.self.view_is)
-
-pub returns-else-is_empty-clause-inner : goal.returns-else-is_empty-clause-inner
-returns-else-is_empty-clause-inner c =
-    let items : c.self.inside.offsets.items ≡ c.pop.new.self.items ++ (c.unwrap-offset.result ∷ []) = c.pop.ensures.items ∙ ap (λ o. c.pop.new.self.items ++ option_to_list o) c.unwrap-offset.ensures in
-    let some : 0 < length c.pop.new.self.items = grind (arith, nat_tests) in
-    let deep = depth_in c.self.inside c.self.invariant in
-    omega (arith, deep, ap (λ (t : Thread). open_after 0 t.word) c.self.view_is, ap length items, length-append c.pop.new.self.items (c.unwrap-offset.result ∷ []), some)
+    let time : at ≡ int_max c.self.inside.latest c.args.now_ns = grind (arith, ints, clamps, to_z-of_z) in
+    ended_thread c.self.inside c.end_within.new.self.form c.end_within.new.self.bytes at c.args.now_ns c.self.invariant c.end_within.ensures.form (subst (λ (t : ℤ). FitsSigned w64 t) (sym same) fits) time (some_open c.self.inside _ c.self.invariant c.self.view_is c.requires) (search rules)
+    ∙ ap (λ (t : Thread). after_end t c.args.now_ns) c.self.view_is

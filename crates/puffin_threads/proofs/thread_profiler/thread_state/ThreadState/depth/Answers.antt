@@ -1,9 +1,7 @@
-use Rattle.std.proofs.Common.{ap, arith}
+use Rattle.std.proofs.Common.{ap, ◌∙◌}
 use Rattle.puffin_data.specs.Forest.Words.{open_after}
 use Rattle.puffin_threads.specs.Thread.Calls.{Thread}
-use Rattle.puffin_threads.proofs.ThreadStates.{depth_in}
 use Rattle.puffin_threads.proofs.thread_profiler.thread_state.ThreadState.depth.Goals as goal
 
 pub returns : goal.returns
-returns c =
-    omega (arith, depth_in c.self.inside c.self.invariant, ap (λ (t : Thread). open_after 0 t.word) c.self.view_is)
+returns c = c.self.invariant.num_open ∙ ap (λ (t : Thread). open_after 0 t.word) c.self.view_is

@@ -1,18 +1,18 @@
-use Rattle.std.proofs.Common.{◌∙◌, ap}
+use Rattle.std.proofs.Common.{◌∙◌, ◌+◌, ap, length, arith}
 use Rattle.puffin_data.specs.Forest.Words.{open_after}
 use Rattle.puffin_threads.specs.Thread.Calls.{Thread}
 use Rattle.std.specs.Option.{option_or}
 use Rattle.puffin_data.specs.declared.data.info.StreamInfo.{StreamInfo}
 use Rattle.puffin_threads.specs.inner.FirstStart.{first_open}
 use Rattle.puffin_threads.proofs.FirstStarts.{or_none}
-use Rattle.puffin_threads.proofs.ThreadStates.{first_in, cleared_in, none_in, none_open_in, same_thread}
+use Rattle.puffin_threads.proofs.ThreadStates.{first_in, cleared_in, none_in, none_innermost, none_open_in, same_thread, stays_supplied}
 use Rattle.puffin_threads.proofs.thread_profiler.thread_state.ThreadState.discard.Goals as goal
 
 pub invariant_of-self : goal.invariant_of-self
 invariant_of-self g =
     let h = g.self.invariant in
     let none = ap (λ (t : Thread). open_after 0 t.word) g.self.view_is ∙ g.requires in
-    cleared_in _ h.latest g.clear.ensures.honest (none_open_in g.self.inside h none) h.spare
+    cleared_in _ h.latest g.clear.ensures.honest (none_open_in g.self.inside h none) (none_innermost g.self.inside h (none_open_in g.self.inside h none)) (stays_supplied g.self.inside.supply g.self.inside.info.stream _ (omega (arith, ap (λ (i : StreamInfo). length i.stream.bytes + i.stream.room) g.complete.ensures.info, g.clear.ensures.room)) h.supplied) h.spare
 
 pub returns : goal.returns
 returns g =

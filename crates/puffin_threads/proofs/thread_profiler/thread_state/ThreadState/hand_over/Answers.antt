@@ -1,4 +1,4 @@
-use Rattle.std.proofs.Common.{rules, ◌≡◌, ℤ, Option, List, w64, FitsSigned, ◌∙◌, ap, sym, subst, string_bytes}
+use Rattle.std.proofs.Common.{rules, ◌≡◌, ℤ, Option, List, w64, FitsSigned, ◌∙◌, ◌+◌, ap, sym, subst, length, arith, string_bytes}
 use Rattle.std.proofs.lemmas.Int.{to_z-of_z}
 use Rattle.std.proofs.lemmas.Result.{err_from_is_err_and}
 use Rattle.puffin_data.specs.Honesty.{StreamFacts, AreHonestFacts, facts_of}
@@ -12,7 +12,7 @@ use Rattle.std.specs.Option.{option_or}
 use Rattle.puffin_data.specs.declared.data.info.StreamInfo.{StreamInfo}
 use Rattle.puffin_threads.proofs.FirstStarts.{or_none}
 use Rattle.puffin_threads.specs.Thread.Events.{events_in}
-use Rattle.puffin_threads.proofs.ThreadStates.{report_in, first_in, told_first, completed_in, cleared_in, none_in, none_open_in, same_thread}
+use Rattle.puffin_threads.proofs.ThreadStates.{report_in, first_in, told_first, completed_in, cleared_in, none_in, none_innermost, none_open_in, same_thread, stays_supplied}
 use Rattle.puffin_threads.proofs.thread_profiler.thread_state.ThreadState.hand_over.Goals as goal
 
 -- what was answered to a report is the same of equal parts
@@ -57,7 +57,9 @@ pub invariant_of-self-2 : goal.invariant_of-self-2
 invariant_of-self-2 g c =
     let h = c.self.invariant in
     let none = ap (λ (t : Thread). open_after 0 t.word) c.self.view_is ∙ c.requires.none_open in
-    cleared_in _ h.latest c.clear.ensures.honest (none_open_in c.self.inside h none) h.spare
+    let fits : FitsSigned w64 c.self.inside.latest = search rules in
+    let set : c.complete.new.info ≡ completed c.self.inside.info c.self.inside.latest = c.complete.ensures.info ∙ ap (completed c.self.inside.info) (to_z-of_z w64 c.self.inside.latest fits) in
+    cleared_in _ h.latest c.clear.ensures.honest (none_open_in c.self.inside h none) (none_innermost c.self.inside h (none_open_in c.self.inside h none)) (stays_supplied c.self.inside.supply c.self.inside.info.stream _ (omega (arith, ap (λ (i : StreamInfo). length i.stream.bytes + i.stream.room) set, c.clear.ensures.room)) h.supplied) h.spare
 
 pub returns-clause-ok : goal.returns-clause-ok
 returns-clause-ok g c =

@@ -1,7 +1,9 @@
-use Rattle.std.proofs.Common.{◌∙◌, ap, option_map, string_bytes}
+use Rattle.std.proofs.Common.{◌∙◌, ap, sym, subst, option_map, string_bytes}
 use Rattle.puffin_data.specs.Forest.Words.{open_after}
 use Rattle.puffin_threads.specs.Thread.Calls.{Thread}
-use Rattle.puffin_threads.proofs.ThreadStates.{none_open_in}
+use Rattle.puffin_threads.proofs.ThreadStates.{none_open_in, none_supplied}
+use Rattle.puffin_threads.specs.declared.thread_profiler.supply.Supply.{Supply}
+use Rattle.puffin_threads.specs.inner.Supplied.{IsSupplied}
 use Rattle.puffin_threads.proofs.thread_profiler.thread_state.ThreadState.name_for_report.Goals as goal
 
 pub invariant_of-self-2 : goal.invariant_of-self-2
@@ -12,8 +14,10 @@ invariant_of-self-2 c =
       scopes = h.scopes;
       counted = h.counted;
       in_order = h.in_order;
-      offsets = h.offsets;
+      num_open = h.num_open;
+      innermost = h.innermost;
       room = h.room;
       has_spare = λ _. none_open_in c.self.inside h (ap (λ (t : Thread). open_after 0 t.word) c.self.view_is ∙ c.requires);
-      spare = λ name is. cc (ap (option_map (λ s. string_bytes s)) c.take.ensures.after, is);
+      supplied = subst (λ (x : Supply). IsSupplied x c.self.inside.info.stream) (sym c.take_copy.ensures.left) (none_supplied c.self.inside.supply c.self.inside.info.stream h.supplied);
+      spare = λ name is. cc (ap (λ (x : Supply). option_map (λ s. string_bytes s) x.copy) c.take_copy.ensures.left, is);
     }

@@ -1,0 +1,13 @@
+-- The frame was kept, if it is among the slowest.
+use Rattle.std.proofs.Common.{[], refl, ◌∙◌, w64, arith}
+use Rattle.std.proofs.lemmas.Int.{ints, to_z-of_z}
+use Rattle.puffin_look.specs.OpenFrame.{open_of}
+use Rattle.puffin_look.proofs.SlowKept.{frame_kept}
+use Rattle.puffin_look.proofs.slow_frames.SlowFramesListing.add.Goals as goal
+
+pub returns-clause-ok : goal.returns-clause-ok
+returns-clause-ok c = (
+  [],
+  refl,
+  frame_kept c.args.self.now c.add_row.new.self (open_of c.args.frame.now) _ c.in_ok-text.ensures.ok (to_z-of_z w64 c.duration_ns.result (omega (arith, ints)) ∙ c.duration_ns.ensures) c.in_ok-add_row.ensures.rows c.in_ok-add_row.ensures.limit c.in_ok-add_row.ensures.known c.in_ok-add_row.ensures.wanted,
+)

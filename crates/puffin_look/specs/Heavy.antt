@@ -1,0 +1,78 @@
+-- The path of scopes that takes the most time.
+use Rattle.std.specs.Prelude.{ℕ, zero, suc, ◌-◌, Bool, true, nat_lt, nat_le, not, ◌&&◌, ◌==◌, List, [], ◌∷◌, ◌++◌, take, drop, length, codes, fold, map, sum_by, if◌then◌else◌, Option, Some, None}
+use Rattle.std.specs.List.{flat_map, list_any}
+use Rattle.std.specs.Str.{bytes_eq}
+use Rattle.puffin_view.specs.View.Stats.{cut}
+use Rattle.puffin_look.specs.Cells.{value_cell}
+use Rattle.puffin_look.specs.FrameTree.{indent}
+use Rattle.puffin_look.specs.Folded.{Part, parts_of, paths_in}
+use Rattle.puffin_look.specs.declared.cells.Value.TheVariants.{Time, Share}
+use Rattle.puffin_look.specs.declared.stacks.Times.{Times}
+
+-- ---- the times of paths
+
+-- the durations of the scopes with a path, and of those directly within them
+abbrev pub times_in : List Part → List ℕ → Times
+times_in all path = record {
+  whole = cut (sum_by (λ s. s.whole) (parts_of path all));
+  nested = cut (sum_by (λ s. s.nested) (parts_of path all));
+}
+
+abbrev pub Row : Type 0
+Row = List ℕ × Times
+
+-- each path once, in the order in which they are met
+abbrev pub path_rows : List Part → List Row
+path_rows all = map (λ path. (path, times_in all path)) (paths_in all)
+
+-- ---- a step
+
+-- a path, and the durations of its scopes together
+abbrev pub Step : Type 0
+Step = List ℕ × ℕ
+
+abbrev pub is_separator : ℕ → Bool
+is_separator byte = byte == 59
+
+-- a path that is one name behind this text
+abbrev pub is_directly_below : List ℕ → List ℕ → Bool
+is_directly_below front path =
+    bytes_eq (take (length front) path) front
+    && not (list_any is_separator (drop (length front) path))
+
+abbrev pub is_more : Option Step → ℕ → Bool
+is_more None time = true
+is_more (Some step) time = nat_lt step.1 time
+
+abbrev pub heavier : List ℕ → Option Step → Row → Option Step
+heavier front best row =
+    if is_directly_below front row.0 && is_more best row.1.whole then Some (row.0, row.1.whole)
+    else best
+
+-- the path directly below this text that takes the most time, and of equal ones the first
+abbrev pub heaviest : List ℕ → List Row → Option Step
+heaviest front rows = fold (heavier front) None rows
+
+-- ---- all steps
+
+-- at the top level always, and else if it takes half of the time of the scope around it
+abbrev pub is_followed : ℕ → ℕ → ℕ → Bool
+is_followed zero time outer = true
+is_followed (suc level) time outer = nat_le (outer - time) time
+
+-- its time, its share of what is around it, and its name, which is behind so many bytes of its path
+abbrev pub step_line : ℕ → ℕ → Step → ℕ → List ℕ
+step_line level front step outer =
+    flat_map value_cell (Time (Some step.1) ∷ Share step.1 outer ∷ [])
+    ++ (codes "  " ++ (indent level ++ (drop front step.0 ++ codes "\n")))
+
+abbrev pub text_with : (Step → List ℕ) → ℕ → ℕ → Option Step → List ℕ
+text_with next level outer None = []
+text_with next level outer (Some step) = if is_followed level step.1 outer then next step else []
+
+-- The line of the heaviest path below this text, and those of the steps behind it. The first argument limits how many.
+abbrev pub steps_text : ℕ → List Row → ℕ → List ℕ → ℕ → List ℕ
+steps_text zero rows level front outer = []
+steps_text (suc n) rows level front outer =
+    text_with (λ step. step_line level (length front) step outer
+    ++ steps_text n rows (suc level) (step.0 ++ codes ";") step.1) level outer (heaviest front rows)

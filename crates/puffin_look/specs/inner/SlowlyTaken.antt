@@ -1,0 +1,76 @@
+-- What the slowest frames take from frames, one after the other.
+use Rattle.std.specs.Prelude.{◌≡◌, ℕ, ℤ, List, [], ◌++◌, fold, map, take}
+use Rattle.std.proofs.Common.{refl, sym, ap, subst, ◌∙◌}
+use Rattle.std.proofs.lemmas.List.Sums.{fold-append}
+use denote.Ref.{Bor}
+use Rattle.puffin_data.specs.declared.error.Error.{Error}
+use Rattle.puffin_threads.specs.Details.Collection.{Collection}
+use Rattle.puffin_look.specs.OpenFrame.{OpenFrame}
+use Rattle.puffin_look.specs.Trees.{TreeFrame, IsRead, AreRead, AreUnread}
+use Rattle.puffin_look.specs.Wanted.{wanted_streams}
+use Rattle.puffin_look.specs.declared.wanted.Wanted.{Wanted}
+use Rattle.puffin_look.specs.Slowest.{with_row_by}
+use Rattle.puffin_look.specs.SlowFrames.{Slow, duration, slow_of, slow_text}
+use Rattle.puffin_look.specs.inner.Reads.{AreRead-append}
+use Rattle.puffin_look.specs.declared.slow_frames.SlowFrame.{SlowFrame}
+use Rattle.puffin_look.specs.declared.slow_frames.SlowFrames.{SlowFrames}
+
+abbrev pub held_duration : SlowFrame → ℤ
+held_duration row = row.duration_ns
+
+abbrev pub held_of : SlowFrame → Slow
+held_of row = (row.duration_ns, row.text.items)
+
+-- this is what is printed of a frame
+pub record ReadsSlow (known : Collection) (wanted : Wanted) (frame : OpenFrame) (text : List ℕ) : Type 0 where
+  pub tree : TreeFrame
+  pub read : IsRead (wanted_streams wanted) frame tree
+  pub is : text ≡ slow_text known tree
+
+-- only so many are kept
+abbrev pub keeping : ℕ → Collection → List Slow → TreeFrame → List Slow
+keeping n known rows tree = take n (with_row_by duration rows (slow_of known tree))
+
+-- these frames were read, the slowest were kept, and nothing was printed
+pub record TakesSlow (v : SlowFrames) (frames : List OpenFrame) (text : List ℕ) (u : SlowFrames) : Type 0 where
+  pub none : text ≡ []
+  pub trees : List TreeFrame
+  pub read : AreRead (wanted_streams v.wanted.now) frames trees
+  pub rows : map held_of u.rows.items
+      ≡ fold (keeping v.limit v.known.now) (map held_of v.rows.items) trees
+  pub limit : u.limit ≡ v.limit
+  pub known : u.known ≡ v.known
+  pub wanted : u.wanted ≡ v.wanted
+
+abbrev pub RefusesFrame : SlowFrames → OpenFrame → Error → Type 0
+RefusesFrame v frame cause = AreUnread (wanted_streams v.wanted.now frame) cause
+
+-- ---- laws
+
+pub slow_none : (v : SlowFrames) → TakesSlow v [] [] v
+slow_none v = record {
+  none = refl;
+  trees = [];
+  read = tt;
+  rows = refl;
+  limit = refl;
+  known = refl;
+  wanted = refl;
+}
+
+pub slow_more : (u v w : SlowFrames) (xs ys : List OpenFrame) (s t : List ℕ) → TakesSlow u xs s v →
+    TakesSlow v ys t w → TakesSlow u (xs ++ ys) (s ++ t) w
+slow_more u v w xs ys s t a b =
+    let wanted = ap (λ (w : Bor Wanted). w.now) a.wanted in
+    record {
+      none = ap (λ (r : List ℕ). r ++ t) a.none ∙ b.none;
+      trees = a.trees ++ b.trees;
+      read = AreRead-append (wanted_streams u.wanted.now) xs ys a.trees b.trees a.read (
+          subst (λ (w : Wanted). AreRead (wanted_streams w) ys b.trees) wanted b.read);
+      rows = b.rows
+          ∙ (λ i. fold (keeping (a.limit i) (a.known i).now) (a.rows i) b.trees)
+          ∙ sym (fold-append (keeping u.limit u.known.now) (map held_of u.rows.items) a.trees b.trees);
+      limit = b.limit ∙ a.limit;
+      known = b.known ∙ a.known;
+      wanted = b.wanted ∙ a.wanted;
+    }

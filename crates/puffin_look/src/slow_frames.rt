@@ -1,0 +1,200 @@
+//! Shows what takes the most time in the slowest frames of a file.
+
+ghost use Rattle.std.specs.Prelude.{◌≡◌, ◌++◌, ◌+◌, ◌⊎◌, ◌∷◌, [], ◌-ℤ◌, ℕ, List, ◌≤◌, length, map, take, insert, position, OnOk, IfOk, IfErr, Err};
+ghost use Rattle.std.specs.List.{flat_map};
+ghost use Rattle.puffin_data.specs.declared.error.Error.{Error};
+ghost use Rattle.puffin_data.specs.Device.{CanFail, TookNothing};
+ghost use Rattle.puffin_look.specs.OpenFrame.{open_of};
+ghost use Rattle.puffin_look.specs.Trees.{TreeFrame, IsRead, AreUnread};
+ghost use Rattle.puffin_look.specs.Wanted.{wanted_streams, RefusesTaken};
+ghost use Rattle.puffin_look.specs.Printed.{IsPrinted, IsStopped, IsCutOff};
+ghost use Rattle.puffin_look.specs.Slowest.{IsNoText, is_faster_by, with_row_by};
+ghost use Rattle.puffin_look.specs.SlowFrames.{head_text, slow_of, slow_text, AreSlowFrames};
+ghost use Rattle.puffin_look.specs.inner.SlowlyTaken.{held_duration, held_of, ReadsSlow};
+
+use crate::cells::push_readable;
+use crate::folded::Folding;
+use crate::heavy::push_steps;
+use crate::listing::{Listing, list_frames};
+use crate::overview::Overview;
+use crate::stacks::Stacks;
+use crate::text::push_count;
+use crate::top::length_of;
+use crate::wanted::Wanted;
+use puffin_data::data::{Drain, Source, write_all};
+use puffin_data::{FileError, NanoSecond, Result as Answer};
+use puffin_frames::frame_data::{FrameMeta, UnpackedFrameData};
+use puffin_threads::scope_details::ScopeCollection;
+use std::alloc::{AllocError, Global};
+
+/// A frame's duration, and what is printed of it.
+#[derive(Drop)]
+pub(crate) struct SlowFrame {
+    pub duration_ns: NanoSecond,
+    pub text: Vec<u8>,
+}
+
+/// Appends a frame's index, its duration and the number of its scopes.
+fn push_head(text: &mut Vec<u8>, meta: &FrameMeta) -> Result<(), AllocError>
+    ensures { OnOk result (text.new.items ≡ text.old.items ++ head_text meta.now) }
+{
+    push_count(text, b"frame ", meta.frame_index)?;
+    text.extend_from_slice(b": ")?;
+    push_readable(text, length_of(meta.range_ns))?;
+    push_count(text, b", scopes ", meta.num_scopes as u64)?;
+    text.extend_from_slice(b"\n")
+}
+
+/// Returns what is printed of a frame: its line, and those of the path of its wanted threads that takes the most time.
+fn text_of(
+    alloc: Global,
+    known: &ScopeCollection,
+    wanted: &Wanted,
+    frame: &UnpackedFrameData,
+) -> Answer<Vec<u8>>
+    ensures ok { IfOk result (λ text.
+        ReadsSlow known.now wanted.now (open_of frame.now) text.items) }
+    ensures err { IfErr result (λ e.
+        (e ≡ Error.Memory) ⊎ AreUnread (wanted_streams wanted.now (open_of frame.now)) e) }
+{
+    let mut folding = Folding {
+        stacks: Stacks::new(alloc, known),
+        wanted,
+        is_found: false,
+    };
+    folding.add(frame)?;
+    let mut text = Vec::new(alloc);
+    push_head(&mut text, &frame.meta)?;
+    push_steps(
+        &mut text,
+        &folding.stacks.rows,
+        length_of(frame.meta.range_ns),
+    )?;
+    Ok(text)
+}
+
+/// Returns the place of the first frame that is faster than this one, if there is one.
+fn first_faster(rows: &[SlowFrame], row: &SlowFrame) -> Option<usize>
+    ensures { result ≡ position (is_faster_by held_duration row.now) rows.now }
+{
+    rows.iter()
+        .position(|other| other.duration_ns < row.duration_ns)
+}
+
+/// Returns that place, or else the end.
+fn place_for(rows: &[SlowFrame], row: &SlowFrame) -> usize
+    ensures place { with_row_by held_duration rows.now row.now ≡ insert rows.now result row.now }
+    ensures within { result ≤ length rows.now }
+{
+    first_faster(rows, row).unwrap_or(rows.len())
+}
+
+/// The slowest frames so far, the slowest first.
+#[derive(Drop)]
+struct SlowFrames<'t> {
+    rows: Vec<SlowFrame>,
+    limit: usize,
+    known: &'t ScopeCollection,
+    wanted: &'t Wanted,
+}
+
+impl<'t> SlowFrames<'t> {
+    /// Adds a frame, and drops the fastest one if they are too many then.
+    fn add_row(&mut self, row: SlowFrame) -> Result<(), AllocError>
+        ensures rows { OnOk result (self.new.rows.items
+            ≡ take self.old.limit (with_row_by held_duration self.old.rows.items row)) }
+        ensures limit { OnOk result (self.new.limit ≡ self.old.limit) }
+        ensures known { OnOk result (self.new.known ≡ self.old.known) }
+        ensures wanted { OnOk result (self.new.wanted ≡ self.old.wanted) }
+    {
+        let place = place_for(&self.rows, &row);
+        self.rows.insert(place, row)?;
+        self.rows.truncate(self.limit);
+        Ok(())
+    }
+}
+
+impl<'t> Listing for SlowFrames<'t> {
+    ghost use Rattle.std.specs.Prelude.{[]};
+    ghost use Rattle.puffin_look.specs.inner.SlowlyTaken.{TakesSlow, RefusesFrame, slow_none, slow_more};
+
+    ghost text = { λ _. [] };
+
+    ghost takes = { TakesSlow };
+
+    ghost refuses = { RefusesFrame };
+
+    ghost takes_none = { slow_none };
+
+    ghost takes_more = { slow_more };
+
+    fn add(&mut self, frame: &UnpackedFrameData) -> Answer<()> {
+        let alloc = *self.rows.allocator();
+        let text = text_of(alloc, self.known, self.wanted, frame)?;
+        self.add_row(SlowFrame {
+            duration_ns: frame.duration_ns(),
+            text,
+        })?;
+        Ok(())
+    }
+
+    fn pending(&self) -> &[u8] {
+        &[]
+    }
+
+    fn clear(&mut self) {}
+}
+
+/// Returns the texts of frames.
+fn texts_of(alloc: Global, rows: &[SlowFrame]) -> Result<Vec<u8>, AllocError>
+    ensures { IfOk result (λ text. text.items ≡ flat_map (λ row. row.text.items) rows.now) }
+{
+    let mut text = Vec::new(alloc);
+    for row in rows {
+        text.extend_from_slice(&row.text)?;
+    }
+    Ok(text)
+}
+
+/// Prints the `limit` slowest of the wanted frames, the slowest first, and of equally slow frames the one that comes first in the
+/// file. For each there is a line with its index, its duration and the number of its scopes, and then the path of names that takes the
+/// most time, all wanted threads together: from the top level down, always the name whose scopes take the most of those directly
+/// within, as long as that is half of the time around it. Names and times are as in [`print_folded`](crate::print_folded).
+///
+/// Fails as [`print_folded`](crate::print_folded) does, and prints nothing then, except that a prefix is written if a write fails.
+pub fn print_slow_frames<S: Source, D: Drain>(
+    alloc: Global,
+    overview: &Overview,
+    source: &mut S,
+    drain: &mut D,
+    wanted: &Wanted,
+    limit: usize,
+) -> Result<(), FileError>
+    requires source { CanFail S.failures source.old }
+    requires drain { CanFail D.failures drain.old }
+    ensures ok { OnOk result (
+        IsPrinted (AreSlowFrames overview.now.details wanted.now limit) (S.remaining source.old)
+        (S.remaining source.new) (D.contents drain.old) (D.contents drain.new)) }
+    ensures err { IfErr result (λ e.
+        IsStopped IsNoText (RefusesTaken wanted.now) (S.remaining source.old)
+        (S.remaining source.new) (D.contents drain.old) (D.contents drain.new) e
+        ⊎ ((e ≡ FileError.Io)
+        × IsCutOff (AreSlowFrames overview.now.details wanted.now limit) (S.remaining source.old)
+        (S.remaining source.new) (D.contents drain.old) (D.contents drain.new))) }
+    // `Io` means that the reader or the writer failed in this call, or that the writer took no bytes.
+    ensures io { (result ≡ Err FileError.Io) → (S.failures source.new ≡ S.failures source.old + 1)
+        ⊎ ((D.failures drain.new ≡ D.failures drain.old + 1) ⊎ TookNothing D.takes drain.new) }
+    ensures failures { OnOk result (
+        (S.failures source.new ≡ S.failures source.old)
+        × (D.failures drain.new ≡ D.failures drain.old)) }
+{
+    let mut slow = SlowFrames {
+        rows: Vec::new(alloc),
+        limit,
+        known: &overview.details,
+        wanted,
+    };
+    list_frames(alloc, source, drain, wanted.frames, &mut slow)?;
+    let lines = texts_of(alloc, &slow.rows)?;
+    write_all(drain, &lines)
+}

@@ -1,0 +1,89 @@
+//! Prints the scopes of a file, or of two, by name.
+
+ghost use Rattle.std.specs.Prelude.{◌<◌, ◌^◌, ◌-◌};
+ghost use Rattle.puffin_data.specs.Device.Counting.{failed_calls, failed_reads};
+
+use crate::{Cause, LookFault, OUTPUT, Reader, fault_of, first_reading, open, reader, wanted_in};
+use puffin_data::FileError;
+use puffin_data::data::Counted;
+use puffin_look::{
+    By, Diff, Options, Overview, Top, Wanted, compare, print_diff, print_top, read_top,
+};
+use std::alloc::AllocError;
+use std::io::Stdout;
+
+/// Prints the scopes of a file by name.
+pub(crate) fn print(
+    rt: &HostRuntime,
+    overview: &Overview,
+    source: &mut Reader<'_>,
+    out: &mut Counted<Stdout>,
+    wanted: &Wanted,
+    options: Options,
+) -> Result<(), FileError>
+    requires source { failed_reads source.old < 2 ^ 64 - 1 }
+    requires out { failed_calls out.old < 2 ^ 64 - 1 }
+{
+    let mut top = read_top(rt.alloc(), overview, source, wanted, options.texts)?;
+    top.sort_by(
+        options.order.unwrap_or(By::Own),
+        options.limit.unwrap_or(usize::MAX),
+    )?;
+    print_top(rt.alloc(), out, &top)
+}
+
+/// Reads the scopes of the file at a path by name.
+fn top_of<'w>(
+    rt: &HostRuntime,
+    path: &'w str,
+    word: Option<&'w str>,
+    options: Options,
+) -> Result<Top, LookFault<'w>> {
+    let file = open(rt, path)?;
+    let overview = first_reading(rt, path, &file)?;
+    let wanted = wanted_in(rt, path, &file, options.frames, word)?;
+    let mut source = reader(rt, path, &file)?;
+    match read_top(rt.alloc(), &overview, &mut source, &wanted, options.texts) {
+        Ok(top) => Ok(top),
+        Err(error) => Err(fault_of(path, error, source.last_error(), None)),
+    }
+}
+
+/// Compares two files. Returns whether a time has grown by more than it may.
+fn compared(
+    rt: &HostRuntime,
+    old: &Top,
+    new: &Top,
+    options: Options,
+) -> Result<(Diff, bool), AllocError> {
+    let mut diff = compare(rt.alloc(), old, new)?;
+    let is_grown = match options.fail_above {
+        Some(percent) => diff.grows_above(percent),
+        None => false,
+    };
+    diff.sort(options.limit.unwrap_or(usize::MAX))?;
+    Ok((diff, is_grown))
+}
+
+/// Prints the scopes of the files at two paths by name. Fails if a time has grown by more than it may.
+pub(crate) fn diff<'w>(
+    rt: &HostRuntime,
+    old: &'w str,
+    new: &'w str,
+    word: Option<&'w str>,
+    options: Options,
+) -> Result<(), LookFault<'w>> {
+    let old = top_of(rt, old, word, options)?;
+    let newer = top_of(rt, new, word, options)?;
+    let Ok((diff, is_grown)) = compared(rt, &old, &newer, options) else {
+        return Err(LookFault::Memory);
+    };
+    let mut out = Counted::new(rt.stdout());
+    if let Err(error) = print_diff(rt.alloc(), &mut out, &diff) {
+        return Err(fault_of(OUTPUT, error, None, out.last_error()));
+    }
+    match options.fail_above {
+        Some(percent) if is_grown => Err(LookFault::At(new, Cause::Grown(percent))),
+        _ => Ok(()),
+    }
+}
