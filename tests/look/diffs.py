@@ -1,14 +1,18 @@
-"""Checks the table of two files' scopes that puffin-look prints against another reading of both: a file, and its first frames."""
+"""Checks what puffin-look prints of two files' scopes against another reading of both: a file, and its first frames."""
 
 import pathlib
 import subprocess
 import tempfile
 
-from . import listings, readings, selections, tops
+from . import forms, readings, selections, tops
 from .sources import Source
 
-COLUMNS = "old_own new_own own_change own_growth old_total new_total total_change total_growth old_calls new_calls name".split()
-WIDTHS = [11, 11, 12, 12, 11, 11, 12, 12, 13, 13]
+
+def times(what):
+    return {f"old_{what}": forms.TIME, f"new_{what}": forms.TIME, f"{what}_change": forms.CHANGE, f"{what}_growth": forms.GROWTH}
+
+
+COLUMNS = times("own") | times("total") | dict.fromkeys(("old_calls", "new_calls"), forms.HUNDREDTHS) | {"name": forms.TEXT}
 
 
 def beginning(source):
@@ -37,18 +41,13 @@ def parts_of(frames):
     return {name: tuple(it // count for it in it) for name, it in sums.items()}
 
 
-def signed(old, new, text):
-    return ("-" if new < old else "+" if old < new else "") + text
-
-
-def cells_of(old, new):
+def values_of(old, new):
     """What is printed of a name: of its own time, of the total, and of its calls."""
     for at in (0, 1):
-        yield from ("-" if it is None else tops.readable(it[at]) for it in (old, new))
+        yield from (None if it is None else it[at] for it in (old, new))
         before, after = (0 if it is None else it[at] for it in (old, new))
-        yield signed(before, after, tops.readable(abs(after - before)))
-        yield signed(before, after, tops.share(abs(after - before), before)) if before else "-"
-    yield from ("-" if it is None else f"{it[2] // 100:,}.{it[2] % 100:02}" for it in (old, new))
+        yield from (after - before, (after - before, before))
+    yield from (None if it is None else it[2] for it in (old, new))
 
 
 def change(old, new):
@@ -56,27 +55,30 @@ def change(old, new):
     return after - before
 
 
-def lines_of(old, new, limit):
+def rows_of(old, new, limit):
     before, after = parts_of(old), parts_of(new)
     pairs = [(name, before.get(name), after.get(name)) for name in dict.fromkeys([*before, *after])]
     for name, *pair in sorted(pairs, key=lambda it: -abs(change(*it[1:])))[:limit]:
-        yield "".join(f" {cell:>{width}}" for cell, width in zip(cells_of(*pair), WIDTHS)) + f"  {listings.escaped(name)}"
+        yield *values_of(*pair), name
 
 
 def faults_in_pair(program, old, new, limit, *words):
-    status, out, error = run(program, old, new, *words)
-    head, *lines = out.split("\n")[:-1]
-    wanted = [*lines_of(old.frames, new.frames, limit)]
-    return [] if (status, head.split(), lines, error) == (0, COLUMNS, wanted, "") else [f"{words}: {status} {error} {lines} instead of {wanted}"]
+    def show(*words):
+        status, out, error = run(program, old, new, *words)
+        if status or error:
+            raise OSError(f"status {status}, {error!r}")
+        return out
+
+    return forms.faults_in_rows(show, words, COLUMNS, rows_of(old.frames, new.frames, limit))
 
 
 def faults_at_limit(program, old, new, percent):
     """What differs in the status where times may grow by so many percent."""
     before, after = parts_of(old.frames), parts_of(new.frames)
     grown = any(change(before.get(name), it) * 100 > before.get(name, (0,))[0] * percent for name, it in after.items())
-    status, _, error = run(program, old, new, "--fail-above", f"{percent}%")
     told = f"puffin-look: new: own time in each frame grew by more than {percent}%\n" if grown else ""
-    return [] if (status, error) == (3 if grown else 0, told) else [f"{percent}%: {status} {error}"]
+    found = [run(program, old, new, "--fail-above", f"{percent}%", *words) for words in ([], ["--json"])]
+    return [f"{percent}%: {status} {error}" for status, _, error in found if (status, error) != (3 if grown else 0, told)]
 
 
 def faults_in_diffs(program, source):

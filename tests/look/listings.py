@@ -1,19 +1,16 @@
 """Checks the lists and the trees that puffin-look prints of a file against another reading of it, and a tree of 10,000 scopes
 with random names and texts, of all bytes."""
 
-import re
-
-from . import traces
+from . import forms, traces
+from .forms import differences, escaped, share
 from .sources import printed
 
-CONTROLS = re.compile(r"[\0-\x1f\x7f]")
+THREADS = dict.fromkeys(("frames", "scopes", "bytes"), forms.COUNT) | {"start": forms.MOMENT, "duration": forms.TIME, "thread": forms.TEXT}
+FRAMES = dict.fromkeys(("frame", "threads", "scopes"), forms.COUNT) | {"start": forms.MOMENT, "duration": forms.TIME}
+MOST = 2**64 - 1
 
 
 # ---- what has to be printed
-
-def escaped(text):
-    return CONTROLS.sub(lambda it: f"\\x{ord(it[0]):02x}", text)
-
 
 def order(thread):
     """Where a thread stands among others."""
@@ -21,30 +18,25 @@ def order(thread):
     return (start != "-", 0 if start == "-" else int(start), name.encode())
 
 
-def thread_lines(frames):
+def thread_rows(frames):
     found = {}
     for frame in frames:
         for it in frame.threads:
             found.setdefault(it.name, []).append(it)
     for name in sorted(found, key=order):
         its = found[name]
-        scopes, size = sum(it.count for it in its), sum(it.bytes for it in its)
+        scopes, size = min(MOST, sum(it.count for it in its)), sum(it.bytes for it in its)
         start, stop = min(it.start for it in its), max(it.stop for it in its)
-        yield f"frames {len(its)} scopes {scopes} bytes {size} range {start} {stop} thread {escaped(name)}"
+        yield len(its), scopes, size, start, stop - start, name
 
 
-def frame_line(it):
-    return f"frame {it.index} threads {len(it.threads)} scopes {it.count} range {it.start} {it.stop} duration {it.stop - it.start}"
+def frame_row(it):
+    return it.index, len(it.threads), it.count, it.start, it.stop - it.start
 
 
 def slowest(frames):
     """The slowest frames first, and of equally slow ones the first one."""
     return sorted(frames, key=lambda it: it.start - it.stop)
-
-
-def share(part, whole):
-    thousandths = part * 1000 // whole if whole else None
-    return "-" if thousandths is None else f"{thousandths // 10}.{thousandths % 10}%"
 
 
 def scope_lines(scopes, begin, whole, indent):
@@ -65,24 +57,23 @@ def tree_lines(frame, wanted=None):
 
 # ---- the checks
 
-def differences(printed_lines, wanted):
-    """The first lines that differ."""
-    found, wanted = printed_lines.split("\n"), [*wanted, ""]
-    pairs = [f"{a!r} instead of {b!r}" for a, b in zip(found, wanted) if a != b][:3]
-    return pairs or ([] if len(found) == len(wanted) else [f"{len(found)} lines instead of {len(wanted)}"])
-
-
 def faults_in_threads(program, source):
     """What differs in the list of threads."""
-    return differences(printed(program, source.data, "threads"), thread_lines(source.frames))
+    show = lambda *words: printed(program, source.data, "threads", *words)
+    return forms.faults_in_rows(show, [], THREADS, thread_rows(source.frames))
+
+
+def faults_in_some_frames(program, source, words, frames):
+    """What differs in the list of these frames."""
+    show = lambda *words: printed(program, source.data, "frames", *words)
+    return forms.faults_in_rows(show, words, FRAMES, map(frame_row, frames))
 
 
 def faults_in_frames(program, source):
     """What differs in the list of frames, and in those of the slowest."""
-    faults = differences(printed(program, source.data, "frames"), map(frame_line, source.frames))
+    faults = faults_in_some_frames(program, source, [], source.frames)
     for limit in range(len(source.frames) + 2):
-        wanted = map(frame_line, slowest(source.frames)[:limit])
-        faults += differences(printed(program, source.data, "frames", str(limit)), wanted)
+        faults += faults_in_some_frames(program, source, [str(limit)], slowest(source.frames)[:limit])
     return faults
 
 

@@ -15,7 +15,7 @@ import subprocess
 import tempfile
 import zlib
 
-from . import browser, tops, traces
+from . import browser, forms, tops, traces
 
 ROW, SLACK = 20, 0.01
 EVIL = [
@@ -178,7 +178,7 @@ def faults_in_bars(frames, at, bars):
 
 def shown(time):
     """A duration as a page has it, which says `µs` and no zeros at the end."""
-    number, unit = tops.readable(time).split()
+    number, unit = forms.readable(time).split()
     number = number.rstrip("0").rstrip(".") if "." in number else number
     return f"{number} {unit.replace('us', 'µs')}"
 

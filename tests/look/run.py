@@ -5,9 +5,10 @@
 A case is a folder in cases/ as those of tests/cli, which lists its files. SCRIPT is the script that builds and runs the
 program; it is run as the script of tests/cli is. EXAMPLE is the program of crates/example, which writes a file;
 another is of the Rust crate. On both each word of the program is run, and compared with another reading of the file: listings.py
-has the checks of lists and trees, traces.py of traces, folded.py of folded stacks, tops.py of scopes by name, slow_frames.py of the slowest frames, diffs.py of two files, selections.py of some
-frames and threads, pages.py of pages, in headless Chromium. tests/c runs the words on a file of a C
-program. The last line is 'N passed, M failed'.
+has the checks of lists and trees, traces.py of traces, folded.py of folded stacks, tops.py of scopes by name, slow_frames.py of the
+slowest frames, diffs.py of two files, selections.py of some frames and threads, pages.py of pages, in headless Chromium, progress.py
+of what stands on a terminal. forms.py makes the tables and JSON that the rows of a reading have, and extremes.py a file with odd
+names and numbers. tests/c runs the words on a file of a C program. The last line is 'N passed, M failed'.
 """
 
 import functools
@@ -17,7 +18,7 @@ import sys
 
 from .. import common
 from ..cli import run, starter
-from . import diffs, folded, listings, pages, selections, slow_frames, sources, tops, traces
+from . import diffs, extremes, folded, listings, pages, progress, selections, slow_frames, sources, tops, traces
 
 CASES = pathlib.Path(__file__).resolve().parent / "cases"
 
@@ -35,7 +36,9 @@ def checks(example):
     found = checks_of_file("the_rust_crate", sources.original)
     found += checks_of_file("the_example", functools.partial(sources.of_example, example)) if example else []
     found += [("the_readings_of_both", sources.faults_in_python)]
-    return found + list((traces.CHECKS_OF_NAMES | folded.CHECKS_OF_NAMES | listings.CHECKS_OF_NAMES | pages.CHECKS_OF_NAMES).items())
+    modules = (traces, folded, listings, extremes, pages)
+    found += [it for module in modules for it in module.CHECKS_OF_NAMES.items()]
+    return found + list(progress.CHECKS.items())
 
 
 def main():

@@ -1,6 +1,6 @@
 """Checks what puffin-look shows of some frames and threads against another reading of the same file, of which the others are left out."""
 
-from . import folded, listings, tops, traces
+from . import folded, forms, listings, tops, traces
 from .sources import printed
 
 
@@ -35,16 +35,14 @@ def faults_in_choice(program, source, indices, word):
     words = [*([word] if word else []), "--frames", f"{indices.start}..{indices.stop}"]
     faults = [] if folded.folded(program, source.data, *words) == folded.times_of(frames, None)[0] else [f"folded {words}"]
     rows, whole = tops.rows_of(frames, None, False), sum(it.stop - it.start for it in frames)
-    _, *lines = printed(program, source.data, "top", *words, "--by", "calls").split("\n")[:-1]
-    names = sorted(rows, key=lambda it: -len(rows[it][0]))
-    wanted = [tops.line_of(name, *rows[name], whole) for name in names]
-    return faults if lines == wanted else [*faults, f"top {words}: {lines} instead of {wanted}"]
+    wanted = (tops.row_of(name, *rows[name], whole) for name in sorted(rows, key=lambda it: -len(rows[it][0])))
+    show = lambda *words: printed(program, source.data, "top", *words)
+    return faults + forms.faults_in_rows(show, [*words, "--by", "calls"], tops.COLUMNS, wanted)
 
 
 def faults_in_some_frames(program, source, indices):
     frames, words = chosen(source.frames, indices), f"{indices.start}..{indices.stop}"
-    lines = map(listings.frame_line, frames)
-    faults = listings.differences(printed(program, source.data, "frames", words), lines)
+    faults = listings.faults_in_some_frames(program, source, [words], frames)
     return faults + traces.faults_in_events(frames, traces.trace_of(program, source.data, "--frames", words))
 
 

@@ -1,7 +1,10 @@
 """Checks what puffin-look shows of the slowest frames against another reading of the same file."""
 
-from . import folded, listings, selections, tops
+from . import folded, forms, listings, selections
 from .sources import printed
+
+FRAME = {"frame": forms.COUNT, "duration": forms.TIME, "scopes": forms.COUNT}
+STEP = {"time": forms.TIME, "share": forms.SHARE, "name": forms.TEXT}
 
 
 def add(times, front, forest):
@@ -27,22 +30,32 @@ def steps_of(frame):
 
 
 def lines_of(frame):
-    yield f"frame {frame.index}: {tops.readable(frame.stop - frame.start)}, scopes {frame.count}"
+    yield f"frame {frame.index}: {forms.readable(frame.stop - frame.start)}, scopes {frame.count:,}"
     for level, (name, time, outer) in enumerate(steps_of(frame)):
-        yield f" {tops.readable(time):>11} {tops.share(time, outer):>7}  {'  ' * level}{name}"
+        yield f" {forms.readable(time):>11} {forms.share(time, outer):>7}  {'  ' * level}{name}"
+
+
+def object_of(frame):
+    steps = [forms.object_of(STEP, (time, (time, outer), name)) for name, time, outer in steps_of(frame)]
+    return forms.object_of(FRAME, (frame.index, frame.stop - frame.start, frame.count)) | {"path": steps}
+
+
+def faults_in_paths(program, source, words, frames):
+    """What differs of these frames, in both forms."""
+    faults = forms.differences(printed(program, source.data, "slowest", *words), [line for it in frames for line in lines_of(it)])
+    objects = [object_of(it) for it in frames]
+    return faults + forms.differences_in_json(printed(program, source.data, "slowest", *words, "--json"), objects)
 
 
 def faults_in_slowest(program, source):
     """What differs in so many of the slowest frames, and in those among some."""
     faults = []
     for limit in [None, *range(len(source.frames) + 2)]:
-        wanted = [line for it in listings.slowest(source.frames)[: 5 if limit is None else limit] for line in lines_of(it)]
         words = [] if limit is None else [str(limit)]
-        faults += listings.differences(printed(program, source.data, "slowest", *words), wanted)
+        faults += faults_in_paths(program, source, words, listings.slowest(source.frames)[: 5 if limit is None else limit])
     for some in selections.ranges_in(source.frames):
-        wanted = [line for it in listings.slowest(selections.chosen(source.frames, some))[:2] for line in lines_of(it)]
-        found = printed(program, source.data, "slowest", "2", "--frames", f"{some.start}..{some.stop}")
-        faults += listings.differences(found, wanted)
+        frames = listings.slowest(selections.chosen(source.frames, some))[:2]
+        faults += faults_in_paths(program, source, ["2", "--frames", f"{some.start}..{some.stop}"], frames)
     return faults
 
 

@@ -71,7 +71,7 @@ def faults_in_events(frames, events):
 # ---- names of all bytes
 
 def number(n):
-    for least, mark, size in ((0, b"", 1), (251, b"\xfb", 2), (65536, b"\xfc", 4)):
+    for least, mark, size in ((0, b"", 1), (251, b"\xfb", 2), (65536, b"\xfc", 4), (2**32, b"\xfd", 8)):
         if n >= least:
             layout = mark + n.to_bytes(8, "little")[:size]
     return layout
@@ -85,17 +85,33 @@ def part(data, kind=b""):
     return struct.pack("<I", len(data)) + kind + data
 
 
+def signed(n):
+    return number(2 * n if n >= 0 else -2 * n - 1)
+
+
+def scope(ident, start, stop, text=b"", within=b""):
+    begin = struct.pack("<Iq", ident, start) + bytes([len(text)]) + text + struct.pack("<Q", len(within))
+    return b"(" + begin + within + b")" + struct.pack("<q", stop)
+
+
+def stream(start, name, scopes, count, first, last):
+    """A thread's scopes, which are said to be so many, from first to last."""
+    named = (b"\0" if start is None else b"\1" + signed(start)) + block(name.encode())
+    return named + block(scopes) + number(count) + number(1) + signed(first) + signed(last)
+
+
+def packet(index, start, stop, count, streams, names):
+    """A frame, which is said to have so many scopes. The names are of the scopes with the ids from 1 on."""
+    meta = number(index) + signed(start) + signed(stop) + number(sum(len(it[2]) for it in streams)) + number(count)
+    listed = number(len(streams)) + b"".join(stream(*it) for it in streams)
+    details = (b"\1" + number(at + 1) + b"\1" + block(name.encode()) + b"\0\0\0" for at, name in enumerate(names))
+    return b"PFD4" + part(meta) + part(listed, b"\0") + part(number(len(names)) + b"".join(details))
+
+
 def file_of(names, texts):
     """A file of one frame, in which the scope with each id has its name and text."""
-    stream = b"".join(
-        b"(" + struct.pack("<Iq", at + 1, at) + bytes([len(text)]) + text + bytes(8) + b")" + struct.pack("<q", at)
-        for at, text in enumerate(texts)
-    )
-    count, last = number(len(names)), number(2 * (len(names) - 1))
-    meta = number(0) + number(0) + last + number(len(stream)) + count
-    streams = number(1) + b"\0" + block(b"main") + block(stream) + count + number(1) + number(0) + last
-    details = b"".join(b"\1" + number(at + 1) + b"\1" + block(name.encode()) + b"\0\0\0" for at, name in enumerate(names))
-    return b"PUF0PFD4" + part(meta) + part(streams, b"\0") + part(count + details)
+    scopes, count, last = b"".join(scope(at + 1, at, at, text) for at, text in enumerate(texts)), len(names), len(names) - 1
+    return b"PUF0" + packet(0, 0, last, count, [(None, "main", scopes, count, 0, last)], names)
 
 
 def prefix(data):

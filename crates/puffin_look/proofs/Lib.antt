@@ -9,7 +9,12 @@ mod Indents
 mod Pushed
 mod Numbered
 mod Traced
+mod Lined
+mod JsonNumbers
+mod ObjectsMade
+mod Closings
 mod TracePrinted
+mod FramesPrinted
 mod TreesShown
 mod TreesPrinted
 mod Numbers

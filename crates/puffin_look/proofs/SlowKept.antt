@@ -1,7 +1,6 @@
 -- The slowest frames that are kept, and what is printed of them.
 use Rattle.std.proofs.Common.{◌≡◌, ℕ, zero, suc, ◌-ℤ◌, true, false, List, [], ◌∷◌, ◌++◌, Option, length, map, take, inl, refl, ap, subst, sym, ◌∙◌, append-nil}
 use Rattle.std.specs.Prelude.{fold, if◌then◌else◌}
-use Rattle.std.specs.List.{flat_map}
 use Rattle.std.specs.Io.KnownBytes.{Appends}
 use Rattle.std.proofs.KnownBytes.{Appends-trans}
 use denote.Ref.{Bor}
@@ -13,11 +12,13 @@ use Rattle.puffin_look.specs.Printed.{IsPrinted, IsStopped, IsCutOff}
 use Rattle.puffin_look.specs.Trees.{TreeFrame, IsRead, AreRead, AreUnread}
 use Rattle.puffin_look.specs.Wanted.{wanted_streams, RefusesTaken}
 use Rattle.puffin_look.specs.declared.wanted.Wanted.{Wanted}
-use Rattle.puffin_look.specs.FrameTree.{length_of}
+use Rattle.puffin_look.specs.Cells.{length_of}
 use Rattle.puffin_look.specs.Folded.{frame_parts, parts}
-use Rattle.puffin_look.specs.Heavy.{path_rows, steps_text}
+use Rattle.puffin_look.specs.Forms.{joined, list_text}
+use Rattle.puffin_look.specs.Heavy.{path_rows, step_lines}
+use Rattle.puffin_look.specs.declared.lines.Form.{Form}
 use Rattle.puffin_look.specs.Slowest.{IsNoText, is_faster_by, with_row_by}
-use Rattle.puffin_look.specs.SlowFrames.{Slow, duration, slow_of, head_text, slowest_first, AreSlowFrames}
+use Rattle.puffin_look.specs.SlowFrames.{Slow, duration, slow_of, head_text, between_steps, tail_text, slowest_first, AreSlowFrames}
 use Rattle.puffin_look.specs.inner.Foldings.{TakesStacks}
 use Rattle.puffin_look.specs.inner.Listings.{ListsAll, StopsListing}
 use Rattle.puffin_look.specs.inner.Stacks.{rows_of, with_part}
@@ -31,21 +32,21 @@ use Rattle.puffin_look.proofs.Stacked.{all_rows}
 
 -- ---- a frame
 
-module _ (v u : Folding) (known : Collection) (wanted : Wanted) (frame : OpenFrame) (text : List ℕ) (empty : rows_of v.stacks ≡ []) (details : v.stacks.known.now ≡ known) (same : v.wanted.now ≡ wanted)
-    (is : text ≡ head_text frame.meta ++ steps_text (length (rows_of u.stacks)) (rows_of u.stacks) 0 [] (length_of frame.meta.range_ns)) where
-  read_by : (trees : List TreeFrame) → AreRead (wanted_streams v.wanted.now) (frame ∷ []) trees → rows_of u.stacks ≡ fold with_part (rows_of v.stacks) (parts v.stacks.known.now trees) → ReadsSlow known wanted frame text
+module _ (form : Form) (v u : Folding) (known : Collection) (wanted : Wanted) (frame : OpenFrame) (text : List ℕ) (empty : rows_of v.stacks ≡ []) (details : v.stacks.known.now ≡ known) (same : v.wanted.now ≡ wanted)
+    (is : text ≡ head_text form frame.meta ++ (joined (between_steps form) false (step_lines form (length (rows_of u.stacks)) (rows_of u.stacks) 0 [] (length_of frame.meta.range_ns)) ++ tail_text form)) where
+  read_by : (trees : List TreeFrame) → AreRead (wanted_streams v.wanted.now) (frame ∷ []) trees → rows_of u.stacks ≡ fold with_part (rows_of v.stacks) (parts v.stacks.known.now trees) → ReadsSlow form known wanted frame text
   read_by [] h rows = absurd h
   read_by (t ∷ []) h rows =
       let all : rows_of u.stacks ≡ path_rows (frame_parts known t) = rows ∙ (λ i. fold with_part (empty i) (parts (details i) (t ∷ []))) ∙ all_rows (parts known (t ∷ [])) ∙ ap path_rows (append-nil (frame_parts known t)) in
       record {
         tree = t;
         read = subst (λ (w : Wanted). IsRead (wanted_streams w) frame t) same h.0;
-        is = is ∙ (λ i. head_text (sym h.0.meta i) ++ steps_text (length (all i)) (all i) 0 [] (length_of (sym h.0.meta i).range_ns));
+        is = is ∙ (λ i. head_text form (sym h.0.meta i) ++ (joined (between_steps form) false (step_lines form (length (all i)) (all i) 0 [] (length_of (sym h.0.meta i).range_ns)) ++ tail_text form));
       }
   read_by (t ∷ (s ∷ trees)) h rows = absurd h.1
 
   -- what is printed of a frame whose scopes were folded
-  pub slow_read : (more : List ℕ) → TakesStacks v (frame ∷ []) more u → ReadsSlow known wanted frame text
+  pub slow_read : (more : List ℕ) → TakesStacks v (frame ∷ []) more u → ReadsSlow form known wanted frame text
   slow_read more taken = read_by taken.trees taken.read taken.rows
 
 map_take : {X Y : Type 0} (f : X → Y) (n : ℕ) (xs : List X) → map f (take n xs) ≡ take n (map f xs)
@@ -61,10 +62,10 @@ map_with (first ∷ rows) row =
       | false ↦ ap (λ ys. held_of first ∷ ys) (map_with rows row)
     ]
 
-pub frame_kept : (old new : SlowFrames) (frame : OpenFrame) (row : SlowFrame) → ReadsSlow old.known.now old.wanted.now frame row.text.items → row.duration_ns ≡ frame.meta.range_ns.1 -ℤ frame.meta.range_ns.0 → new.rows.items ≡ take old.limit (with_row_by held_duration old.rows.items row)
-    → new.limit ≡ old.limit → new.known ≡ old.known → new.wanted ≡ old.wanted → TakesSlow old (frame ∷ []) [] new
-frame_kept old new frame row read time rows limit known wanted =
-    let slow : held_of row ≡ slow_of old.known.now read.tree = λ i. ((time ∙ (λ j. (sym read.read.meta j).range_ns.1 -ℤ (sym read.read.meta j).range_ns.0)) i, read.is i) in
+pub frame_kept : (old new : SlowFrames) (frame : OpenFrame) (row : SlowFrame) → ReadsSlow old.form old.known.now old.wanted.now frame row.text.items → row.duration_ns ≡ frame.meta.range_ns.1 -ℤ frame.meta.range_ns.0 → new.rows.items ≡ take old.limit (with_row_by held_duration old.rows.items row)
+    → new.limit ≡ old.limit → new.form ≡ old.form → new.known ≡ old.known → new.wanted ≡ old.wanted → TakesSlow old (frame ∷ []) [] new
+frame_kept old new frame row read time rows limit form known wanted =
+    let slow : held_of row ≡ slow_of old.form old.known.now read.tree = λ i. ((time ∙ (λ j. (sym read.read.meta j).range_ns.1 -ℤ (sym read.read.meta j).range_ns.0)) i, read.is i) in
     record {
       none = refl;
       trees = read.tree ∷ [];
@@ -72,23 +73,24 @@ frame_kept old new frame row read time rows limit known wanted =
       rows = ap (map held_of) rows ∙ map_take held_of old.limit (with_row_by held_duration old.rows.items row)
           ∙ ap (take old.limit) (map_with old.rows.items row ∙ ap (with_row_by duration (map held_of old.rows.items)) slow);
       limit = limit;
+      form = form;
       known = known;
       wanted = wanted;
     }
 
 -- ---- a file
 
-texts_held : (rows : List SlowFrame) → flat_map (λ (row : SlowFrame). row.text.items) rows ≡ flat_map (λ (slow : Slow). slow.1) (map held_of rows)
+texts_held : (rows : List SlowFrame) → map (λ (row : SlowFrame). row.text.items) rows ≡ map (λ (slow : Slow). slow.1) (map held_of rows)
 texts_held [] = refl
-texts_held (row ∷ rows) = ap (λ (t : List ℕ). row.text.items ++ t) (texts_held rows)
+texts_held (row ∷ rows) = ap (λ ts. row.text.items ∷ ts) (texts_held rows)
 
 take_none : (n : ℕ) (rows : List Slow) → rows ≡ [] → rows ≡ take n rows
 take_none zero [] e = refl
 take_none (suc n) [] e = refl
 take_none n (x ∷ rows) e = absurd (cc)
 
-pub kept_slow : (known : Collection) (n : ℕ) (trees : List TreeFrame) → fold (keeping n known) [] trees ≡ take n (slowest_first known trees)
-kept_slow known n trees = ap (λ (xs : List Slow). fold (keeping n known) xs trees) (take_none n [] refl) ∙ kept_by duration (slow_of known) n trees []
+pub kept_slow : (form : Form) (known : Collection) (n : ℕ) (trees : List TreeFrame) → fold (keeping n form known) [] trees ≡ take n (slowest_first form known trees)
+kept_slow form known n trees = ap (λ (xs : List Slow). fold (keeping n form known) xs trees) (take_none n [] refl) ∙ kept_by duration (slow_of form known) n trees []
 
 abbrev pub none : SlowFrames → List ℕ
 none v = []
@@ -120,16 +122,16 @@ module _ (old new : SlowFrames) (unread left before mid : Option (List ℕ)) whe
       outcome = inl (outside, ([], [], refl, quiet));
     }
 
-    module _ (empty : old.rows.items ≡ []) (k : Collection) (same : old.known.now ≡ k) (lines : List ℕ) (is : lines ≡ flat_map (λ (row : SlowFrame). row.text.items) new.rows.items) (after : Option (List ℕ)) where
-      are_lines : AreSlowFrames k wanted old.limit h.listed.frames lines
+    module _ (empty : old.rows.items ≡ []) (k : Collection) (same : old.known.now ≡ k) (lines : List ℕ) (is : lines ≡ list_text old.form [] (map (λ (row : SlowFrame). row.text.items) new.rows.items)) (after : Option (List ℕ)) where
+      are_lines : AreSlowFrames old.form k wanted old.limit h.listed.frames lines
       are_lines =
           let t = h.listed.taken in (
             t.trees,
             t.read,
-            is ∙ texts_held new.rows.items ∙ ap (flat_map (λ (slow : Slow). slow.1)) (t.rows ∙ (λ i. fold (keeping old.limit (same i)) (map held_of (empty i)) t.trees) ∙ kept_slow k old.limit t.trees),
+            is ∙ ap (list_text old.form []) (texts_held new.rows.items ∙ ap (map (λ (slow : Slow). slow.1)) (t.rows ∙ (λ i. fold (keeping old.limit old.form (same i)) (map held_of (empty i)) t.trees) ∙ kept_slow old.form k old.limit t.trees)),
           )
 
-      pub slow_printed : Appends mid after lines → IsPrinted (AreSlowFrames k wanted old.limit) unread left before after
+      pub slow_printed : Appends mid after lines → IsPrinted (AreSlowFrames old.form k wanted old.limit) unread left before after
       slow_printed app = record {
         stored = h.stored;
         took = h.took;
@@ -140,7 +142,7 @@ module _ (old new : SlowFrames) (unread left before mid : Option (List ℕ)) whe
         written = Appends-trans before mid after [] lines quiet app;
       }
 
-      pub slow_cut : WritesBeginning mid after lines → IsCutOff (AreSlowFrames k wanted old.limit) unread left before after
+      pub slow_cut : WritesBeginning mid after lines → IsCutOff (AreSlowFrames old.form k wanted old.limit) unread left before after
       slow_cut part = record {
         stored = h.stored;
         took = h.took;

@@ -1,7 +1,6 @@
 -- What is printed of the slowest frames.
 use Rattle.std.proofs.Common.{◌≡◌, ℕ, zero, suc, List, [], ◌∷◌, take, Option, None, inl, refl, ap, subst, ◌∙◌}
 use Rattle.std.specs.Prelude.{fold}
-use Rattle.std.specs.List.{flat_map}
 use Rattle.std.specs.Io.KnownBytes.{Appends}
 use Rattle.std.proofs.KnownBytes.{Appends-trans}
 use Rattle.puffin_data.specs.declared.error.Error.{Error}
@@ -9,10 +8,12 @@ use Rattle.puffin_data.specs.declared.file_error.FileError.{FileError}
 use Rattle.puffin_data.specs.Device.{IsOutside, WritesBeginning}
 use Rattle.puffin_look.specs.OpenFrame.{OpenFrame}
 use Rattle.puffin_look.specs.Printed.{IsPrinted, IsStopped, IsCutOff, RefusesNone}
-use Rattle.puffin_look.specs.Slowest.{row_of, row_line, with_row, AreSlowestLines, IsNoText}
+use Rattle.puffin_look.specs.FrameLines.{frame_row, frame_list}
+use Rattle.puffin_look.specs.Slowest.{with_row, AreSlowestFrames, IsNoText}
+use Rattle.puffin_look.specs.declared.lines.Form.{Form}
 use Rattle.puffin_look.specs.inner.Taken.{TakesRows}
 use Rattle.puffin_look.specs.inner.Listings.{ListsAll, StopsListing}
-use Rattle.puffin_look.specs.declared.slowest.Row.{Row}
+use Rattle.puffin_look.specs.declared.frames.FrameRow.{FrameRow}
 use Rattle.puffin_look.specs.declared.slowest.Slowest.{Slowest}
 use Rattle.puffin_look.proofs.Listed.{stopped}
 use Rattle.puffin_look.proofs.SlowestKept.{kept_all}
@@ -23,7 +24,7 @@ none v = []
 abbrev pub refused : Slowest → OpenFrame → Error → Type 0
 refused v frame cause = ⊥
 
-none_kept : (n : ℕ) (rows : List Row) → rows ≡ [] → rows ≡ take n rows
+none_kept : (n : ℕ) (rows : List FrameRow) → rows ≡ [] → rows ≡ take n rows
 none_kept zero [] e = refl
 none_kept (suc n) [] e = refl
 none_kept n (x ∷ rows) e = absurd (cc)
@@ -48,12 +49,12 @@ module _ (old new : Slowest) (unread left before mid : Option (List ℕ)) where
       outcome = inl (outside, ([], [], refl, quiet));
     }
 
-    module _ (empty : old.rows.items ≡ []) (lines : List ℕ) (is : lines ≡ flat_map row_line new.rows.items) (after : Option (List ℕ)) where
-      are_lines : AreSlowestLines old.limit h.listed.frames lines
+    module _ (form : Form) (empty : old.rows.items ≡ []) (lines : List ℕ) (is : lines ≡ frame_list form new.rows.items) (after : Option (List ℕ)) where
+      are_lines : AreSlowestFrames form old.limit h.listed.frames lines
       are_lines =
-          is ∙ ap (flat_map row_line) (h.listed.taken.rows ∙ ap (λ (rows : List Row). fold (λ rows frame. take old.limit (with_row rows (row_of frame))) rows h.listed.frames) (none_kept old.limit old.rows.items empty ∙ ap (take old.limit) empty) ∙ kept_all old.limit h.listed.frames [])
+          is ∙ ap (frame_list form) (h.listed.taken.rows ∙ ap (λ (rows : List FrameRow). fold (λ rows frame. take old.limit (with_row rows (frame_row frame))) rows h.listed.frames) (none_kept old.limit old.rows.items empty ∙ ap (take old.limit) empty) ∙ kept_all old.limit h.listed.frames [])
 
-      pub slowest_printed : Appends mid after lines → IsPrinted (AreSlowestLines old.limit) unread left before after
+      pub slowest_printed : Appends mid after lines → IsPrinted (AreSlowestFrames form old.limit) unread left before after
       slowest_printed app = record {
         stored = h.stored;
         took = h.took;
@@ -64,7 +65,7 @@ module _ (old new : Slowest) (unread left before mid : Option (List ℕ)) where
         written = Appends-trans before mid after [] lines quiet app;
       }
 
-      pub slowest_cut : WritesBeginning mid after lines → IsCutOff (AreSlowestLines old.limit) unread left before after
+      pub slowest_cut : WritesBeginning mid after lines → IsCutOff (AreSlowestFrames form old.limit) unread left before after
       slowest_cut part = record {
         stored = h.stored;
         took = h.took;

@@ -19,9 +19,10 @@ use Rattle.puffin_look.specs.Printed.{IsStopped}
 use Rattle.puffin_look.specs.Trees.{Entry, Tree, TreeFrame, AreSpelled, AreUnread, all_streams}
 use Rattle.puffin_look.specs.Wanted.{is_wanted, wanted_streams, RefusesTaken}
 use Rattle.puffin_look.specs.declared.wanted.Wanted.{Wanted}
-use Rattle.puffin_look.specs.FrameTree.{time_of, length_of}
+use Rattle.puffin_look.specs.FrameTree.{time_of}
 use Rattle.puffin_look.specs.Slowest.{IsNoText}
 use Rattle.puffin_look.specs.Top.{Piece, scope_name, inner_name, name_around, pieces_at, scope_pieces, forest_pieces, pieces, with_length, with_one, IsTop, StopsReading}
+use Rattle.puffin_look.specs.Cells.{length_of}
 use Rattle.puffin_look.specs.inner.Tallies.{Row, rows_in, rows_of, name_at, with_piece_in, HasMorePieces, pieces_more, TakesScopes, StandsFor}
 use Rattle.puffin_look.specs.inner.Tops.{StepsTally, TakesTallies, RefusesFrame, HaveTallies}
 use Rattle.puffin_look.specs.inner.Listings.{ListsAll, StopsListing}

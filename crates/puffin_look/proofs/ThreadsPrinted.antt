@@ -2,7 +2,6 @@
 use Rattle.std.proofs.Common.{◌≡◌, ℕ, List, [], ◌∷◌, ◌++◌, Option, None, Result, Ok, Err, ◌⊎◌, inl, inr, refl, ap, subst, sym, ◌∙◌, append-nil, true, false, true≢false}
 use Rattle.std.specs.Prelude.{fold, OnOk, IfErr}
 use Rattle.std.specs.FinMap as tree
-use Rattle.std.specs.List.{flat_map}
 use Rattle.std.specs.Io.KnownBytes.{Appends}
 use Rattle.std.proofs.KnownBytes.{Appends-trans}
 use Rattle.puffin_data.specs.declared.error.Error.{Error}
@@ -10,12 +9,12 @@ use Rattle.puffin_data.specs.declared.file_error.FileError.{FileError}
 use Rattle.puffin_data.specs.declared.file_error.FileError.TheVariants as file
 use Rattle.puffin_data.specs.Device.{IsOutside, WritesBeginning}
 use Rattle.puffin_frames.specs.Packet.Stored.{Stored}
-use Rattle.puffin_threads.specs.Thread.ThreadKey.{by_key, key_cmp}
-use Rattle.puffin_threads.proofs.lemmas.EntriesSeen.{entries-empty}
+use Rattle.puffin_threads.specs.Thread.ThreadKey.{by_key}
 use Rattle.puffin_view.specs.View.File.{file_at, TookFrames, FailsToRead}
 use Rattle.puffin_look.specs.OpenFrame.{OpenFrame, AreOpened}
 use Rattle.puffin_look.specs.Printed.{Begins, HasFaultBehind, IsRefused, IsPrinted, IsStopped, RefusesNone}
-use Rattle.puffin_look.specs.ThreadLines.{Totals, totals_of, thread_line, thread_lines, AreThreadLines}
+use Rattle.puffin_look.specs.ThreadLines.{Totals, totals_of, thread_list, IsThreadList}
+use Rattle.puffin_look.specs.declared.lines.Form.{Form}
 use Rattle.puffin_look.specs.inner.Taken.{TakesTotals, fails_outside}
 use Rattle.puffin_look.specs.inner.Listings.{ListsAll, StopsBehind, StopsListing}
 use Rattle.puffin_look.specs.declared.threads.Threads.{Threads}
@@ -42,7 +41,11 @@ module _ (old new : Threads) (unread left before mid : Option (List ℕ)) where
 
   abbrev pub Finished : Result (Unit {0}) FileError → List Stored → List OpenFrame → Type 0
   Finished (Ok x) stored frames = TookFrames file_at unread left stored
-  Finished (Err e) stored frames = IsOutside e ⊎ HasFaultBehind RefusesNone unread left stored frames e ⊎ (FailsToRead file_at unread left e × (stored ≡ []))
+  Finished (Err e) stored frames = IsOutside e ⊎ HasFaultBehind RefusesNone unread left stored frames e
+
+  -- the file doesn't begin with its letters
+  abbrev pub HasNoLetters : FileError → List Stored → Type 0
+  HasNoLetters e stored = FailsToRead file_at unread left e × (stored ≡ [])
 
   module _ (empty : by_key old.totals.entries ≡ tree.empty) where
     totals_read : (frames : List OpenFrame) (more : List ℕ) → TakesTotals old frames more new → by_key new.totals.entries ≡ totals_of frames
@@ -81,16 +84,16 @@ module _ (old new : Threads) (unread left before mid : Option (List ℕ)) where
         written = written;
       }
 
-      some_behind : (e ≡ file.Memory → ⊥) → (r : AreRead) × Finished (Err e) r.stored r.frames
+      pub some_behind : (e ≡ file.Memory → ⊥) → (r : AreRead) × Finished (Err e) r.stored r.frames
       some_behind not_memory = elim (h.outcome) [
         | inl out ↦ elim (out.2) [
           | inl memory ↦ absurd (not_memory memory)
           | inr same ↦ (read_of same (unwritten out.1), inl out.0)
         ]
-        | inr (inl next) ↦ (read_of next.1 (subst (Appends before mid) quiet next.0), inr (inl (inl (next.2, next.3, next.4))))
+        | inr (inl next) ↦ (read_of next.1 (subst (Appends before mid) quiet next.0), inr (inl (next.2, next.3, next.4)))
         | inr (inr added) ↦ elim (added.3) [
           | inl memory ↦ absurd (not_memory memory)
-          | inr (inl packed) ↦ (read_of (sym packed.1) (subst (Appends before mid) quiet added.0), inr (inl (inr (added.1, added.2, subst (λ (r : Result OpenFrame FileError). IsRefused RefusesNone h.listed.frames r e) (sym packed.0) refl))))
+          | inr (inl packed) ↦ (read_of (sym packed.1) (subst (Appends before mid) quiet added.0), inr (inr (added.1, added.2, subst (λ (r : Result OpenFrame FileError). IsRefused RefusesNone h.listed.frames r e) (sym packed.0) refl)))
           | inr (inr bad) ↦ absurd bad.5
         ]
       ]
@@ -103,8 +106,8 @@ module _ (old new : Threads) (unread left before mid : Option (List ℕ)) where
       ]
 
     module _ (e : FileError) where
-      pub some_read : StopsListing none TakesTotals refused None old new unread left before mid e → (e ≡ file.Memory → ⊥) → (r : AreRead) × Finished (Err e) r.stored r.frames
-      some_read (inl h) not_memory = some_behind e h not_memory
+      pub some_read : StopsListing none TakesTotals refused None old new unread left before mid e → (e ≡ file.Memory → ⊥) → (r : AreRead) × (Finished (Err e) r.stored r.frames ⊎ HasNoLetters e r.stored)
+      some_read (inl h) not_memory = let q = some_behind e h not_memory in (q.0, inl q.1)
       some_read (inr h) not_memory = (
         record {
           stored = [];
@@ -114,28 +117,20 @@ module _ (old new : Threads) (unread left before mid : Option (List ℕ)) where
           totals = ap (λ (v : Threads). by_key v.totals.entries) h.same ∙ empty;
           written = h.written;
         },
-        inr (inr (h.fails, refl)),
+        inr (h.fails, refl),
       )
 
       pub none_written : StopsListing none TakesTotals refused None old new unread left before mid e → Appends before mid []
       none_written (inl h) = none_behind e h
       none_written (inr h) = h.written
 
-  no_frames : (frames : List OpenFrame) → AreOpened [] frames → frames ≡ []
-  no_frames [] h = refl
-  no_frames (x ∷ xs) h = absurd h
-
-  no_lines : (stored : List Stored) (frames : List OpenFrame) → stored ≡ [] → AreOpened stored frames → thread_lines frames ≡ []
-  no_lines stored frames is opens =
-      ap thread_lines (no_frames frames (subst (λ (ss : List Stored). AreOpened ss frames) is opens)) ∙ ap (flat_map thread_line) (entries-empty key_cmp)
-
   -- ---- with the lines of these totals
 
-  module _ (r : AreRead) (after : Option (List ℕ)) where
-    pub lines_read : (lines : List ℕ) → lines ≡ flat_map thread_line (tree.entries (by_key new.totals.entries)) → lines ≡ thread_lines r.frames
-    lines_read lines is = is ∙ ap (λ (m : Totals). flat_map thread_line (tree.entries m)) r.totals
+  module _ (r : AreRead) (form : Form) (after : Option (List ℕ)) where
+    pub lines_read : (lines : List ℕ) → lines ≡ thread_list form (tree.entries (by_key new.totals.entries)) → lines ≡ thread_list form (tree.entries (totals_of r.frames))
+    lines_read lines is = is ∙ ap (λ (m : Totals). thread_list form (tree.entries m)) r.totals
 
-    pub printed : (lines : List ℕ) → lines ≡ thread_lines r.frames → TookFrames file_at unread left r.stored → Appends mid after lines → IsPrinted AreThreadLines unread left before after
+    pub printed : (lines : List ℕ) → lines ≡ thread_list form (tree.entries (totals_of r.frames)) → TookFrames file_at unread left r.stored → Appends mid after lines → IsPrinted (IsThreadList form) unread left before after
     printed lines is took app = record {
       stored = r.stored;
       took = took;
@@ -146,7 +141,7 @@ module _ (old new : Threads) (unread left before mid : Option (List ℕ)) where
       written = Appends-trans before mid after [] lines r.written app;
     }
 
-    pub told : (e : FileError) (lines : List ℕ) → lines ≡ thread_lines r.frames → Finished (Err e) r.stored r.frames → Appends mid after lines → IsStopped AreThreadLines RefusesNone unread left before after e
+    pub told : (e : FileError) (lines : List ℕ) → lines ≡ thread_list form (tree.entries (totals_of r.frames)) → Finished (Err e) r.stored r.frames → Appends mid after lines → IsStopped (IsThreadList form) RefusesNone unread left before after e
     told e lines is finished app =
         let written : Appends before after lines = Appends-trans before mid after [] lines r.written app in
         record {
@@ -158,32 +153,31 @@ module _ (old new : Threads) (unread left before mid : Option (List ℕ)) where
           is = is;
           outcome = elim finished [
             | inl outside ↦ inl (outside, (lines, [], sym (append-nil lines), written))
-            | inr (inl fault) ↦ inr (inl (written, fault))
-            | inr (inr letters) ↦ inr (inr (letters.0, letters.1, subst (Appends before after) (is ∙ no_lines r.stored r.frames letters.1 r.opens) written))
+            | inr fault ↦ inr (inl (written, fault))
           ];
         }
 
-    pub told_cut : (e : FileError) → IsOutside e → WritesBeginning mid after (thread_lines r.frames) → IsStopped AreThreadLines RefusesNone unread left before after e
+    pub told_cut : (e : FileError) → IsOutside e → WritesBeginning mid after (thread_list form (tree.entries (totals_of r.frames))) → IsStopped (IsThreadList form) RefusesNone unread left before after e
     told_cut e outside part = record {
       stored = r.stored;
       begins = r.begins;
       frames = r.frames;
       opens = r.opens;
-      text = thread_lines r.frames;
+      text = thread_list form (tree.entries (totals_of r.frames));
       is = refl;
       outcome = inl (outside, (part.0, part.1, part.2, Appends-trans before mid after [] part.0 r.written part.3));
     }
 
   -- nothing is told where the reader or memory failed
-  pub told_nothing : (e : FileError) → IsOutside e → Appends before mid [] → IsStopped AreThreadLines RefusesNone unread left before mid e
-  told_nothing e outside unchanged = record {
+  pub told_nothing : (form : Form) (e : FileError) → IsOutside e → Appends before mid [] → IsStopped (IsThreadList form) RefusesNone unread left before mid e
+  told_nothing form e outside unchanged = record {
     stored = [];
     begins = inl refl;
     frames = [];
     opens = tt;
-    text = thread_lines [];
+    text = thread_list form (tree.entries (totals_of []));
     is = refl;
-    outcome = inl (outside, ([], thread_lines [], refl, unchanged));
+    outcome = inl (outside, ([], thread_list form (tree.entries (totals_of [])), refl, unchanged));
   }
 
 pub outside_of : (e : FileError) → fails_outside {X = Unit {0}} (Err e) ≡ true → IsOutside e
@@ -215,10 +209,10 @@ module _ (old new : Threads) (unread left before mid : Option (List ℕ)) (empty
   silent (Ok x) h = (all_read old new unread left before mid empty h.0).0.written
   silent (Err e) h = none_written old new unread left before mid empty e h.1
 
-  pub told_outside : (r : Result (Unit {0}) FileError) → fails_outside r ≡ true → Ends r → IfErr r (IsStopped AreThreadLines RefusesNone unread left before mid)
+  pub told_outside : (form : Form) (r : Result (Unit {0}) FileError) → fails_outside r ≡ true → Ends r → IfErr r (IsStopped (IsThreadList form) RefusesNone unread left before mid)
   unfolding Ends
-  told_outside (Ok x) h s = tt
-  told_outside (Err e) h s = told_nothing old new unread left before mid e (outside_of e h) (none_written old new unread left before mid empty e s.1)
+  told_outside form (Ok x) h s = tt
+  told_outside form (Err e) h s = told_nothing old new unread left before mid form e (outside_of e h) (none_written old new unread left before mid empty e s.1)
 
   pub read_anyway : (r : Result (Unit {0}) FileError) → fails_outside r ≡ false → Ends r → AreRead old new unread left before mid
   unfolding Ends
@@ -234,23 +228,23 @@ module _ (old new : Threads) (unread left before mid : Option (List ℕ)) (empty
       let q = some_read old new unread left before mid empty e s.1 (not_memory e h) in (
         q.0,
         elim (q.1) [
-          | inl outside ↦ absurd (not_outside e h outside)
-          | inr fault ↦ inr (e, fault)
+          | inl (inl outside) ↦ absurd (not_outside e h outside)
+          | inl (inr fault) ↦ inr (e, inl fault)
+          | inr letters ↦ inr (e, inr letters)
         ],
       )
 
-  module _ (after : Option (List ℕ)) (lines : List ℕ) (is : lines ≡ flat_map thread_line (tree.entries (by_key new.totals.entries))) where
-    pub all_printed : (r : Result (Unit {0}) FileError) → Ends r → Appends mid after lines → OnOk r (IsPrinted AreThreadLines unread left before after)
+  module _ (form : Form) (after : Option (List ℕ)) (lines : List ℕ) (is : lines ≡ thread_list form (tree.entries (by_key new.totals.entries))) where
+    pub all_printed : (r : Result (Unit {0}) FileError) → Ends r → Appends mid after lines → OnOk r (IsPrinted (IsThreadList form) unread left before after)
     unfolding Ends
-    all_printed (Ok x) s app = let q = all_read old new unread left before mid empty s.0 in printed old new unread left before mid q.0 after lines (lines_read old new unread left before mid q.0 after lines is) q.1 app
+    all_printed (Ok x) s app = let q = all_read old new unread left before mid empty s.0 in printed old new unread left before mid q.0 form after lines (lines_read old new unread left before mid q.0 form after lines is) q.1 app
     all_printed (Err e) s app = tt
 
-    pub all_told : (r : Result (Unit {0}) FileError) → fails_outside r ≡ false → Ends r → Appends mid after lines → IfErr r (IsStopped AreThreadLines RefusesNone unread left before after)
-    unfolding Ends
+    pub all_told : (r : Result (Unit {0}) FileError) → fails_outside r ≡ false → IfErr r (StopsBehind none TakesTotals refused None old new unread left before mid) → Appends mid after lines → IfErr r (IsStopped (IsThreadList form) RefusesNone unread left before after)
     all_told (Ok x) h s app = tt
-    all_told (Err e) h s app = let q = some_read old new unread left before mid empty e s.1 (not_memory e h) in told old new unread left before mid q.0 after e lines (lines_read old new unread left before mid q.0 after lines is) q.1 app
+    all_told (Err e) h s app = let q = some_behind old new unread left before mid empty e s (not_memory e h) in told old new unread left before mid q.0 form after e lines (lines_read old new unread left before mid q.0 form after lines is) q.1 app
 
-    pub cut_told : (r : Result (Unit {0}) FileError) (e : FileError) → fails_outside r ≡ false → Ends r → e ≡ file.Io → WritesBeginning mid after lines → IsStopped AreThreadLines RefusesNone unread left before after e
+    pub cut_told : (r : Result (Unit {0}) FileError) (e : FileError) → fails_outside r ≡ false → Ends r → e ≡ file.Io → WritesBeginning mid after lines → IsStopped (IsThreadList form) RefusesNone unread left before after e
     cut_told r e h s io part =
         let q = read_anyway r h s in
-        told_cut old new unread left before mid q after e (inl io) (subst (WritesBeginning mid after) (lines_read old new unread left before mid q after lines is) part)
+        told_cut old new unread left before mid q form after e (inl io) (subst (WritesBeginning mid after) (lines_read old new unread left before mid q form after lines is) part)

@@ -1,8 +1,7 @@
 -- The totals of threads, stream by stream, and their lines.
-use Rattle.std.proofs.Common.{◌≡◌, ℕ, List, [], ◌∷◌, ◌++◌, map, Option, Some, None, refl, ap, sym, ◌∙◌, append_assoc, append-nil}
+use Rattle.std.proofs.Common.{◌≡◌, ℕ, List, [], ◌∷◌, ◌++◌, map, Option, Some, None, refl, ap, subst, sym, ◌∙◌}
 use Rattle.std.specs.Prelude.{fold, unwrap_or}
 use Rattle.std.specs.Option.{option_map}
-use Rattle.std.specs.List.{flat_map}
 use Rattle.std.specs.FinMap as tree
 use Rattle.std.specs.Map.{keys_of, lookup}
 use Rattle.std.specs.BTreeMap.{is_at, insert_entry}
@@ -15,7 +14,12 @@ use Rattle.puffin_threads.proofs.lemmas.EntriesSeen.{get-seen}
 use Rattle.puffin_frames.specs.Frame.Contents.{shared_streams}
 use Rattle.puffin_frames.proofs.lemmas.Keyed.{by_key-insert, entries-by_key}
 use Rattle.puffin_look.specs.declared.threads.ThreadTotals.{ThreadTotals}
-use Rattle.puffin_look.specs.ThreadLines.{Totals, no_totals, totals_with, with_stream, thread_line}
+use Rattle.puffin_look.specs.Forms.{opening, closing, lines_text}
+use Rattle.puffin_look.specs.ThreadLines.{Totals, no_totals, totals_with, with_stream, thread_line, head_line, thread_list}
+use Rattle.puffin_look.specs.declared.lines.Form.{Form}
+use Rattle.puffin_look.specs.declared.lines.Lines.{Lines}
+use Rattle.puffin_look.specs.inner.Lining.{Adds}
+use Rattle.puffin_look.proofs.Lined.{Lists, lists_more, lists_done, list_closed}
 use Rattle.puffin_look.proofs.HeldStreams.{Held, entry_of, entries_held}
 
 same_option : {X : Type 0} (o : Option X) → option_map (λ x. x) o ≡ o
@@ -46,12 +50,15 @@ all_added old new all it none so_far sorted =
 abbrev Entry : Type 0
 Entry = ThreadInfo × ThreadTotals
 
-pub line_more : (before after : List ℕ) (k : ThreadInfo) (t : ThreadTotals) (rest it : List Entry) (total : List ℕ) → it ≡ (k, t) ∷ rest → after ≡ before ++ thread_line (key_of k, t) → before ++ flat_map thread_line (key_entries it) ≡ total
-    → after ++ flat_map thread_line (key_entries rest) ≡ total
-line_more before after k t rest it total left step so_far =
-    let others = flat_map thread_line (key_entries rest) in
-    ap (λ (x : List ℕ). x ++ others) step ∙ append_assoc before (thread_line (key_of k, t)) others ∙ ap (λ (es : List Entry). before ++ flat_map thread_line (key_entries es)) (sym left) ∙ so_far
+pub line_more : (form : Form) (old new : Lines) (k : ThreadInfo) (t : ThreadTotals) (rest it : List Entry) (total : List ℕ) → it ≡ (k, t) ∷ rest → Adds old new (thread_line form (key_of k, t))
+    → Lists old (map (thread_line form) (key_entries it)) total → Lists new (map (thread_line form) (key_entries rest)) total
+line_more form old new k t rest it total left added so_far =
+    lists_more old new (thread_line form (key_of k, t)) (map (thread_line form) (key_entries rest)) total added
+    (subst (λ (es : List Entry). Lists old (map (thread_line form) (key_entries es)) total) left so_far)
 
-pub lines_done : (text : List ℕ) (all it : List Entry) → it ≡ [] → text ++ flat_map thread_line (key_entries it) ≡ flat_map thread_line (key_entries all) → IsStrictlySortedBy thread_cmp (keys_of all) → text ≡ flat_map thread_line (tree.entries (by_key all))
-lines_done text all it none so_far sorted =
-    sym (append-nil text) ∙ sym (ap (λ (es : List Entry). text ++ flat_map thread_line (key_entries es)) none) ∙ so_far ∙ ap (flat_map thread_line) (sym (entries-by_key all sorted))
+pub lines_done : (form : Form) (lines : Lines) (text : List ℕ) (all it : List Entry) → it ≡ [] → Lists lines (map (thread_line form) (key_entries it)) (opening form head_line ++ lines_text form (map (thread_line form) (key_entries all)))
+    → text ≡ lines.text.items ++ closing form → IsStrictlySortedBy thread_cmp (keys_of all) → text ≡ thread_list form (tree.entries (by_key all))
+lines_done form lines text all it none so_far is sorted =
+    list_closed form head_line (map (thread_line form) (key_entries all)) lines text
+    (lists_done lines _ _ (ap (λ (es : List Entry). map (thread_line form) (key_entries es)) none) so_far) is
+    ∙ ap (thread_list form) (sym (entries-by_key all sorted))

@@ -1,13 +1,15 @@
 -- The cells of a table, as a person reads them.
-use Rattle.std.specs.Prelude.{ℕ, zero, suc, ◌+◌, ◌-◌, ◌/◌, ◌%◌, nat_lt, ◌==◌, List, [], ◌∷◌, ◌++◌, length, codes, replicate, if◌then◌else◌, Some, None}
+use Rattle.std.specs.Prelude.{ℕ, zero, suc, ℤ, pos, negsuc, ◌-ℤ◌, unsigned_abs, ◌+◌, ◌-◌, ◌*◌, ◌/◌, ◌%◌, nat_lt, ◌==◌, List, [], ◌∷◌, ◌++◌, length, codes, replicate, if◌then◌else◌, Option, Some, None}
 use Rattle.std.specs.Fmt.{decimal}
+use Rattle.std.specs.List.{flat_map}
 use Rattle.puffin_look.specs.Escapes.{escaped}
-use Rattle.puffin_look.specs.FrameTree.{share_text}
-use Rattle.puffin_look.specs.Trace.{digit}
-use Rattle.puffin_look.specs.declared.cells.Value.{Value}
-use Rattle.puffin_look.specs.declared.cells.Value.TheVariants.{Number, Hundredths, Time, Share, Change, Growth}
+use Rattle.puffin_look.specs.declared.rows.Value.{Value}
+use Rattle.puffin_look.specs.declared.rows.Value.TheVariants.{Number, Moment, Hundredths, Time, Share, Change, Growth}
 
 -- ---- numbers
+
+abbrev pub digit : ℕ → ℕ
+digit n = 48 + n % 10
 
 -- what stands before so many digits
 abbrev pub comma : ℕ → List ℕ
@@ -18,6 +20,10 @@ comma (suc n) = if suc n % 3 == 0 then codes "," else []
 abbrev pub grouped : List ℕ → List ℕ
 grouped [] = []
 grouped (byte ∷ bytes) = byte ∷ (comma (length bytes) ++ grouped bytes)
+
+abbrev pub grouped_moment : ℤ → List ℕ
+grouped_moment (pos n) = grouped (decimal n)
+grouped_moment (negsuc n) = codes "-" ++ grouped (decimal (suc n))
 
 -- hundredths of a unit, with two digits behind the point
 abbrev pub in_hundredths : ℕ → List ℕ → List ℕ
@@ -30,6 +36,16 @@ readable_time time =
     if nat_lt time 1000000 then in_hundredths (time / 10) (codes " us") else
     if nat_lt time 1000000000 then in_hundredths (time / 10000) (codes " ms") else
     in_hundredths (time / 10000000) (codes " s")
+
+-- in percent, with a digit behind the point, rounded down; of nothing there is no share
+abbrev pub share_text : ℕ → ℕ → List ℕ
+share_text part zero = codes "-"
+share_text part (suc n) =
+    let share = part * 1000 / suc n in decimal (share / 10) ++ (46 ∷ digit share ∷ 37 ∷ [])
+
+-- how long a range is
+abbrev pub length_of : ℤ × ℤ → ℕ
+length_of range = unsigned_abs (range.1 -ℤ range.0)
 
 -- ---- changes
 
@@ -55,6 +71,7 @@ cell width text = codes " " ++ (replicate (width - length text) 32 ++ text)
 
 abbrev pub value_text : Value → List ℕ
 value_text (Number n) = grouped (decimal n)
+value_text (Moment time) = grouped_moment time
 value_text (Hundredths (Some n)) = in_hundredths n []
 value_text (Hundredths None) = codes "-"
 value_text (Time (Some time)) = readable_time time
@@ -65,6 +82,7 @@ value_text (Growth old new) = growth_text old new
 
 abbrev pub width_of : Value → ℕ
 width_of (Number n) = 13
+width_of (Moment time) = 26
 width_of (Hundredths n) = 13
 width_of (Time time) = 11
 width_of (Share part whole) = 7
@@ -74,6 +92,23 @@ width_of (Growth old new) = 12
 abbrev pub value_cell : Value → List ℕ
 value_cell v = cell (width_of v) (value_text v)
 
+-- ---- a row
+
+-- a column's name, and what a row has in it
+abbrev pub Cell : Type 0
+Cell = List ℕ × Value
+
+-- the name of the last column, and the bytes that a row has in it
+abbrev pub Name : Type 0
+Name = List ℕ × List ℕ
+
+abbrev pub row_cell : Cell → List ℕ
+row_cell c = value_cell c.1
+
 -- a name, with escapes for control characters, at the end of its line
-abbrev pub name_end : List ℕ → List ℕ
-name_end name = codes "  " ++ (escaped name ++ codes "\n")
+abbrev pub row_end : Option Name → List ℕ
+row_end None = codes "\n"
+row_end (Some name) = codes "  " ++ (escaped name.1 ++ codes "\n")
+
+abbrev pub row_line : List Cell → Option Name → List ℕ
+row_line cells name = flat_map row_cell cells ++ row_end name

@@ -1,38 +1,43 @@
--- The line of each frame of a file.
-use Rattle.std.specs.Prelude.{◌≡◌, ℕ, ℤ, ◌-ℤ◌, List, ◌++◌, codes, Option}
-use Rattle.std.specs.Fmt.{decimal, signed_decimal}
-use Rattle.std.specs.FinMap as map
-use Rattle.std.specs.List.{flat_map}
-use Rattle.puffin_frames.specs.declared.frame_data.meta.FrameMeta.{FrameMeta}
+-- The list of the frames of a file.
+use Rattle.std.specs.Prelude.{◌≡◌, ℕ, ◌-ℤ◌, List, [], ◌∷◌, codes, map, Option, Some, None}
+use Rattle.std.specs.FinMap as tree
 use Rattle.puffin_look.specs.OpenFrame.{OpenFrame}
+use Rattle.puffin_look.specs.Cells.{Cell, length_of}
+use Rattle.puffin_look.specs.Forms.{list_text}
+use Rattle.puffin_look.specs.Objects.{row_text}
 use Rattle.puffin_look.specs.Wanted.{frames_within}
+use Rattle.puffin_look.specs.declared.frames.FrameRow.{FrameRow}
+use Rattle.puffin_look.specs.declared.lines.Form.{Form}
+use Rattle.puffin_look.specs.declared.rows.Value.TheVariants.{Number, Moment, Time}
 use Rattle.puffin_look.specs.declared.wanted.Indices.{Indices}
 
--- the parts of a frame's line
-abbrev pub counts_text : ℕ → ℕ → ℕ → List ℕ
-counts_text index threads scopes =
-    (codes "frame " ++ decimal index)
-    ++ ((codes " threads " ++ decimal threads) ++ (codes " scopes " ++ decimal scopes))
+abbrev pub frame_row : OpenFrame → FrameRow
+frame_row frame = record {
+  index = frame.meta.frame_index;
+  threads = tree.len frame.streams;
+  scopes = frame.meta.num_scopes;
+  range_ns = frame.meta.range_ns;
+  duration_ns = frame.meta.range_ns.1 -ℤ frame.meta.range_ns.0;
+}
 
-abbrev pub range_text : ℤ × ℤ → List ℕ
-range_text range =
-    (codes " range " ++ signed_decimal range.0) ++ (codes " " ++ signed_decimal range.1)
+abbrev pub frame_cells : FrameRow → List Cell
+frame_cells row =
+    (codes "frame", Number row.index) ∷ (codes "threads", Number row.threads)
+    ∷ (codes "scopes", Number row.scopes) ∷ (codes "start", Moment row.range_ns.0)
+    ∷ (codes "duration", Time (Some (length_of row.range_ns))) ∷ []
 
-abbrev pub duration_text : ℤ → List ℕ
-duration_text duration = (codes " duration " ++ signed_decimal duration) ++ codes "\n"
+abbrev pub frame_line : Form → FrameRow → List ℕ
+frame_line form row = row_text form (frame_cells row) None
 
-abbrev pub meta_text : FrameMeta → ℕ → List ℕ
-meta_text meta threads =
-    counts_text meta.frame_index threads meta.num_scopes
-    ++ (range_text meta.range_ns ++ duration_text (meta.range_ns.1 -ℤ meta.range_ns.0))
+-- the names of the columns
+abbrev pub head_line : List ℕ
+head_line =
+    codes "         frame       threads        scopes                      start    duration\n"
 
--- a frame's number, its threads, scopes, range and duration
-abbrev pub frame_line : OpenFrame → List ℕ
-frame_line frame = meta_text frame.meta (map.len frame.streams)
+abbrev pub frame_list : Form → List FrameRow → List ℕ
+frame_list form rows = list_text form head_line (map (frame_line form) rows)
 
-abbrev pub frame_lines : List OpenFrame → List ℕ
-frame_lines frames = flat_map frame_line frames
-
--- a line for each frame with one of these indices
-abbrev pub AreFrameLines : Option Indices → List OpenFrame → List ℕ → Type 0
-AreFrameLines indices frames text = text ≡ frame_lines (frames_within indices frames)
+-- the list of the frames with one of these indices
+abbrev pub IsFrameList : Form → Option Indices → List OpenFrame → List ℕ → Type 0
+IsFrameList form indices frames text =
+    text ≡ frame_list form (map frame_row (frames_within indices frames))

@@ -1,5 +1,5 @@
 -- A frame of a file as a tree of scopes.
-use Rattle.std.specs.Prelude.{◌≡◌, ℕ, zero, suc, ◌*◌, ◌/◌, ℤ, ◌-ℤ◌, unsigned_abs, Bool, true, false, List, [], ◌∷◌, ◌++◌, length, codes, fold}
+use Rattle.std.specs.Prelude.{◌≡◌, ℕ, zero, suc, ℤ, ◌-ℤ◌, unsigned_abs, Bool, true, false, List, [], ◌∷◌, ◌++◌, length, codes, fold}
 use Rattle.std.specs.Fmt.{decimal, signed_decimal}
 use Rattle.std.specs.FinMap as map
 use Rattle.std.specs.List.{flat_map}
@@ -15,8 +15,7 @@ use Rattle.puffin_look.specs.declared.wanted.Wanted.{Wanted}
 use Rattle.puffin_look.specs.Escapes.{escaped}
 use Rattle.puffin_look.specs.Names.{name_or_id}
 use Rattle.puffin_look.specs.ThreadLines.{thread_text}
-use Rattle.puffin_look.specs.FrameLines.{range_text, duration_text}
-use Rattle.puffin_look.specs.Trace.{digit}
+use Rattle.puffin_look.specs.Cells.{share_text, length_of}
 
 -- ---- a scope
 
@@ -28,12 +27,6 @@ indent (suc level) = codes "  " ++ indent level
 abbrev pub text_part : List ℕ → List ℕ
 text_part [] = []
 text_part (byte ∷ bytes) = codes " (" ++ (escaped (byte ∷ bytes) ++ codes ")")
-
--- in percent, with a digit behind the point, rounded down; of nothing there is no share
-abbrev pub share_text : ℕ → ℕ → List ℕ
-share_text part zero = codes "-"
-share_text part (suc n) =
-    let share = part * 1000 / suc n in decimal (share / 10) ++ (46 ∷ digit share ∷ 37 ∷ [])
 
 abbrev pub time_of : Span → ℕ
 time_of s = unsigned_abs (s.stop -ℤ s.start)
@@ -58,14 +51,18 @@ nested_line known begin level outer s =
     ++ (escaped (name_or_id s.id (map.get known.by_id s.id))
     ++ (text_part (text_in s.text) ++ numbers_text (s.start -ℤ begin) (time_of s) outer))
 
-abbrev pub length_of : ℤ × ℤ → ℕ
-length_of range = unsigned_abs (range.1 -ℤ range.0)
-
 abbrev pub scope_line : Collection → ℤ × ℤ → ScopeInContext → List ℕ
 scope_line known range s =
     nested_line known range.0 (length s.around) (outer_time (length_of range) s.around) s.span
 
 -- ---- a frame
+
+abbrev pub range_text : ℤ × ℤ → List ℕ
+range_text range =
+    (codes " range " ++ signed_decimal range.0) ++ (codes " " ++ signed_decimal range.1)
+
+abbrev pub duration_text : ℤ → List ℕ
+duration_text duration = (codes " duration " ++ signed_decimal duration) ++ codes "\n"
 
 -- each scope of a forest, before the scopes in it
 abbrev pub forest_lines : Collection → ℤ × ℤ → Forest → List ℕ

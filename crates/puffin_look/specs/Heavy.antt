@@ -1,12 +1,15 @@
 -- The path of scopes that takes the most time.
 use Rattle.std.specs.Prelude.{ℕ, zero, suc, ◌-◌, Bool, true, nat_lt, nat_le, not, ◌&&◌, ◌==◌, List, [], ◌∷◌, ◌++◌, take, drop, length, codes, fold, map, sum_by, if◌then◌else◌, Option, Some, None}
-use Rattle.std.specs.List.{flat_map, list_any}
+use Rattle.std.specs.List.{list_any}
 use Rattle.std.specs.Str.{bytes_eq}
 use Rattle.puffin_view.specs.View.Stats.{cut}
-use Rattle.puffin_look.specs.Cells.{value_cell}
+use Rattle.puffin_look.specs.Cells.{Cell}
 use Rattle.puffin_look.specs.FrameTree.{indent}
+use Rattle.puffin_look.specs.Objects.{row_text}
 use Rattle.puffin_look.specs.Folded.{Part, parts_of, paths_in}
-use Rattle.puffin_look.specs.declared.cells.Value.TheVariants.{Time, Share}
+use Rattle.puffin_look.specs.declared.lines.Form.{Form}
+use Rattle.puffin_look.specs.declared.lines.Form.TheVariants.{Table, Json}
+use Rattle.puffin_look.specs.declared.rows.Value.TheVariants.{Time, Share}
 use Rattle.puffin_look.specs.declared.stacks.Times.{Times}
 
 -- ---- the times of paths
@@ -60,19 +63,31 @@ abbrev pub is_followed : ℕ → ℕ → ℕ → Bool
 is_followed zero time outer = true
 is_followed (suc level) time outer = nat_le (outer - time) time
 
--- its time, its share of what is around it, and its name, which is behind so many bytes of its path
-abbrev pub step_line : ℕ → ℕ → Step → ℕ → List ℕ
-step_line level front step outer =
-    flat_map value_cell (Time (Some step.1) ∷ Share step.1 outer ∷ [])
-    ++ (codes "  " ++ (indent level ++ (drop front step.0 ++ codes "\n")))
+-- its time, and its share of what is around it
+abbrev pub step_cells : Step → ℕ → List Cell
+step_cells step outer =
+    (codes "time", Time (Some step.1)) ∷ (codes "share", Share step.1 outer) ∷ []
 
-abbrev pub text_with : (Step → List ℕ) → ℕ → ℕ → Option Step → List ℕ
-text_with next level outer None = []
-text_with next level outer (Some step) = if is_followed level step.1 outer then next step else []
+-- a table shows by blanks how many scopes it is in
+abbrev pub shown_name : Form → ℕ → List ℕ → List ℕ
+shown_name Table level name = indent level ++ name
+shown_name Json level name = name
 
--- The line of the heaviest path below this text, and those of the steps behind it. The first argument limits how many.
-abbrev pub steps_text : ℕ → List Row → ℕ → List ℕ → ℕ → List ℕ
-steps_text zero rows level front outer = []
-steps_text (suc n) rows level front outer =
-    text_with (λ step. step_line level (length front) step outer
-    ++ steps_text n rows (suc level) (step.0 ++ codes ";") step.1) level outer (heaviest front rows)
+-- its name is behind so many bytes of its path
+abbrev pub step_line : Form → ℕ → ℕ → Step → ℕ → List ℕ
+step_line form level front step outer =
+    row_text form (step_cells step outer)
+    (Some (codes "name", shown_name form level (drop front step.0)))
+
+abbrev pub lines_with : (Step → List (List ℕ)) → ℕ → ℕ → Option Step → List (List ℕ)
+lines_with next level outer None = []
+lines_with next level outer (Some step) =
+    if is_followed level step.1 outer then next step else []
+
+-- The line of the heaviest path below this text, and those of the steps behind it. The first number limits how many.
+abbrev pub step_lines : Form → ℕ → List Row → ℕ → List ℕ → ℕ → List (List ℕ)
+step_lines form zero rows level front outer = []
+step_lines form (suc n) rows level front outer =
+    lines_with (λ step. step_line form level (length front) step outer
+    ∷ step_lines form n rows (suc level) (step.0 ++ codes ";") step.1) level outer
+    (heaviest front rows)

@@ -17,6 +17,8 @@ pub mod SlowFrames
 pub mod Buckets
 pub mod Top
 pub mod Cells
+pub mod Forms
+pub mod Objects
 pub mod TopTable
 pub mod Diff
 pub mod DiffTable

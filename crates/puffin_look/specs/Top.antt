@@ -20,8 +20,9 @@ use Rattle.puffin_look.specs.Trees.{TreeFrame}
 use Rattle.puffin_look.specs.Wanted.{AreTaken, RefusesTaken}
 use Rattle.puffin_look.specs.declared.wanted.Wanted.{Wanted}
 use Rattle.puffin_look.specs.Names.{name_or_id}
-use Rattle.puffin_look.specs.FrameTree.{time_of, length_of}
+use Rattle.puffin_look.specs.FrameTree.{time_of}
 use Rattle.puffin_look.specs.Buckets.{bucket_of, last_of}
+use Rattle.puffin_look.specs.Cells.{length_of}
 use Rattle.puffin_look.specs.declared.top.TopRow.{TopRow}
 use Rattle.puffin_look.specs.declared.top.Top.{Top}
 use Rattle.puffin_look.specs.declared.top.By.{By}

@@ -1,28 +1,29 @@
--- The table of the scopes of a file by name.
-use Rattle.std.specs.Prelude.{ℕ, List, [], ◌∷◌, ◌++◌, codes, Some}
-use Rattle.std.specs.List.{flat_map}
-use Rattle.puffin_look.specs.Cells.{value_cell, name_end}
-use Rattle.puffin_look.specs.declared.cells.Value.{Value}
-use Rattle.puffin_look.specs.declared.cells.Value.TheVariants.{Number, Time, Share}
+-- The list of the scopes of a file by name.
+use Rattle.std.specs.Prelude.{ℕ, List, [], ◌∷◌, codes, map, Some}
+use Rattle.puffin_look.specs.Cells.{Cell}
+use Rattle.puffin_look.specs.Forms.{list_text}
+use Rattle.puffin_look.specs.Objects.{row_text}
+use Rattle.puffin_look.specs.declared.lines.Form.{Form}
+use Rattle.puffin_look.specs.declared.rows.Value.TheVariants.{Number, Time, Share}
 use Rattle.puffin_look.specs.declared.top.TopRow.{TopRow}
 
-abbrev pub time_value : ℕ → Value
-time_value time = Time (Some time)
+-- a row, with its own time's share of this time
+abbrev pub top_cells : ℕ → TopRow → List Cell
+top_cells whole row =
+    (codes "calls", Number row.calls) ∷ (codes "total", Time (Some row.total))
+    ∷ (codes "own", Time (Some row.own)) ∷ (codes "least", Time (Some row.least))
+    ∷ (codes "median", Time (Some row.median)) ∷ (codes "p95", Time (Some row.p95))
+    ∷ (codes "p99", Time (Some row.p99)) ∷ (codes "greatest", Time (Some row.greatest))
+    ∷ (codes "share", Share row.own whole) ∷ []
 
--- the numbers of a row, with its own time's share of this time
-abbrev pub top_values : ℕ → TopRow → List Value
-top_values whole row =
-    Number row.calls ∷ time_value row.total ∷ time_value row.own ∷ time_value row.least
-    ∷ time_value row.median ∷ time_value row.p95 ∷ time_value row.p99 ∷ time_value row.greatest
-    ∷ Share row.own whole ∷ []
-
-abbrev pub top_line : ℕ → TopRow → List ℕ
-top_line whole row = flat_map value_cell (top_values whole row) ++ name_end row.name.items
+abbrev pub top_row : Form → ℕ → TopRow → List ℕ
+top_row form whole row =
+    row_text form (top_cells whole row) (Some (codes "name", row.name.items))
 
 -- the names of the columns
 abbrev pub head_line : List ℕ
 head_line =
     codes "         calls       total         own       least      median         p95         p99    greatest   share  name\n"
 
-abbrev pub top_text : ℕ → List TopRow → List ℕ
-top_text whole rows = head_line ++ flat_map (top_line whole) rows
+abbrev pub top_text : Form → ℕ → List TopRow → List ℕ
+top_text form whole rows = list_text form head_line (map (top_row form whole) rows)

@@ -1,5 +1,5 @@
 -- The trace of a file: its frames, threads and scopes as events in JSON.
-use Rattle.std.specs.Prelude.{◌≡◌, ℕ, ◌+◌, ◌/◌, ◌%◌, ℤ, pos, negsuc, ◌-ℤ◌, unsigned_abs, List, [], ◌∷◌, ◌++◌, codes, fold, Option, Some, None}
+use Rattle.std.specs.Prelude.{◌≡◌, ℕ, ◌+◌, ◌/◌, ℤ, pos, negsuc, ◌-ℤ◌, unsigned_abs, List, [], ◌∷◌, ◌++◌, codes, fold, Option, Some, None}
 use Rattle.std.specs.Fmt.{decimal, signed_decimal}
 use Rattle.std.specs.FinMap as map
 use Rattle.std.specs.List.{flat_map}
@@ -15,13 +15,11 @@ use Rattle.puffin_look.specs.Trees.{Tree, TreeFrame, AreRead, all_streams, outpu
 use Rattle.puffin_look.specs.Wanted.{frames_within}
 use Rattle.puffin_look.specs.declared.wanted.Indices.{Indices}
 use Rattle.puffin_look.specs.declared.overview.Overview.{Overview}
+use Rattle.puffin_look.specs.Cells.{digit}
 use Rattle.puffin_look.specs.Names.{name_or_id}
 use Rattle.puffin_look.specs.ThreadLines.{start_text}
 
 -- ---- a time in microseconds, with three digits behind the point
-
-abbrev pub digit : ℕ → ℕ
-digit n = 48 + n % 10
 
 abbrev pub thousandths : ℕ → List ℕ
 thousandths n = decimal (n / 1000) ++ (46 ∷ digit (n / 100) ∷ digit (n / 10) ∷ digit n ∷ [])

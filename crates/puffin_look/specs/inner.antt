@@ -17,3 +17,5 @@ pub mod PageChoices
 pub mod Diffs
 pub mod Heavies
 pub mod SlowlyTaken
+pub mod Lining
+pub mod Rows

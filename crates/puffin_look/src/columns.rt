@@ -2,7 +2,8 @@
 
 ghost use Rattle.std.specs.Prelude.{◌≡◌, ◌++◌, ◌<◌, ◌^◌, ◌-ℤ◌, codes, OnOk};
 ghost use Rattle.std.specs.Fmt.{signed_decimal};
-ghost use Rattle.puffin_look.specs.FrameTree.{indent, text_part, share_text, times_text, numbers_text};
+ghost use Rattle.puffin_look.specs.FrameTree.{indent, text_part, times_text, numbers_text};
+ghost use Rattle.puffin_look.specs.Cells.{share_text};
 
 use crate::escapes::push_escaped;
 use crate::text::{push_count, push_number};

@@ -8,20 +8,35 @@ ghost use Rattle.puffin_data.specs.Honesty.{facts_of};
 ghost use Rattle.puffin_threads.specs.Thread.ThreadKey.{key_of};
 ghost use Rattle.puffin_look.specs.Printed.{IsPrinted, IsStopped};
 ghost use Rattle.puffin_look.specs.Wanted.{RefusesTaken};
-ghost use Rattle.puffin_look.specs.FrameTree.{head_text, IsFrameText};
+ghost use Rattle.puffin_look.specs.FrameTree.{range_text, duration_text, head_text, IsFrameText};
 ghost use Rattle.puffin_look.specs.inner.FrameTrees.{StepsTree, IsTreeFault, IsAnyFrameText};
 
-use crate::frames::{push_duration, push_range};
 use crate::listing::{Listing, list_frames};
 use crate::overview::Overview;
-use crate::text::push_count;
+use crate::text::{push_count, push_moment};
 use crate::tree::Lines;
 use crate::wanted::Wanted;
 use puffin_data::data::{Drain, Source, StreamInfo};
-use puffin_data::{FileError, Result as Answer};
+use puffin_data::{FileError, NanoSecond, Result as Answer};
 use puffin_frames::frame_data::UnpackedFrameData;
 use puffin_threads::thread_profiler::ThreadInfo;
 use std::alloc::{AllocError, Global};
+
+/// Appends a frame's range.
+fn push_range(text: &mut Vec<u8>, range: (NanoSecond, NanoSecond)) -> Result<(), AllocError>
+    ensures { OnOk result (text.new.items ≡ text.old.items ++ range_text range) }
+{
+    push_moment(text, b" range ", range.0)?;
+    push_moment(text, b" ", range.1)
+}
+
+/// Appends a duration and the end of the line.
+fn push_duration(text: &mut Vec<u8>, duration: NanoSecond) -> Result<(), AllocError>
+    ensures { OnOk result (text.new.items ≡ text.old.items ++ duration_text duration) }
+{
+    push_moment(text, b" duration ", duration)?;
+    text.extend_from_slice(b"\n")
+}
 
 /// Appends a frame's index, range and duration.
 fn push_head(text: &mut Vec<u8>, frame: &UnpackedFrameData) -> Result<(), AllocError>

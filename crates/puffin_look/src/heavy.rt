@@ -1,14 +1,17 @@
-//! Appends the path of scopes that takes the most time.
+//! Lists the path of scopes that takes the most time.
 
 ghost use Rattle.std.specs.Prelude.{◌≡◌, ◌++◌, take, drop, length, codes, option_map, IfOk, OnOk};
 ghost use Rattle.std.specs.List.{list_any};
 ghost use Rattle.std.specs.Str.{bytes_eq};
-ghost use Rattle.puffin_look.specs.Heavy.{is_separator, is_directly_below, is_more, heavier, heaviest, is_followed, step_line, steps_text};
+ghost use Rattle.puffin_look.specs.Heavy.{is_separator, is_directly_below, is_more, heavier, heaviest, is_followed, shown_name, step_line, step_lines};
 ghost use Rattle.puffin_look.specs.inner.Stacks.{rows_in};
+ghost use Rattle.puffin_look.specs.Forms.{joined};
 ghost use Rattle.puffin_look.specs.inner.Heavies.{step_of};
+ghost use Rattle.puffin_look.specs.inner.Lining.{Adds};
 
-use crate::cells::{Value, push_values};
 use crate::columns::push_indent;
+use crate::lines::{Form, Lines};
+use crate::rows::{Value, row_of};
 use crate::stacks::Times;
 use indexmap::IndexMap;
 use std::alloc::{AllocError, Global};
@@ -106,38 +109,54 @@ fn is_followed(level: usize, time: u64, outer: u64) -> bool
     level == 0 || outer.saturating_sub(time) <= time
 }
 
-/// Appends a scope of the path that is within so many others.
+/// Returns the name that is shown of a scope within so many others.
+fn name_of(alloc: Global, form: Form, level: usize, name: &[u8]) -> Result<Vec<u8>, AllocError>
+    ensures { IfOk result (λ shown. shown.items ≡ shown_name form level name.now) }
+{
+    let mut shown = Vec::new(alloc);
+    match form {
+        Form::Table => push_indent(&mut shown, level)?,
+        Form::Json => (),
+    }
+    shown.extend_from_slice(name)?;
+    Ok(shown)
+}
+
+/// Adds a scope of the path that is within so many others.
 fn push_step(
-    text: &mut Vec<u8>,
+    alloc: Global,
+    form: Form,
+    lines: &mut Lines,
     level: usize,
     front: usize,
     step: &Step,
     outer: u64,
 ) -> Result<(), AllocError>
     ensures { OnOk result (
-        text.new.items ≡ text.old.items ++ step_line level front (step_of step.now) outer) }
+        Adds lines.old lines.new (step_line form level front (step_of step.now) outer)) }
 {
-    push_values(
-        text,
-        &[Value::Time(Some(step.time)), Value::Share(step.time, outer)],
-    )?;
-    text.extend_from_slice(b"  ")?;
-    push_indent(text, level)?;
-    text.extend_from_slice(behind(&step.path, front))?;
-    text.extend_from_slice(b"\n")
+    let name = name_of(alloc, form, level, behind(&step.path, front))?;
+    let cells = [
+        ("time", Value::Time(Some(step.time))),
+        ("share", Value::Share(step.time, outer)),
+    ];
+    let line = row_of(alloc, form, &cells, Some(("name", &name)))?;
+    lines.add(&line)
 }
 
-/// Appends the path that takes the most time at each level, a line for each of its scopes: their durations together, their share of
+/// Adds the path that takes the most time at each level, a line for each of its scopes: their durations together, their share of
 /// those around them, and their name. It ends where no scope directly within has half of that.
 pub(crate) fn push_steps(
-    text: &mut Vec<u8>,
+    alloc: Global,
+    form: Form,
+    lines: &mut Lines,
     rows: &IndexMap<Vec<u8>, Times>,
     whole: u64,
 ) -> Result<(), AllocError>
-    ensures { OnOk result (text.new.items ≡ text.old.items
-        ++ steps_text (length rows.now.entries) (rows_in rows.now.entries) 0 (codes "") whole) }
+    ensures { OnOk result (lines.new.text.items ≡ lines.old.text.items
+        ++ joined lines.old.separator.now lines.old.has_any
+        (step_lines form (length rows.now.entries) (rows_in rows.now.entries) 0 (codes "") whole)) }
 {
-    let alloc = *text.allocator();
     let mut front = Vec::new(alloc);
     let mut outer = whole;
     for level in 0..rows.len() {
@@ -147,7 +166,7 @@ pub(crate) fn push_steps(
         if !is_followed(level, step.time, outer) {
             return Ok(());
         }
-        push_step(text, level, front.len(), &step, outer)?;
+        push_step(alloc, form, lines, level, front.len(), &step, outer)?;
         outer = step.time;
         front = step.path;
         front.extend_from_slice(b";")?;

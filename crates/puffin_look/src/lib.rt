@@ -15,7 +15,6 @@
 //! | write a page for a browser | [`choose_frames`], [`print_page_data`] |
 #![tactic(auto)]
 
-mod cells;
 mod columns;
 mod diff;
 mod diff_table;
@@ -27,13 +26,17 @@ mod frames;
 mod heavy;
 mod histogram;
 pub mod laws;
+mod lines;
 mod listing;
 mod names;
+mod objects;
 mod overview;
 mod page;
 mod page_choice;
 mod page_rows;
 mod quoting;
+mod readable;
+mod rows;
 mod slow_frames;
 mod slowest;
 mod stacks;
@@ -53,6 +56,7 @@ pub use diff_table::print_diff;
 pub use folded::print_folded;
 pub use frame_tree::print_frame;
 pub use frames::print_frames;
+pub use lines::Form;
 pub use overview::{Overview, read_overview};
 pub use page::{PageFrames, print_page_data};
 pub use page_choice::{PageLimits, choose_frames};

@@ -1,7 +1,6 @@
 //! Shows what takes the most time in the slowest frames of a file.
 
-ghost use Rattle.std.specs.Prelude.{◌≡◌, ◌++◌, ◌+◌, ◌⊎◌, ◌∷◌, [], ◌-ℤ◌, ℕ, List, ◌≤◌, length, map, take, insert, position, OnOk, IfOk, IfErr, Err};
-ghost use Rattle.std.specs.List.{flat_map};
+ghost use Rattle.std.specs.Prelude.{◌≡◌, ◌++◌, ◌+◌, ◌⊎◌, ◌∷◌, [], ◌-ℤ◌, ℕ, List, ◌≤◌, codes, false, length, map, take, insert, position, OnOk, IfOk, IfErr, Err};
 ghost use Rattle.puffin_data.specs.declared.error.Error.{Error};
 ghost use Rattle.puffin_data.specs.Device.{CanFail, TookNothing};
 ghost use Rattle.puffin_look.specs.OpenFrame.{open_of};
@@ -9,18 +8,24 @@ ghost use Rattle.puffin_look.specs.Trees.{TreeFrame, IsRead, AreUnread};
 ghost use Rattle.puffin_look.specs.Wanted.{wanted_streams, RefusesTaken};
 ghost use Rattle.puffin_look.specs.Printed.{IsPrinted, IsStopped, IsCutOff};
 ghost use Rattle.puffin_look.specs.Slowest.{IsNoText, is_faster_by, with_row_by};
-ghost use Rattle.puffin_look.specs.SlowFrames.{head_text, slow_of, slow_text, AreSlowFrames};
+ghost use Rattle.puffin_look.specs.Forms.{list_text};
+ghost use Rattle.puffin_look.specs.SlowFrames.{head_cells, head_text, between_steps, tail_text, AreSlowFrames};
+ghost use Rattle.puffin_look.specs.inner.Rows.{cell_of};
 ghost use Rattle.puffin_look.specs.inner.SlowlyTaken.{held_duration, held_of, ReadsSlow};
 
-use crate::cells::push_readable;
 use crate::folded::Folding;
 use crate::heavy::push_steps;
+use crate::lines::{Form, Lines};
 use crate::listing::{Listing, list_frames};
+use crate::objects::push_members;
 use crate::overview::Overview;
+use crate::readable::{push_grouped, push_readable};
+use crate::rows::{Cell, Value};
 use crate::stacks::Stacks;
 use crate::text::push_count;
 use crate::top::length_of;
 use crate::wanted::Wanted;
+use json::Writer;
 use puffin_data::data::{Drain, Source, write_all};
 use puffin_data::{FileError, NanoSecond, Result as Answer};
 use puffin_frames::frame_data::{FrameMeta, UnpackedFrameData};
@@ -34,26 +39,80 @@ pub(crate) struct SlowFrame {
     pub text: Vec<u8>,
 }
 
-/// Appends a frame's index, its duration and the number of its scopes.
-fn push_head(text: &mut Vec<u8>, meta: &FrameMeta) -> Result<(), AllocError>
-    ensures { OnOk result (text.new.items ≡ text.old.items ++ head_text meta.now) }
+/// Returns a frame's line.
+fn line_of(alloc: Global, meta: &FrameMeta) -> Result<Vec<u8>, AllocError>
+    ensures { IfOk result (λ text. text.items ≡ head_text Form.Table meta.now) }
 {
-    push_count(text, b"frame ", meta.frame_index)?;
+    let mut text = Vec::new(alloc);
+    push_count(&mut text, b"frame ", meta.frame_index)?;
     text.extend_from_slice(b": ")?;
-    push_readable(text, length_of(meta.range_ns))?;
-    push_count(text, b", scopes ", meta.num_scopes as u64)?;
-    text.extend_from_slice(b"\n")
+    push_readable(&mut text, length_of(meta.range_ns))?;
+    text.extend_from_slice(b", scopes ")?;
+    push_grouped(&mut text, meta.num_scopes as u64)?;
+    text.extend_from_slice(b"\n")?;
+    Ok(text)
+}
+
+/// Returns the cells of a frame's object.
+fn cells_of(meta: &FrameMeta) -> [Cell; 3]
+    ensures { map cell_of result ≡ head_cells meta.now }
+{
+    [
+        ("frame", Value::Number(meta.frame_index)),
+        ("duration", Value::Time(Some(length_of(meta.range_ns)))),
+        ("scopes", Value::Number(meta.num_scopes as u64)),
+    ]
+}
+
+/// Returns the beginning of a frame's object, up to its path.
+fn object_of(alloc: Global, meta: &FrameMeta) -> Result<Vec<u8>, AllocError>
+    ensures { IfOk result (λ text. text.items ≡ head_text Form.Json meta.now) }
+{
+    let mut writer = Writer::new(Vec::new(alloc));
+    writer.begin_object()?;
+    push_members(alloc, &mut writer, &cells_of(meta))?;
+    writer.key("path")?;
+    writer.begin_array()?;
+    Ok(writer.into_inner())
+}
+
+/// Returns a list that begins with a frame's index, its duration and the number of its scopes.
+fn head_of(alloc: Global, form: Form, meta: &FrameMeta) -> Result<Lines, AllocError>
+    ensures text { IfOk result (λ lines. lines.text.items ≡ head_text form meta.now) }
+    ensures separator { IfOk result (λ lines. lines.separator.now ≡ between_steps form) }
+    ensures none { IfOk result (λ lines. lines.has_any ≡ false) }
+{
+    let (text, separator): (Vec<u8>, &'static [u8]) = match form {
+        Form::Table => (line_of(alloc, meta)?, b""),
+        Form::Json => (object_of(alloc, meta)?, b","),
+    };
+    Ok(Lines {
+        text,
+        separator,
+        has_any: false,
+    })
+}
+
+/// Returns what stands behind a frame's path.
+fn tail_of(form: Form) -> &'static [u8]
+    ensures { result.now ≡ tail_text form }
+{
+    match form {
+        Form::Table => b"",
+        Form::Json => b"]}",
+    }
 }
 
 /// Returns what is printed of a frame: its line, and those of the path of its wanted threads that takes the most time.
 fn text_of(
     alloc: Global,
+    form: Form,
     known: &ScopeCollection,
     wanted: &Wanted,
     frame: &UnpackedFrameData,
 ) -> Answer<Vec<u8>>
     ensures ok { IfOk result (λ text.
-        ReadsSlow known.now wanted.now (open_of frame.now) text.items) }
+        ReadsSlow form known.now wanted.now (open_of frame.now) text.items) }
     ensures err { IfErr result (λ e.
         (e ≡ Error.Memory) ⊎ AreUnread (wanted_streams wanted.now (open_of frame.now)) e) }
 {
@@ -63,13 +122,11 @@ fn text_of(
         is_found: false,
     };
     folding.add(frame)?;
-    let mut text = Vec::new(alloc);
-    push_head(&mut text, &frame.meta)?;
-    push_steps(
-        &mut text,
-        &folding.stacks.rows,
-        length_of(frame.meta.range_ns),
-    )?;
+    let whole = length_of(frame.meta.range_ns);
+    let mut lines = head_of(alloc, form, &frame.meta)?;
+    push_steps(alloc, form, &mut lines, &folding.stacks.rows, whole)?;
+    let mut text = lines.text;
+    text.extend_from_slice(tail_of(form))?;
     Ok(text)
 }
 
@@ -94,6 +151,7 @@ fn place_for(rows: &[SlowFrame], row: &SlowFrame) -> usize
 struct SlowFrames<'t> {
     rows: Vec<SlowFrame>,
     limit: usize,
+    form: Form,
     known: &'t ScopeCollection,
     wanted: &'t Wanted,
 }
@@ -104,6 +162,7 @@ impl<'t> SlowFrames<'t> {
         ensures rows { OnOk result (self.new.rows.items
             ≡ take self.old.limit (with_row_by held_duration self.old.rows.items row)) }
         ensures limit { OnOk result (self.new.limit ≡ self.old.limit) }
+        ensures form { OnOk result (self.new.form ≡ self.old.form) }
         ensures known { OnOk result (self.new.known ≡ self.old.known) }
         ensures wanted { OnOk result (self.new.wanted ≡ self.old.wanted) }
     {
@@ -116,6 +175,7 @@ impl<'t> SlowFrames<'t> {
 
 impl<'t> Listing for SlowFrames<'t> {
     ghost use Rattle.std.specs.Prelude.{[]};
+    ghost use Rattle.puffin_look.specs.inner.Rows.{cell_of};
     ghost use Rattle.puffin_look.specs.inner.SlowlyTaken.{TakesSlow, RefusesFrame, slow_none, slow_more};
 
     ghost text = { λ _. [] };
@@ -130,7 +190,7 @@ impl<'t> Listing for SlowFrames<'t> {
 
     fn add(&mut self, frame: &UnpackedFrameData) -> Answer<()> {
         let alloc = *self.rows.allocator();
-        let text = text_of(alloc, self.known, self.wanted, frame)?;
+        let text = text_of(alloc, self.form, self.known, self.wanted, frame)?;
         self.add_row(SlowFrame {
             duration_ns: frame.duration_ns(),
             text,
@@ -145,15 +205,16 @@ impl<'t> Listing for SlowFrames<'t> {
     fn clear(&mut self) {}
 }
 
-/// Returns the texts of frames.
-fn texts_of(alloc: Global, rows: &[SlowFrame]) -> Result<Vec<u8>, AllocError>
-    ensures { IfOk result (λ text. text.items ≡ flat_map (λ row. row.text.items) rows.now) }
+/// Returns the list of frames.
+fn list_of(alloc: Global, form: Form, rows: &[SlowFrame]) -> Result<Vec<u8>, AllocError>
+    ensures { IfOk result (λ text.
+        text.items ≡ list_text form (codes "") (map (λ row. row.text.items) rows.now)) }
 {
-    let mut text = Vec::new(alloc);
+    let mut lines = Lines::new(alloc, form, b"")?;
     for row in rows {
-        text.extend_from_slice(&row.text)?;
+        lines.add(&row.text)?;
     }
-    Ok(text)
+    lines.closed(form)
 }
 
 /// Prints the `limit` slowest of the wanted frames, the slowest first, and of equally slow frames the one that comes first in the
@@ -169,18 +230,21 @@ pub fn print_slow_frames<S: Source, D: Drain>(
     drain: &mut D,
     wanted: &Wanted,
     limit: usize,
+    form: Form,
 ) -> Result<(), FileError>
     requires source { CanFail S.failures source.old }
     requires drain { CanFail D.failures drain.old }
     ensures ok { OnOk result (
-        IsPrinted (AreSlowFrames overview.now.details wanted.now limit) (S.remaining source.old)
-        (S.remaining source.new) (D.contents drain.old) (D.contents drain.new)) }
+        IsPrinted (AreSlowFrames form overview.now.details wanted.now limit)
+        (S.remaining source.old) (S.remaining source.new) (D.contents drain.old)
+        (D.contents drain.new)) }
     ensures err { IfErr result (λ e.
         IsStopped IsNoText (RefusesTaken wanted.now) (S.remaining source.old)
         (S.remaining source.new) (D.contents drain.old) (D.contents drain.new) e
         ⊎ ((e ≡ FileError.Io)
-        × IsCutOff (AreSlowFrames overview.now.details wanted.now limit) (S.remaining source.old)
-        (S.remaining source.new) (D.contents drain.old) (D.contents drain.new))) }
+        × IsCutOff (AreSlowFrames form overview.now.details wanted.now limit)
+        (S.remaining source.old) (S.remaining source.new) (D.contents drain.old)
+        (D.contents drain.new))) }
     // `Io` means that the reader or the writer failed in this call, or that the writer took no bytes.
     ensures io { (result ≡ Err FileError.Io) → (S.failures source.new ≡ S.failures source.old + 1)
         ⊎ ((D.failures drain.new ≡ D.failures drain.old + 1) ⊎ TookNothing D.takes drain.new) }
@@ -191,10 +255,11 @@ pub fn print_slow_frames<S: Source, D: Drain>(
     let mut slow = SlowFrames {
         rows: Vec::new(alloc),
         limit,
+        form,
         known: &overview.details,
         wanted,
     };
     list_frames(alloc, source, drain, wanted.frames, &mut slow)?;
-    let lines = texts_of(alloc, &slow.rows)?;
-    write_all(drain, &lines)
+    let text = list_of(alloc, form, &slow.rows)?;
+    write_all(drain, &text)
 }

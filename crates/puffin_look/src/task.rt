@@ -4,6 +4,7 @@ ghost use Rattle.std.specs.Prelude.{◌≡◌, ◌^◌, ◌<◌, length, Some, o
 ghost use Rattle.std.specs.String.{string_bytes};
 ghost use Rattle.puffin_look.specs.Arguments.{number_in, list_in, threaded_in, detailed_in, request_in, wish_of, request_of, behind_dot, from_to, range_in, frames_in, order_in};
 
+use crate::lines::Form;
 use crate::top::By;
 use crate::wanted::Indices;
 use puffin_data::FrameIndex;
@@ -166,6 +167,7 @@ pub struct Options {
     pub texts: bool,
     /// The percentage by which times may grow.
     pub fail_above: Option<u64>,
+    pub form: Form,
 }
 
 impl Options {
@@ -179,10 +181,15 @@ impl Options {
             ),
             _ => (false, false, false, false),
         };
+        let has_rows = !matches!(
+            view,
+            View::Frame(..) | View::Trace | View::Folded(_) | View::Page(_)
+        );
         (has_frames || self.frames.is_none())
             && (has_limit || self.limit.is_none())
             && (is_of_top || self.order.is_none() && !self.texts)
             && (is_of_diff || self.fail_above.is_none())
+            && (has_rows || self.form == Form::Table)
     }
 }
 
@@ -224,6 +231,15 @@ fn take_value(words: &mut Vec<String>, name: &str) -> Option<String> {
     }
 }
 
+/// Removes the option `--json`. Returns the form that is asked for.
+fn take_form(words: &mut Vec<String>) -> Form {
+    if take_flag(words, "--json") {
+        Form::Json
+    } else {
+        Form::Table
+    }
+}
+
 /// Removes the options from behind the first two of the program's arguments. Returns `None` if another of those words begins with
 /// `--`, or if an option is there twice, or if its value is missing or isn't allowed.
 pub fn take_options(words: &mut Vec<String>) -> Option<Options> {
@@ -244,6 +260,7 @@ pub fn take_options(words: &mut Vec<String>) -> Option<Options> {
         None => None,
     };
     let texts = take_flag(words, "--texts");
+    let form = take_form(words);
     if words
         .iter()
         .skip(2)
@@ -257,5 +274,6 @@ pub fn take_options(words: &mut Vec<String>) -> Option<Options> {
         limit,
         texts,
         fail_above,
+        form,
     })
 }

@@ -1,23 +1,27 @@
 //! Lists the threads of a file.
 
-ghost use Rattle.std.specs.Prelude.{◌≡◌, ◌++◌, ◌+◌, ◌⊎◌, codes, unwrap_or, OnOk, IfOk, IfErr, IsOkUnless};
-ghost use Rattle.std.specs.List.{flat_map};
-ghost use Rattle.std.specs.FinMap as map;
+ghost use Rattle.std.specs.Prelude.{◌≡◌, ◌++◌, ◌+◌, ◌⊎◌, map, unwrap_or, OnOk, IfOk, IfErr, IsOkUnless};
+ghost use Rattle.std.specs.FinMap as tree;
 ghost use Rattle.puffin_data.specs.Honesty.{facts_of};
 ghost use Rattle.puffin_data.specs.Device.{CanFail, TookNothing};
 ghost use Rattle.puffin_threads.specs.Thread.ThreadKey.{by_key, key_of};
 ghost use Rattle.puffin_look.specs.Printed.{IsPrinted, IsStopped, RefusesNone};
 ghost use Rattle.puffin_look.specs.inner.Taken.{fails_outside};
-ghost use Rattle.puffin_look.specs.ThreadLines.{no_totals, totals_with, with_stream, start_text, thread_text, totals_text, thread_line, AreThreadLines};
+ghost use Rattle.puffin_look.specs.ThreadLines.{no_totals, totals_with, with_stream, start_text, thread_word, thread_text, thread_cells, thread_line, thread_list, IsThreadList};
+ghost use Rattle.puffin_look.specs.inner.Lining.{Adds};
+ghost use Rattle.puffin_look.specs.inner.Rows.{cell_of};
 
 use crate::escapes::push_escaped;
-use crate::frames::push_range;
-use crate::listing::{Listing, list_frames};
-use crate::text::{push_count, push_time};
+use crate::lines::{Form, Lines};
+use crate::listing::{Listing, list_behind};
+use crate::rows::{Cell, Value, row_of};
+use crate::text::push_time;
+use crate::top::length_of;
 use puffin_data::data::{Drain, Source, StreamInfo, write_all};
 use puffin_data::{Error, FileError, NanoSecond, Result as Answer};
 use puffin_frames::frame_data::UnpackedFrameData;
 use puffin_threads::thread_profiler::ThreadInfo;
+use puffin_view::profile_view::read_magic;
 use std::alloc::{AllocError, Global};
 use std::collections::BTreeMap;
 
@@ -71,7 +75,7 @@ impl Threads {
     /// Returns the totals of a thread so far.
     fn totals_under(&self, thread: &ThreadInfo) -> ThreadTotals
         ensures { result ≡ unwrap_or
-            (map.get (by_key self.now.totals.entries) (key_of thread.now)) no_totals }
+            (tree.get (by_key self.now.totals.entries) (key_of thread.now)) no_totals }
     {
         match self.totals.get(thread) {
             Some(totals) => *totals,
@@ -141,50 +145,60 @@ pub(crate) fn push_thread(text: &mut Vec<u8>, thread: &ThreadInfo) -> Result<(),
     push_escaped(text, thread.name.as_bytes())
 }
 
-/// Appends a thread's totals.
-fn push_totals(text: &mut Vec<u8>, totals: &ThreadTotals) -> Result<(), AllocError>
-    ensures { OnOk result (
-        text.new.items ≡ text.old.items ++ totals_text totals.now) }
+/// Returns a thread as [`report`](puffin_report::print_report) takes it.
+fn word_of(alloc: Global, thread: &ThreadInfo) -> Result<Vec<u8>, AllocError>
+    ensures { IfOk result (λ word. word.items ≡ thread_word (key_of thread.now)) }
 {
-    push_count(text, b"frames ", totals.frames)?;
-    push_count(text, b" scopes ", totals.scopes)?;
-    push_count(text, b" bytes ", totals.bytes)
+    let mut word = Vec::new(alloc);
+    push_start(&mut word, thread)?;
+    word.extend_from_slice(b":")?;
+    word.extend_from_slice(thread.name.as_bytes())?;
+    Ok(word)
 }
 
-/// Appends a thread behind its label, and the end of the line.
-fn push_thread_end(text: &mut Vec<u8>, thread: &ThreadInfo) -> Result<(), AllocError>
-    ensures { OnOk result (text.new.items
-        ≡ text.old.items ++ (codes " thread " ++ (thread_text (key_of thread.now) ++ codes "\n"))) }
+/// The names of the columns.
+const HEAD: &[u8] =
+    b"        frames        scopes         bytes                      start    duration  thread\n";
+
+/// Returns the cells of a thread's totals.
+fn cells_of(totals: &ThreadTotals) -> [Cell; 5]
+    ensures { map cell_of result ≡ thread_cells totals.now }
 {
-    text.extend_from_slice(b" thread ")?;
-    push_thread(text, thread)?;
-    text.extend_from_slice(b"\n")
+    [
+        ("frames", Value::Number(totals.frames)),
+        ("scopes", Value::Number(totals.scopes)),
+        ("bytes", Value::Number(totals.bytes)),
+        ("start", Value::Moment(totals.range_ns.0)),
+        ("duration", Value::Time(Some(length_of(totals.range_ns)))),
+    ]
 }
 
-/// Appends a thread's line.
-fn push_line(
-    text: &mut Vec<u8>,
+/// Adds a thread's row to a list.
+fn push_row(
+    alloc: Global,
+    form: Form,
+    lines: &mut Lines,
     thread: &ThreadInfo,
     totals: &ThreadTotals,
 ) -> Result<(), AllocError>
     ensures { OnOk result (
-        text.new.items ≡ text.old.items ++ thread_line (key_of thread.now, totals.now)) }
+        Adds lines.old lines.new (thread_line form (key_of thread.now, totals.now))) }
 {
-    push_totals(text, totals)?;
-    push_range(text, totals.range_ns)?;
-    push_thread_end(text, thread)
+    let word = word_of(alloc, thread)?;
+    let line = row_of(alloc, form, &cells_of(totals), Some(("thread", &word)))?;
+    lines.add(&line)
 }
 
-/// Returns the lines of all threads.
-fn lines_of(alloc: Global, threads: &Threads) -> Result<Vec<u8>, AllocError>
-    ensures { IfOk result (λ text.
-        text.items ≡ flat_map thread_line (map.entries (by_key threads.now.totals.entries))) }
+/// Returns the list of all threads.
+fn text_of(alloc: Global, form: Form, threads: &Threads) -> Result<Vec<u8>, AllocError>
+    ensures { IfOk result (λ text. text.items
+        ≡ thread_list form (tree.entries (by_key threads.now.totals.entries))) }
 {
-    let mut text = Vec::new(alloc);
+    let mut lines = Lines::new(alloc, form, HEAD)?;
     'threads: for (thread, totals) in threads.totals.iter() {
-        push_line(&mut text, thread, totals)?;
+        push_row(alloc, form, &mut lines, thread, totals)?;
     }
-    Ok(text)
+    lines.closed(form)
 }
 
 /// Returns whether a call failed because the reader, the writer or memory did.
@@ -194,25 +208,26 @@ pub(crate) fn fails_outside(answer: &Result<(), FileError>) -> bool
     matches!(answer, Err(FileError::Io | FileError::Memory))
 }
 
-/// Prints a line for each thread of a file, in the order of the threads: its frames, scopes, bytes, first start and last stop,
-/// and `START:NAME` as [`report`](puffin_report::print_report) takes it, with escapes for control characters. Times are in nanoseconds.
+/// Prints the threads of a file, in their order: for each its frames, scopes and bytes, when its first scope began and how long it was
+/// until its last one ended, and `START:NAME` as [`report`](puffin_report::print_report) takes it.
 ///
 /// Fails with the first fault of the file, as [`FrameReader::next`](puffin_view::profile_view::FrameReader::next) does, or with
-/// `Compressed` or `BadStreams` for a frame that can't be unpacked. The lines of the threads in the frames before it are then
-/// printed. Fails with `Memory` or, if a read fails, with `Io`, and then prints nothing; or with `Io` if a write fails, and then a
-/// prefix of the lines is written.
+/// `Compressed` or `BadStreams` for a frame that can't be unpacked. The list of the threads in the frames before it is then printed, or
+/// nothing if the file has no letters. Fails with `Memory` or, if a read fails, with `Io`, and then prints nothing; or with `Io` if a
+/// write fails, and then a prefix of the list is written.
 pub fn print_threads<S: Source, D: Drain>(
     alloc: Global,
     source: &mut S,
     drain: &mut D,
+    form: Form,
 ) -> Result<(), FileError>
     requires source { CanFail S.failures source.old }
     requires drain { CanFail D.failures drain.old }
     ensures ok { OnOk result (
-        IsPrinted AreThreadLines (S.remaining source.old) (S.remaining source.new)
+        IsPrinted (IsThreadList form) (S.remaining source.old) (S.remaining source.new)
         (D.contents drain.old) (D.contents drain.new)) }
     ensures err { IfErr result (λ e.
-        IsStopped AreThreadLines RefusesNone (S.remaining source.old) (S.remaining source.new)
+        IsStopped (IsThreadList form) RefusesNone (S.remaining source.old) (S.remaining source.new)
         (D.contents drain.old) (D.contents drain.new) e) }
     // `Io` means that the reader or the writer failed in this call, or that the writer took no bytes.
     ensures io { (result ≡ Err FileError.Io) → (S.failures source.new ≡ S.failures source.old + 1)
@@ -224,11 +239,12 @@ pub fn print_threads<S: Source, D: Drain>(
     let mut threads = Threads {
         totals: BTreeMap::new(alloc),
     };
-    let answer = list_frames(alloc, source, drain, None, &mut threads);
+    read_magic(source)?;
+    let answer = list_behind(alloc, source, drain, None, &mut threads);
     if fails_outside(&answer) {
         return answer;
     }
-    let lines = lines_of(alloc, &threads)?;
-    write_all(drain, &lines)?;
+    let text = text_of(alloc, form, &threads)?;
+    write_all(drain, &text)?;
     answer
 }

@@ -6,7 +6,7 @@ ghost use Rattle.puffin_data.specs.Device.{CanFail};
 ghost use Rattle.puffin_data.specs.Honesty.{facts_of};
 ghost use Rattle.puffin_threads.specs.Thread.ThreadKey.{key_of};
 ghost use Rattle.puffin_look.specs.Buckets.{last_of};
-ghost use Rattle.puffin_look.specs.FrameTree.{length_of};
+ghost use Rattle.puffin_look.specs.Cells.{length_of};
 ghost use Rattle.puffin_look.specs.Top.{rank_of, weight, AreSorted, IsTop, StopsReading};
 ghost use Rattle.puffin_look.specs.inner.Counts.{bucket_at};
 ghost use Rattle.puffin_look.specs.inner.Tallies.{tally_of, rows_of};

@@ -12,7 +12,8 @@ ghost use Rattle.puffin_threads.specs.Thread.ThreadKey.{key_of};
 ghost use Rattle.puffin_look.specs.Escapes.{escaped};
 ghost use Rattle.puffin_look.specs.Names.{name_or_id};
 ghost use Rattle.puffin_look.specs.ThreadLines.{thread_text};
-ghost use Rattle.puffin_look.specs.FrameTree.{nested_line, length_of, forest_lines, tree_text};
+ghost use Rattle.puffin_look.specs.FrameTree.{nested_line, forest_lines, tree_text};
+ghost use Rattle.puffin_look.specs.Cells.{length_of};
 ghost use Rattle.puffin_look.specs.inner.TreeLines.{HasMoreLines};
 
 use crate::columns::{push_indent, push_numbers, push_text};

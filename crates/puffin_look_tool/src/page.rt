@@ -31,8 +31,7 @@ button:hover { border-color: var(--faint); }
 :focus-visible { outline: 2px solid var(--accent); outline-offset: 1px; }
 svg { display: block; width: 100%; background: var(--panel); border-radius: 3px; }
 #bars, #flame { border: 1px solid var(--line); border-radius: 6px; background: var(--panel); touch-action: pan-y; user-select: none; }
-#bars rect { fill: var(--bar); }
-#bars rect.chosen { fill: var(--accent); }
+#bars rect { fill: var(--bar); } #bars rect.chosen { fill: var(--accent); }
 #bars line { stroke: var(--faint); stroke-dasharray: 2 3; }
 svg text { fill: var(--faint); font: 11px ui-monospace, monospace; pointer-events: none; white-space: pre; unicode-bidi: isolate; }
 #flame { padding: 0 8px 8px; cursor: grab; }
@@ -52,8 +51,7 @@ th:first-child, td:first-child { text-align: left; }
 td:first-child { white-space: pre-wrap; overflow-wrap: anywhere; min-width: 130px; unicode-bidi: isolate; }
 th button { border: 0; padding: 2px 0; font-weight: 600; background: none; }
 th[aria-sort] button { color: var(--accent); }
-tbody tr { cursor: pointer; }
-tbody tr:hover, tr.lit { background: color-mix(in srgb, var(--accent) 14%, transparent); }
+tbody tr { cursor: pointer; } tbody tr:hover, tr.lit { background: color-mix(in srgb, var(--accent) 14%, transparent); }
 @media (max-width: 600px) { body { padding: 0 8px 76px; } .row output { order: -1; flex-basis: 100%; } }
 </style>
 <body>
@@ -99,7 +97,7 @@ const time = (ns) => {
   const size = Math.abs(ns);
   if (size < 1e3) return `${ns} ns`;
   const [unit, name] = size < 1e6 ? [1e3, "µs"] : size < 1e9 ? [1e6, "ms"] : [1e9, "s"];
-  return `${grouped(Math.trunc(ns / unit * 100) / 100)} ${name}`;
+  return `${grouped(Math.trunc(ns * 100 / unit) / 100)} ${name}`;
 };
 const percent = (part, whole) => whole > 0 ? `${(part / whole * 100).toFixed(1)} %` : "–";
 

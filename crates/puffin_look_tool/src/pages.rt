@@ -3,9 +3,9 @@
 ghost use Rattle.std.specs.Prelude.{◌<◌, ◌^◌, ◌-◌};
 ghost use Rattle.puffin_data.specs.Device.Counting.{failed_calls, failed_reads};
 
+use crate::faults::{Cause, LookFault, fault_of};
+use crate::input::{Input, Reader};
 use crate::page::{END, HEAD};
-use crate::skimmed::Skimmed;
-use crate::{Cause, LookFault, Reader, fault_of, first_reading, reader, rewind};
 use puffin_data::FileError;
 use puffin_data::data::{Counted, write_all};
 use puffin_look::{Indices, Overview, PageFrames, PageLimits, choose_frames, print_page_data};
@@ -46,22 +46,18 @@ fn create<'w>(rt: &HostRuntime, page: &'w str) -> Result<File, LookFault<'w>> {
 /// Returns which frames the page has. The file is then read again.
 fn frames_of<'w>(
     rt: &HostRuntime,
-    path: &'w str,
-    file: &File,
+    input: &Input<'w>,
     indices: Option<Indices>,
 ) -> Result<PageFrames, LookFault<'w>> {
     if let Some(indices) = indices {
         return Ok(PageFrames::Within(indices));
     }
-    let mut source = match Skimmed::new(rt.alloc(), file) {
-        Ok(source) => source,
-        Err(error) => return Err(LookFault::At(path, Cause::System(error))),
-    };
+    let mut source = input.skimmed(rt)?;
     let indices = match choose_frames(rt.alloc(), &mut source, LIMITS) {
         Ok(indices) => indices,
-        Err(error) => return Err(fault_of(path, error, source.last_error(), None)),
+        Err(error) => return Err(fault_of(input.path, error, source.last_error(), None)),
     };
-    rewind(path, file)?;
+    input.rewind()?;
     Ok(PageFrames::These(indices))
 }
 
@@ -98,14 +94,14 @@ fn page_fault<'w>(
 /// Writes the frames of a file as a page: those with these indices, or those that a page has by default.
 pub(crate) fn view<'w>(
     rt: &HostRuntime,
-    path: &'w str,
-    file: &File,
+    input: &Input<'w>,
     page: &'w str,
     indices: Option<Indices>,
 ) -> Result<(), LookFault<'w>> {
-    let overview = first_reading(rt, path, file)?;
-    let frames = frames_of(rt, path, file, indices)?;
-    let mut source = reader(rt, path, file)?;
+    let path = input.path;
+    let overview = input.overview(rt)?;
+    let frames = frames_of(rt, input, indices)?;
+    let mut source = input.reader(rt)?;
     let mut out = Counted::new(create(rt, page)?);
     let answer = write_page(rt, &overview, &mut source, &mut out, &frames);
     if let Err(error @ (FileError::Io | FileError::Memory)) = answer {

@@ -2,10 +2,10 @@
 
 ghost use Rattle.std.specs.Prelude.{◌<◌, ◌^◌, ◌-◌, IfOk};
 
+use crate::progress::Watched;
 use puffin_data::FileError;
 use puffin_data::data::{Buffered, Source};
 use std::alloc::Global;
-use std::fs::File;
 use std::io;
 use std::io::{BufRead, BufReader, Read, Seek, SeekFrom};
 
@@ -16,7 +16,7 @@ const PIECE: usize = 512;
 /// single byte, their kind: what is read behind one byte is skipped over.
 #[derive(Drop)]
 pub(crate) struct Skimmed<'f> {
-    reader: BufReader<&'f File>,
+    reader: BufReader<Watched<'f>>,
     /// The file's length.
     len: u64,
     /// Whether one byte alone was read last.
@@ -29,10 +29,10 @@ pub(crate) struct Skimmed<'f> {
 
 impl<'f> Skimmed<'f> {
     /// Skims a file from where it stands.
-    pub(crate) fn new(alloc: Global, file: &'f File) -> io::Result<Skimmed<'f>>
+    pub(crate) fn new(alloc: Global, file: Watched<'f>) -> io::Result<Skimmed<'f>>
         ensures { IfOk result (λ skimmed. skimmed.faults < 2 ^ 64 - 1) }
     {
-        let len = file.metadata()?.len();
+        let len = file.len;
         let reader = BufReader::with_capacity(alloc, PIECE, file)?;
         Ok(Skimmed {
             reader,
@@ -51,7 +51,7 @@ impl<'f> Skimmed<'f> {
 }
 
 /// Moves over the next bytes of a file of this length. Returns whether it has them.
-fn skip(reader: &mut BufReader<&File>, count: usize, len: u64) -> io::Result<bool> {
+fn skip(reader: &mut BufReader<Watched<'_>>, count: usize, len: u64) -> io::Result<bool> {
     if count <= reader.buffer().len() {
         reader.consume(count);
         return Ok(true);

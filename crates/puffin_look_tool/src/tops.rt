@@ -3,21 +3,22 @@
 ghost use Rattle.std.specs.Prelude.{◌<◌, ◌^◌, ◌-◌};
 ghost use Rattle.puffin_data.specs.Device.Counting.{failed_calls, failed_reads};
 
-use crate::{Cause, LookFault, OUTPUT, Reader, fault_of, first_reading, open, reader, wanted_in};
+use crate::faults::{Cause, LookFault, OUTPUT, fault_of};
+use crate::input::{Input, Reader};
+use crate::progress::Output;
 use puffin_data::FileError;
 use puffin_data::data::Counted;
 use puffin_look::{
     By, Diff, Options, Overview, Top, Wanted, compare, print_diff, print_top, read_top,
 };
 use std::alloc::AllocError;
-use std::io::Stdout;
 
 /// Prints the scopes of a file by name.
 pub(crate) fn print(
     rt: &HostRuntime,
     overview: &Overview,
     source: &mut Reader<'_>,
-    out: &mut Counted<Stdout>,
+    out: &mut Counted<Output<'_>>,
     wanted: &Wanted,
     options: Options,
 ) -> Result<(), FileError>
@@ -29,23 +30,22 @@ pub(crate) fn print(
         options.order.unwrap_or(By::Own),
         options.limit.unwrap_or(usize::MAX),
     )?;
-    print_top(rt.alloc(), out, &top)
+    print_top(rt.alloc(), out, &top, options.form)
 }
 
-/// Reads the scopes of the file at a path by name.
+/// Reads the scopes of a file by name.
 fn top_of<'w>(
     rt: &HostRuntime,
-    path: &'w str,
+    input: &Input<'w>,
     word: Option<&'w str>,
     options: Options,
 ) -> Result<Top, LookFault<'w>> {
-    let file = open(rt, path)?;
-    let overview = first_reading(rt, path, &file)?;
-    let wanted = wanted_in(rt, path, &file, options.frames, word)?;
-    let mut source = reader(rt, path, &file)?;
+    let overview = input.overview(rt)?;
+    let wanted = input.wanted(rt, options.frames, word)?;
+    let mut source = input.reader(rt)?;
     match read_top(rt.alloc(), &overview, &mut source, &wanted, options.texts) {
         Ok(top) => Ok(top),
-        Err(error) => Err(fault_of(path, error, source.last_error(), None)),
+        Err(error) => Err(fault_of(input.path, error, source.last_error(), None)),
     }
 }
 
@@ -65,21 +65,21 @@ fn compared(
     Ok((diff, is_grown))
 }
 
-/// Prints the scopes of the files at two paths by name. Fails if a time has grown by more than it may.
+/// Prints the scopes of a file and of the one at a path by name. Fails if a time has grown by more than it may.
 pub(crate) fn diff<'w>(
     rt: &HostRuntime,
-    old: &'w str,
+    input: &Input<'w>,
     new: &'w str,
     word: Option<&'w str>,
     options: Options,
 ) -> Result<(), LookFault<'w>> {
-    let old = top_of(rt, old, word, options)?;
-    let newer = top_of(rt, new, word, options)?;
+    let old = top_of(rt, input, word, options)?;
+    let newer = top_of(rt, &input.beside(rt, new)?, word, options)?;
     let Ok((diff, is_grown)) = compared(rt, &old, &newer, options) else {
         return Err(LookFault::Memory);
     };
-    let mut out = Counted::new(rt.stdout());
-    if let Err(error) = print_diff(rt.alloc(), &mut out, &diff) {
+    let mut out = input.output(rt);
+    if let Err(error) = print_diff(rt.alloc(), &mut out, &diff, options.form) {
         return Err(fault_of(OUTPUT, error, None, out.last_error()));
     }
     match options.fail_above {

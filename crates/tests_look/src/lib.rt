@@ -7,3 +7,5 @@ mod equal;
 mod lists;
 #[cfg(test)]
 mod pages;
+#[cfg(test)]
+mod words;

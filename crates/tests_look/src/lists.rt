@@ -2,32 +2,38 @@ use crate::equal::equal;
 use puffin_data::FileError;
 use puffin_data::data::Counted;
 use puffin_look::{
-    By, Indices, Options, Overview, Top, View, Wanted, compare, order_of, print_diff, print_folded,
-    print_frame, print_frames, print_slow_frames, print_slowest, print_threads, print_top,
-    print_trace, range, read_overview, read_top, read_words, take_options, threads_named,
+    By, Diff, Form, Indices, Overview, Top, Wanted, compare, print_diff, print_folded, print_frame,
+    print_frames, print_slow_frames, print_slowest, print_threads, print_top, print_trace,
+    read_overview, read_top, threads_named,
 };
 use puffin_threads::thread_profiler::ThreadInfo;
 use std::alloc::AllocGlobal;
 use std::process::Abort;
-use std::test::Fail;
 use tests_support::samples::{FILE, ONE_FRAME};
 
 /// What a call returned, and what it wrote.
 type Printed = (Result<(), FileError>, Vec<u8>);
 
 /// Lists the slowest frames of a file.
-fn slowest_of(rt: &impl AllocGlobal, file: &[u8], limit: usize) -> Printed {
+fn slowest_of(rt: &impl AllocGlobal, file: &[u8], limit: usize, form: Form) -> Printed {
     let mut out = Counted::new(Vec::new(rt.alloc()));
-    let answer = print_slowest(rt.alloc(), &mut Counted::new(file), &mut out, limit);
+    let answer = print_slowest(rt.alloc(), &mut Counted::new(file), &mut out, limit, form);
     (answer, out.into_inner())
 }
 
 /// Whether a thread was printed.
 type Found = Result<bool, FileError>;
 
-/// The lines of the two frames of [`FILE`].
-const FRAMES: &[u8] = b"frame 0 threads 1 scopes 1 range 100 300 duration 200\n\
-frame 1 threads 1 scopes 1 range 400 401 duration 1\n";
+/// The table of the two frames of [`FILE`].
+const FRAMES: &[u8] =
+    b"         frame       threads        scopes                      start    duration\n\
+\x20            0             1             1                        100      200 ns\n\
+\x20            1             1             1                        400        1 ns\n";
+
+/// The same in JSON.
+const FRAMES_JSON: &[u8] =
+    b"[{\"frame\":0,\"threads\":1,\"scopes\":1,\"start\":100,\"duration\":200},\n\
+{\"frame\":1,\"threads\":1,\"scopes\":1,\"start\":400,\"duration\":1}]\n";
 
 /// The trace of [`FILE`].
 const TRACE: &[u8] = b"{\"displayTimeUnit\":\"ns\",\"traceEvents\":[\n\
@@ -47,7 +53,11 @@ const TABLE: &[u8] =
     b"         calls       total         own       least      median         p95         p99    greatest   share  name\n\
 \x20            2      201 ns      201 ns        1 ns        1 ns      200 ns      200 ns      200 ns  100.0%  #1\n";
 
-/// The same with texts kept apart, those that take the most time first.
+/// The same in JSON.
+const ROWS: &[u8] =
+    b"[{\"calls\":2,\"total\":201,\"own\":201,\"least\":1,\"median\":1,\"p95\":200,\"p99\":200,\"greatest\":200,\"share\":100.0,\"name\":\"#1\"}]\n";
+
+/// The table with texts kept apart, those that take the most time first.
 const TEXTS: &[u8] =
     b"         calls       total         own       least      median         p95         p99    greatest   share  name\n\
 \x20            1      200 ns      200 ns      200 ns      200 ns      200 ns      200 ns      200 ns   99.5%  #1 (data)\n\
@@ -58,20 +68,38 @@ const CHANGES: &[u8] =
     b"     old_own     new_own   own_change   own_growth   old_total   new_total total_change total_growth     old_calls     new_calls  name\n\
 \x20     200 ns      100 ns      -100 ns       -50.0%      200 ns      100 ns      -100 ns       -50.0%          1.00          1.00  #1\n";
 
-/// Where the line of the second frame begins.
-const SECOND_LINE: usize = 54;
+/// The same in JSON.
+const CHANGES_JSON: &[u8] =
+    b"[{\"old_own\":200,\"new_own\":100,\"own_change\":-100,\"own_growth\":-50.0,\"old_total\":200,\"new_total\":100,\"total_change\":-100,\"total_growth\":-50.0,\"old_calls\":1.00,\"new_calls\":1.00,\"name\":\"#1\"}]\n";
+
+/// Where the lines of the two frames begin.
+const FIRST_LINE: usize = 82;
+
+const SECOND_LINE: usize = 164;
+
+/// Where the first frame's object ends.
+const SECOND_OBJECT: usize = 62;
+
+/// The table of the thread of [`FILE`], and that of its first frame.
+const THREADS: &[u8] =
+    b"        frames        scopes         bytes                      start    duration  thread\n\
+\x20            2             2            67                        100      301 ns  100:main\n";
+
+const FIRST_THREADS: &[u8] =
+    b"        frames        scopes         bytes                      start    duration  thread\n\
+\x20            1             1            35                        100      200 ns  100:main\n";
 
 /// Lists the threads of a file.
-fn threads_of(rt: &impl AllocGlobal, file: &[u8]) -> Printed {
+fn threads_of(rt: &impl AllocGlobal, file: &[u8], form: Form) -> Printed {
     let mut out = Counted::new(Vec::new(rt.alloc()));
-    let answer = print_threads(rt.alloc(), &mut Counted::new(file), &mut out);
+    let answer = print_threads(rt.alloc(), &mut Counted::new(file), &mut out, form);
     (answer, out.into_inner())
 }
 
-/// Lists the frames of a file.
-fn frames_of(rt: &impl AllocGlobal, file: &[u8]) -> Printed {
+/// Lists some frames of a file.
+fn frames_of(rt: &impl AllocGlobal, file: &[u8], indices: Option<Indices>, form: Form) -> Printed {
     let mut out = Counted::new(Vec::new(rt.alloc()));
-    let answer = print_frames(rt.alloc(), &mut Counted::new(file), &mut out, None);
+    let answer = print_frames(rt.alloc(), &mut Counted::new(file), &mut out, indices, form);
     (answer, out.into_inner())
 }
 
@@ -160,10 +188,17 @@ fn top_of<R: AllocGlobal + Abort>(rt: &R, file: &[u8], texts: bool) -> Result<To
     )
 }
 
-/// Prints rows as a table.
-fn table_of<R: AllocGlobal + Abort>(rt: &R, top: &Top) -> Vec<u8> {
+/// Prints rows.
+fn text_of<R: AllocGlobal + Abort>(rt: &R, top: &Top, form: Form) -> Vec<u8> {
     let mut out = Counted::new(Vec::new(rt.alloc()));
-    print_top(rt.alloc(), &mut out, top).expect(rt, "a table");
+    print_top(rt.alloc(), &mut out, top, form).expect(rt, "a list");
+    out.into_inner()
+}
+
+/// Prints what two files have.
+fn changes_of<R: AllocGlobal + Abort>(rt: &R, diff: &Diff, form: Form) -> Vec<u8> {
+    let mut out = Counted::new(Vec::new(rt.alloc()));
+    print_diff(rt.alloc(), &mut out, diff, form).expect(rt, "a list");
     out.into_inner()
 }
 
@@ -173,7 +208,12 @@ fn first_top<R: AllocGlobal + Abort>(rt: &R) -> Top {
 }
 
 /// Shows what takes the most time in the slowest frames of a file.
-fn slow_frames_of<R: AllocGlobal + Abort>(rt: &R, file: &[u8], limit: usize) -> Printed {
+fn slow_frames_of<R: AllocGlobal + Abort>(
+    rt: &R,
+    file: &[u8],
+    limit: usize,
+    form: Form,
+) -> Printed {
     let mut out = Counted::new(Vec::new(rt.alloc()));
     let answer = print_slow_frames(
         rt.alloc(),
@@ -182,6 +222,7 @@ fn slow_frames_of<R: AllocGlobal + Abort>(rt: &R, file: &[u8], limit: usize) -> 
         &mut out,
         &wanted_of(rt, None, None),
         limit,
+        form,
     );
     (answer, out.into_inner())
 }
@@ -215,30 +256,41 @@ fn prints(rt: &impl Abort, printed: &Printed, answer: Result<(), FileError>, lin
 
 #[test]
 fn a_thread_is_listed_with_the_sums_of_its_frames(rt: HostRuntime) {
-    let printed = threads_of(&rt, &FILE);
-    let line = b"frames 2 scopes 2 bytes 67 range 100 401 thread 100:main\n";
-    prints(&rt, &printed, Ok(()), line);
+    let printed = threads_of(&rt, &FILE, Form::Table);
+    prints(&rt, &printed, Ok(()), THREADS);
+    let object =
+        b"[{\"frames\":2,\"scopes\":2,\"bytes\":67,\"start\":100,\"duration\":301,\"thread\":\"100:main\"}]\n";
+    prints(&rt, &threads_of(&rt, &FILE, Form::Json), Ok(()), object);
 }
 
 #[test]
 fn each_frame_is_listed(rt: HostRuntime) {
-    prints(&rt, &frames_of(&rt, &FILE), Ok(()), FRAMES);
+    let printed = frames_of(&rt, &FILE, None, Form::Table);
+    prints(&rt, &printed, Ok(()), FRAMES);
+    let printed = frames_of(&rt, &FILE, None, Form::Json);
+    prints(&rt, &printed, Ok(()), FRAMES_JSON);
 }
 
 #[test]
 fn the_slowest_frames_come_first(rt: HostRuntime) {
-    prints(&rt, &slowest_of(&rt, &FILE, 3), Ok(()), FRAMES);
+    let printed = slowest_of(&rt, &FILE, 3, Form::Json);
+    prints(&rt, &printed, Ok(()), FRAMES_JSON);
     let first = &FRAMES[..SECOND_LINE];
-    prints(&rt, &slowest_of(&rt, &FILE, 1), Ok(()), first);
+    let printed = slowest_of(&rt, &FILE, 1, Form::Table);
+    prints(&rt, &printed, Ok(()), first);
 }
 
 #[test]
 fn what_stands_before_a_fault_is_listed(rt: HostRuntime) {
     let cut = &FILE[..ONE_FRAME + 20];
     let truncated = Err(FileError::Truncated);
-    prints(&rt, &frames_of(&rt, cut), truncated, &FRAMES[..SECOND_LINE]);
-    let line = b"frames 1 scopes 1 bytes 35 range 100 300 thread 100:main\n";
-    prints(&rt, &threads_of(&rt, cut), truncated, line);
+    let printed = frames_of(&rt, cut, None, Form::Table);
+    prints(&rt, &printed, truncated, &FRAMES[..SECOND_LINE]);
+    let closed = joined(&rt, &FRAMES_JSON[..SECOND_OBJECT], b"]\n");
+    let printed = frames_of(&rt, cut, None, Form::Json);
+    prints(&rt, &printed, truncated, closed.as_slice());
+    let printed = threads_of(&rt, cut, Form::Table);
+    prints(&rt, &printed, truncated, FIRST_THREADS);
 }
 
 #[test]
@@ -288,7 +340,8 @@ fn a_path_has_its_own_time_in_all_frames(rt: HostRuntime) {
 fn a_name_has_the_times_of_its_scopes(rt: HostRuntime) {
     let mut top = top_of(&rt, &FILE, false).expect(&rt, "a file");
     equal(&rt, (top.whole, top.frames), (201, 2));
-    equal(&rt, table_of(&rt, &top).as_slice(), TABLE);
+    equal(&rt, text_of(&rt, &top, Form::Table).as_slice(), TABLE);
+    equal(&rt, text_of(&rt, &top, Form::Json).as_slice(), ROWS);
     top.sort_by(By::Calls, 0).expect(&rt, "memory");
     equal(&rt, top.rows.len(), 0);
     let cut = top_of(&rt, &FILE[..ONE_FRAME + 20], false);
@@ -298,8 +351,13 @@ fn a_name_has_the_times_of_its_scopes(rt: HostRuntime) {
 #[test]
 fn a_slow_frame_has_its_heaviest_path(rt: HostRuntime) {
     let lines = b"frame 0: 200 ns, scopes 1\n      200 ns  100.0%  #1\n";
-    prints(&rt, &slow_frames_of(&rt, &FILE, 1), Ok(()), lines);
-    let cut = slow_frames_of(&rt, &FILE[..ONE_FRAME + 20], 1);
+    let printed = slow_frames_of(&rt, &FILE, 1, Form::Table);
+    prints(&rt, &printed, Ok(()), lines);
+    let object =
+        b"[{\"frame\":0,\"duration\":200,\"scopes\":1,\"path\":[{\"time\":200,\"share\":100.0,\"name\":\"#1\"}]}]\n";
+    let printed = slow_frames_of(&rt, &FILE, 1, Form::Json);
+    prints(&rt, &printed, Ok(()), object);
+    let cut = slow_frames_of(&rt, &FILE[..ONE_FRAME + 20], 1, Form::Json);
     prints(&rt, &cut, Err(FileError::Truncated), b"");
 }
 
@@ -307,7 +365,7 @@ fn a_slow_frame_has_its_heaviest_path(rt: HostRuntime) {
 fn texts_are_kept_apart(rt: HostRuntime) {
     let mut top = top_of(&rt, &FILE, true).expect(&rt, "a file");
     top.sort_by(By::Own, 9).expect(&rt, "memory");
-    equal(&rt, table_of(&rt, &top).as_slice(), TEXTS);
+    equal(&rt, text_of(&rt, &top, Form::Table).as_slice(), TEXTS);
 }
 
 #[test]
@@ -315,9 +373,10 @@ fn a_name_has_what_it_takes_in_each_frame_of_two_files(rt: HostRuntime) {
     let new = top_of(&rt, &FILE, false).expect(&rt, "a file");
     let mut diff = compare(rt.alloc(), &first_top(&rt), &new).expect(&rt, "memory");
     diff.sort(9).expect(&rt, "memory");
-    let mut out = Counted::new(Vec::new(rt.alloc()));
-    print_diff(rt.alloc(), &mut out, &diff).expect(&rt, "a table");
-    equal(&rt, out.into_inner().as_slice(), CHANGES);
+    let table = changes_of(&rt, &diff, Form::Table);
+    equal(&rt, table.as_slice(), CHANGES);
+    let json = changes_of(&rt, &diff, Form::Json);
+    equal(&rt, json.as_slice(), CHANGES_JSON);
     equal(&rt, diff.grows_above(0), false);
     let back = compare(rt.alloc(), &new, &first_top(&rt)).expect(&rt, "memory");
     equal(
@@ -345,43 +404,11 @@ fn names_that_one_file_has_are_compared_with_nothing(rt: HostRuntime) {
 }
 
 #[test]
-fn options_are_taken_from_the_words(rt: HostRuntime) -> Result<(), Fail> {
-    let alloc = rt.alloc();
-    let mut words = vec![in alloc;
-        String::from_str(alloc, "top")?,
-        String::from_str(alloc, "a.puffin")?,
-        String::from_str(alloc, "--frames")?,
-        String::from_str(alloc, "3..5")?,
-        String::from_str(alloc, "--by")?,
-        String::from_str(alloc, "max")?,
-    ]?;
-    let options = Options {
-        frames: Some(Indices { first: 3, last: 4 }),
-        order: Some(By::Greatest),
-        limit: None,
-        texts: false,
-        fail_above: None,
-    };
-    equal(&rt, take_options(&mut words), Some(options));
-    equal(&rt, options.are_taken_by(View::Top(None)), true);
-    equal(&rt, options.are_taken_by(View::Trace), false);
-    equal(&rt, words.len(), 2);
-    equal(&rt, order_of("most"), None);
-    equal(&rt, range("5..5"), None);
-    Ok(())
-}
-
-#[test]
 fn frames_are_chosen_by_their_indices(rt: HostRuntime) {
-    let mut out = Counted::new(Vec::new(rt.alloc()));
     let second = Some(Indices::only(1));
-    let answer = print_frames(rt.alloc(), &mut Counted::new(&FILE[..]), &mut out, second);
-    prints(
-        &rt,
-        &(answer, out.into_inner()),
-        Ok(()),
-        &FRAMES[SECOND_LINE..],
-    );
+    let printed = frames_of(&rt, &FILE, second, Form::Table);
+    let lines = joined(&rt, &FRAMES[..FIRST_LINE], &FRAMES[SECOND_LINE..]);
+    prints(&rt, &printed, Ok(()), lines.as_slice());
 }
 
 #[test]
@@ -394,29 +421,4 @@ fn a_thread_is_found_by_its_text_or_its_name(rt: HostRuntime) {
     }
     equal(&rt, named(&rt, "-:main").len(), 0);
     equal(&rt, named(&rt, "an*").len(), 0);
-}
-
-#[test]
-fn words_name_what_is_shown(rt: HostRuntime) -> Result<(), Fail> {
-    let alloc = rt.alloc();
-    let words = [
-        String::from_str(alloc, "frames")?,
-        String::from_str(alloc, "a.puffin")?,
-    ];
-    equal(
-        &rt,
-        read_words(&words),
-        Some((View::Frames(None), "a.puffin")),
-    );
-    equal(&rt, read_words(&words[..1]), None);
-    let words = [
-        String::from_str(alloc, "frame")?,
-        String::from_str(alloc, "a.puffin")?,
-        String::from_str(alloc, "7")?,
-        String::from_str(alloc, "-:main")?,
-    ];
-    let frame = View::Frame(7, Some("-:main"));
-    equal(&rt, read_words(&words), Some((frame, "a.puffin")));
-    equal(&rt, read_words(&words[..2]), None);
-    Ok(())
 }

@@ -8,6 +8,7 @@ use Rattle.puffin_threads.specs.Details.Collection.{Collection}
 use Rattle.puffin_look.specs.OpenFrame.{OpenFrame}
 use Rattle.puffin_look.specs.Trees.{TreeFrame, IsRead, AreRead, AreUnread}
 use Rattle.puffin_look.specs.Wanted.{wanted_streams}
+use Rattle.puffin_look.specs.declared.lines.Form.{Form}
 use Rattle.puffin_look.specs.declared.wanted.Wanted.{Wanted}
 use Rattle.puffin_look.specs.Slowest.{with_row_by}
 use Rattle.puffin_look.specs.SlowFrames.{Slow, duration, slow_of, slow_text}
@@ -22,14 +23,14 @@ abbrev pub held_of : SlowFrame → Slow
 held_of row = (row.duration_ns, row.text.items)
 
 -- this is what is printed of a frame
-pub record ReadsSlow (known : Collection) (wanted : Wanted) (frame : OpenFrame) (text : List ℕ) : Type 0 where
+pub record ReadsSlow (form : Form) (known : Collection) (wanted : Wanted) (frame : OpenFrame) (text : List ℕ) : Type 0 where
   pub tree : TreeFrame
   pub read : IsRead (wanted_streams wanted) frame tree
-  pub is : text ≡ slow_text known tree
+  pub is : text ≡ slow_text form known tree
 
 -- only so many are kept
-abbrev pub keeping : ℕ → Collection → List Slow → TreeFrame → List Slow
-keeping n known rows tree = take n (with_row_by duration rows (slow_of known tree))
+abbrev pub keeping : ℕ → Form → Collection → List Slow → TreeFrame → List Slow
+keeping n form known rows tree = take n (with_row_by duration rows (slow_of form known tree))
 
 -- these frames were read, the slowest were kept, and nothing was printed
 pub record TakesSlow (v : SlowFrames) (frames : List OpenFrame) (text : List ℕ) (u : SlowFrames) : Type 0 where
@@ -37,8 +38,9 @@ pub record TakesSlow (v : SlowFrames) (frames : List OpenFrame) (text : List ℕ
   pub trees : List TreeFrame
   pub read : AreRead (wanted_streams v.wanted.now) frames trees
   pub rows : map held_of u.rows.items
-      ≡ fold (keeping v.limit v.known.now) (map held_of v.rows.items) trees
+      ≡ fold (keeping v.limit v.form v.known.now) (map held_of v.rows.items) trees
   pub limit : u.limit ≡ v.limit
+  pub form : u.form ≡ v.form
   pub known : u.known ≡ v.known
   pub wanted : u.wanted ≡ v.wanted
 
@@ -54,6 +56,7 @@ slow_none v = record {
   read = tt;
   rows = refl;
   limit = refl;
+  form = refl;
   known = refl;
   wanted = refl;
 }
@@ -68,9 +71,10 @@ slow_more u v w xs ys s t a b =
       read = AreRead-append (wanted_streams u.wanted.now) xs ys a.trees b.trees a.read (
           subst (λ (w : Wanted). AreRead (wanted_streams w) ys b.trees) wanted b.read);
       rows = b.rows
-          ∙ (λ i. fold (keeping (a.limit i) (a.known i).now) (a.rows i) b.trees)
-          ∙ sym (fold-append (keeping u.limit u.known.now) (map held_of u.rows.items) a.trees b.trees);
+          ∙ (λ i. fold (keeping (a.limit i) (a.form i) (a.known i).now) (a.rows i) b.trees)
+          ∙ sym (fold-append (keeping u.limit u.form u.known.now) (map held_of u.rows.items) a.trees b.trees);
       limit = b.limit ∙ a.limit;
+      form = b.form ∙ a.form;
       known = b.known ∙ a.known;
       wanted = b.wanted ∙ a.wanted;
     }

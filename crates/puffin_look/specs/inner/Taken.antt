@@ -1,18 +1,16 @@
 -- What the listings of this crate take.
 use Rattle.std.specs.Prelude.{◌≡◌, ℕ, Bool, true, false, Result, Ok, Err, List, [], ◌++◌, fold, take}
 use Rattle.std.proofs.Common.{refl, sym, ap, ◌∙◌}
-use Rattle.std.proofs.lemmas.List.Concat.{flat_map-append}
 use Rattle.std.proofs.lemmas.List.Sums.{fold-append}
 use Rattle.puffin_data.specs.declared.file_error.FileError.{FileError}
 use Rattle.puffin_data.specs.declared.file_error.FileError.TheVariants as file
 use Rattle.puffin_threads.specs.Thread.ThreadKey.{by_key}
 use Rattle.puffin_look.specs.OpenFrame.{OpenFrame}
 use Rattle.puffin_look.specs.ThreadLines.{with_frame}
-use Rattle.puffin_look.specs.FrameLines.{frame_line, frame_lines}
-use Rattle.puffin_look.specs.Slowest.{row_of, with_row}
+use Rattle.puffin_look.specs.FrameLines.{frame_row}
+use Rattle.puffin_look.specs.Slowest.{with_row}
 use Rattle.puffin_look.specs.declared.slowest.Slowest.{Slowest}
 use Rattle.puffin_look.specs.declared.threads.Threads.{Threads}
-use Rattle.puffin_look.specs.declared.frames.FrameLines.{FrameLines}
 
 -- ---- threads
 
@@ -32,17 +30,6 @@ totals_more u v w xs ys s t a b = record {
       ∙ sym (fold-append with_frame (by_key u.totals.entries) xs ys);
 }
 
--- ---- frames
-
-abbrev pub TakesLines : FrameLines → List OpenFrame → List ℕ → FrameLines → Type 0
-TakesLines v frames text u = text ≡ frame_lines frames
-
-pub lines_more : (u v w : FrameLines) (xs ys : List OpenFrame) (s t : List ℕ) → TakesLines u xs s v →
-    TakesLines v ys t w → TakesLines u (xs ++ ys) (s ++ t) w
-lines_more u v w xs ys s t a b =
-    ap (λ (r : List ℕ). r ++ t) a ∙ ap (λ (r : List ℕ). frame_lines xs ++ r) b
-    ∙ sym (flat_map-append frame_line xs ys)
-
 -- ---- the slowest frames
 
 -- the rows are those with these frames, and nothing was printed
@@ -50,7 +37,7 @@ pub record TakesRows (v : Slowest) (frames : List OpenFrame) (text : List ℕ) (
   pub none : text ≡ []
   pub limit : u.limit ≡ v.limit
   pub rows : u.rows.items
-      ≡ fold (λ rows frame. take v.limit (with_row rows (row_of frame))) v.rows.items frames
+      ≡ fold (λ rows frame. take v.limit (with_row rows (frame_row frame))) v.rows.items frames
 
 pub rows_none : (v : Slowest) → TakesRows v [] [] v
 rows_none v = record { none = refl; limit = refl; rows = refl }
@@ -61,9 +48,9 @@ rows_more u v w xs ys s t a b = record {
   none = ap (λ (r : List ℕ). r ++ t) a.none ∙ b.none;
   limit = b.limit ∙ a.limit;
   rows = b.rows
-      ∙ (λ i. fold (λ rows frame. take (a.limit i) (with_row rows (row_of frame))) (a.rows i) ys)
+      ∙ (λ i. fold (λ rows frame. take (a.limit i) (with_row rows (frame_row frame))) (a.rows i) ys)
       ∙ sym (
-      fold-append (λ rows frame. take u.limit (with_row rows (row_of frame))) u.rows.items xs ys);
+      fold-append (λ rows frame. take u.limit (with_row rows (frame_row frame))) u.rows.items xs ys);
 }
 
 -- whether a call failed because the reader, the writer or memory did

@@ -5,7 +5,8 @@ use Rattle.std.proofs.Common.{refl, sym, ap, ◌∙◌, append_assoc, append-nil
 use Rattle.std.proofs.lemmas.List.Concat.{flat_map-append}
 use Rattle.puffin_data.specs.Forest.{Span}
 use Rattle.puffin_data.specs.Walk.PlacedScopes.{ScopeInContext}
-use Rattle.puffin_look.specs.FrameTree.{scope_line, outer_time, length_of}
+use Rattle.puffin_look.specs.FrameTree.{scope_line, outer_time}
+use Rattle.puffin_look.specs.Cells.{length_of}
 use Rattle.puffin_look.specs.declared.tree.Lines.{Lines}
 use Rattle.puffin_look.specs.declared.tree.Outer.{Outer}
 

@@ -1,13 +1,49 @@
--- What was listed is a line for each frame.
-use Rattle.std.proofs.Common.{List, ℕ, ◌++◌, ap, ◌∙◌}
+-- What was written is the list of the frames that were read.
+use Rattle.std.proofs.Common.{ℕ, ◌+◌, inl, inr, refl, ap, sym, ◌∙◌}
+use Rattle.std.proofs.lemmas.Result.{err_from_is_err_and, on_ok_weaker}
+use Rattle.puffin_look.specs.Forms.{closing}
+use Rattle.puffin_look.specs.FrameLines.{IsFrameList}
 use Rattle.puffin_look.specs.Printed.{RefusesNone}
-use Rattle.puffin_look.specs.FrameLines.{AreFrameLines}
-use Rattle.puffin_look.specs.inner.Taken.{TakesLines}
-use Rattle.puffin_look.specs.declared.frames.FrameLines.{FrameLines}
-use Rattle.puffin_look.proofs.Listed.{if_err_so, stopped}
+use Rattle.puffin_look.specs.inner.Lining.{TakesFrames}
+use Rattle.puffin_look.proofs.Closings.{none_written, no_letters, told_open, told_closed, told_printed, end_cut}
+use Rattle.puffin_look.proofs.FramesPrinted.{text_in, closed}
+use Rattle.puffin_look.proofs.Listed.{if_err_so}
+use Rattle.puffin_look.proofs.ThreadsPrinted.{not_io}
 use Rattle.puffin_look.proofs.frames.print_frames.Goals as goal
+
+pub returns-in_err-list-clause-err : goal.returns-in_err-list-clause-err
+returns-in_err-list-clause-err g c =
+    let p = err_from_is_err_and c.from_residual.result c.from_residual.ensures.1 in
+    rw p.1 (none_written (IsFrameList c.args.form c.args.indices) RefusesNone _ refl _ _ _ p.0 (inr p.2))
+
+pub returns-in_err-read_magic-clause-err : goal.returns-in_err-read_magic-clause-err
+returns-in_err-read_magic-clause-err g c =
+    let p = err_from_is_err_and c.from_residual-in_err-read_magic.result c.from_residual-in_err-read_magic.ensures.1 in
+    rw (p.1, p.2) (no_letters (IsFrameList c.args.form c.args.indices) RefusesNone _ refl _ _ _ _ c.in_err-read_magic.ensures.err)
+
+pub returns-then-fails_outside-clause-err : goal.returns-then-fails_outside-clause-err
+returns-then-fails_outside-clause-err g c =
+    told_open text_in TakesFrames (λ _ _ _. ⊥) c.args.indices (IsFrameList c.args.form c.args.indices) RefusesNone (closing c.args.form) c.in_ok-list.list c.list_behind-answer.new.listing (closed c.args.form c.args.indices c.in_ok-list.list _ refl c.in_ok-list.ensures) (λ frames more v frame cause taken there refused. refused) _ _ _ _ _ c.list_behind-answer.result refl (sym c.fails_outside.ensures ∙ c.if-fails_outside.true)
+    (on_ok_weaker c.list_behind-answer.result (λ h. h _ c.in_ok-read_magic.ensures.begun) c.list_behind-answer.ensures.ok, if_err_so c.list_behind-answer.result (λ e h. h _ c.in_ok-read_magic.ensures.begun) c.list_behind-answer.ensures.err)
+
+pub returns-in_err-write_all-clause-err : goal.returns-in_err-write_all-clause-err
+returns-in_err-write_all-clause-err g c =
+    let p = err_from_is_err_and c.from_residual-in_err-write_all.result c.from_residual-in_err-write_all.ensures.1 in
+    rw (p.1, p.2) (end_cut text_in TakesFrames (λ _ _ _. ⊥) c.args.indices (IsFrameList c.args.form c.args.indices) RefusesNone c.closing.result.now c.in_ok-list.list c.list_behind-answer.new.listing (closed c.args.form c.args.indices c.in_ok-list.list _ c.closing.ensures c.in_ok-list.ensures) (λ frames more v frame cause taken there refused. refused) _ _ _ _ _ c.list_behind-answer.result _ (sym c.fails_outside.ensures ∙ c.if-fails_outside.false)
+    (on_ok_weaker c.list_behind-answer.result (λ h. h _ c.in_ok-read_magic.ensures.begun) c.list_behind-answer.ensures.ok, if_err_so c.list_behind-answer.result (λ e h. h _ c.in_ok-read_magic.ensures.begun) c.list_behind-answer.ensures.err) c.in_err-write_all.ensures.io.0 c.in_err-write_all.ensures.err)
+
+pub returns-clause-ok : goal.returns-clause-ok
+returns-clause-ok g c =
+    told_printed text_in TakesFrames (λ _ _ _. ⊥) c.args.indices (IsFrameList c.args.form c.args.indices) RefusesNone c.closing.result.now c.in_ok-list.list c.list_behind-answer.new.listing (closed c.args.form c.args.indices c.in_ok-list.list _ c.closing.ensures c.in_ok-list.ensures) (λ frames more v frame cause taken there refused. refused) _ _ _ _ _ c.list_behind-answer.result (on_ok_weaker c.list_behind-answer.result (λ h. h _ c.in_ok-read_magic.ensures.begun) c.list_behind-answer.ensures.ok, if_err_so c.list_behind-answer.result (λ e h. h _ c.in_ok-read_magic.ensures.begun) c.list_behind-answer.ensures.err) c.in_ok-write_all.ensures.ok
 
 pub returns-clause-err : goal.returns-clause-err
 returns-clause-err g c =
-    if_err_so c.list_frames.result
-    (λ e h. stopped (λ (v : FrameLines). v.text.items) TakesLines c.args.indices (λ _ _ _. ⊥) (AreFrameLines c.args.indices) RefusesNone _ _ _ _ _ _ e (λ frames more v taken. ap (λ (t : List ℕ). t ++ more) c.new.ensures.items ∙ taken) (λ frames more v frame cause taken there refused. refused) h) c.list_frames.ensures.err
+    told_closed text_in TakesFrames (λ _ _ _. ⊥) c.args.indices (IsFrameList c.args.form c.args.indices) RefusesNone c.closing.result.now c.in_ok-list.list c.list_behind-answer.new.listing (closed c.args.form c.args.indices c.in_ok-list.list _ c.closing.ensures c.in_ok-list.ensures) (λ frames more v frame cause taken there refused. refused) _ _ _ _ _ c.list_behind-answer.result (sym c.fails_outside.ensures ∙ c.if-fails_outside.false) (on_ok_weaker c.list_behind-answer.result (λ h. h _ c.in_ok-read_magic.ensures.begun) c.list_behind-answer.ensures.ok, if_err_so c.list_behind-answer.result (λ e h. h _ c.in_ok-read_magic.ensures.begun) c.list_behind-answer.ensures.err) c.in_ok-write_all.ensures.ok
+
+pub returns-in_err-write_all-clause-io : goal.returns-in_err-write_all-clause-io
+returns-in_err-write_all-clause-io g c =
+    let same = c.list_behind-answer.ensures.drained (not_io c.list_behind-answer.result (sym c.fails_outside.ensures ∙ c.if-fails_outside.false)) in
+    λ is. elim (c.in_err-write_all.ensures.io.1) [
+      | inl failed ↦ inr (inl (failed ∙ ap (λ (n : ℕ). n + 1) same))
+      | inr nothing ↦ inr (inr nothing)
+    ]

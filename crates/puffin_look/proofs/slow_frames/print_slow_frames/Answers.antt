@@ -1,10 +1,10 @@
 -- What was printed is the slowest frames.
-use Rattle.std.proofs.Common.{inl, inr, refl, ap, ◌∙◌}
-use Rattle.std.specs.List.{flat_map}
+use Rattle.std.proofs.Common.{List, [], map, inl, inr, refl, ap, ◌∙◌}
+use Rattle.puffin_look.specs.Forms.{list_text}
 use Rattle.std.proofs.lemmas.Result.{err_from_is_err_and, on_ok_weaker}
 use Rattle.puffin_look.specs.declared.slow_frames.SlowFrame.{SlowFrame}
 use Rattle.puffin_look.proofs.SlowKept.{slow_stopped, slow_printed, slow_cut}
-use Rattle.puffin_look.proofs.TracePrinted.{cut_told}
+use Rattle.puffin_look.proofs.Closings.{cut_told}
 use Rattle.puffin_look.proofs.slow_frames.print_slow_frames.Goals as goal
 
 pub returns-in_err-list_frames-clause-err : goal.returns-in_err-list_frames-clause-err
@@ -14,10 +14,10 @@ returns-in_err-list_frames-clause-err g c =
 
 pub returns-clause-ok : goal.returns-clause-ok
 returns-clause-ok g c =
-    let lines = c.deref-2.ensures.value ∙ c.in_ok-lines.ensures ∙ ap (flat_map (λ (row : SlowFrame). row.text.items)) c.deref.ensures.value in
+    let lines = c.deref-2.ensures.value ∙ c.in_ok-text.ensures ∙ ap (λ (rows : List SlowFrame). list_text c.args.form [] (map (λ (row : SlowFrame). row.text.items) rows)) c.deref.ensures.value in
     on_ok_weaker c.write_all.result (slow_printed _ _ _ _ _ _ c.in_ok-list_frames.ensures.ok c.new.ensures.items c.args.overview.now.details refl _ lines _) c.write_all.ensures.ok
 
 pub returns-clause-err : goal.returns-clause-err
 returns-clause-err g c =
-    let lines = c.deref-2.ensures.value ∙ c.in_ok-lines.ensures ∙ ap (flat_map (λ (row : SlowFrame). row.text.items)) c.deref.ensures.value in
+    let lines = c.deref-2.ensures.value ∙ c.in_ok-text.ensures ∙ ap (λ (rows : List SlowFrame). list_text c.args.form [] (map (λ (row : SlowFrame). row.text.items) rows)) c.deref.ensures.value in
     cut_told _ _ c.write_all.result (λ e io part. inr (io, slow_cut _ _ _ _ _ _ c.in_ok-list_frames.ensures.ok c.new.ensures.items c.args.overview.now.details refl _ lines _ part)) c.write_all.ensures.err c.write_all.ensures.io

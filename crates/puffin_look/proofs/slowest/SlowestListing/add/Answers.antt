@@ -1,6 +1,6 @@
 use Rattle.std.proofs.Common.{[], take, refl, ap, ◌∙◌}
 use Rattle.puffin_look.specs.Slowest.{with_row}
-use Rattle.puffin_look.specs.declared.slowest.Row.{Row}
+use Rattle.puffin_look.specs.declared.frames.FrameRow.{FrameRow}
 use Rattle.puffin_look.proofs.slowest.SlowestListing.add.Goals as goal
 
 pub returns-clause-ok : goal.returns-clause-ok
@@ -10,6 +10,6 @@ returns-clause-ok c = (
   record {
     none = refl;
     limit = c.in_ok-add_row.ensures.limit;
-    rows = c.in_ok-add_row.ensures.rows ∙ ap (λ (r : Row). take c.args.self.now.limit (with_row c.args.self.now.rows.items r)) c.new.ensures;
+    rows = c.in_ok-add_row.ensures.rows ∙ ap (λ (r : FrameRow). take c.args.self.now.limit (with_row c.args.self.now.rows.items r)) c.new.ensures;
   },
 )

@@ -3,7 +3,8 @@ use Rattle.std.proofs.Common.{List, ℕ, [], ◌∷◌, ◌++◌, ◌-ℤ◌, ap
 use Rattle.std.specs.Prelude.{unsigned_abs}
 use Rattle.std.proofs.lemmas.Int.{ints, to_z-of_z}
 use Rattle.puffin_data.specs.Walk.FoundScopes.{found_of}
-use Rattle.puffin_look.specs.FrameTree.{nested_line, scope_line, length_of}
+use Rattle.puffin_look.specs.FrameTree.{nested_line, scope_line}
+use Rattle.puffin_look.specs.Cells.{length_of}
 use Rattle.puffin_look.proofs.TreesShown.{outer_time_within}
 use Rattle.puffin_look.proofs.tree.LinesVisitor.enter.Goals as goal
 

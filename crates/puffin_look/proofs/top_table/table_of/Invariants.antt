@@ -1,8 +1,0 @@
--- The lines of the rows so far.
-use Rattle.std.proofs.Common.{◌≡◌, ◌++◌, take}
-use Rattle.std.specs.List.{flat_map}
-use Rattle.puffin_look.specs.TopTable.{top_line, head_line}
-use Rattle.puffin_look.proofs.top_table.table_of.Given as goal
-
-abbrev pub invariant-loop-row : goal.invariant-loop-row
-invariant-loop-row l = l.text.items ≡ head_line ++ flat_map (top_line l.top.whole) (take l.row-index l.top.rows.items)
