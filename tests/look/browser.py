@@ -6,6 +6,7 @@ import os
 import pathlib
 import select
 import shutil
+import signal
 import subprocess
 import tempfile
 
@@ -19,12 +20,13 @@ class Browser:
     """A browser with one page. Commands are answered in order; what the page asks the network for, and its faults, are kept."""
 
     def __enter__(self):
-        self.folder = tempfile.TemporaryDirectory()
+        # (a process of the browser may still write there when it is removed)
+        self.folder = tempfile.TemporaryDirectory(ignore_cleanup_errors=True)
         theirs, self.out = os.pipe()
         self.back, answers = os.pipe()
         words = ["sh", "-c", f'exec "$@" 3<&{theirs} 4>&{answers}', "sh", PROGRAM, *OPTIONS, f"--user-data-dir={self.folder.name}", "about:blank"]
         quiet = {"stdin": subprocess.DEVNULL, "stdout": subprocess.DEVNULL, "stderr": subprocess.DEVNULL}
-        self.process = subprocess.Popen(words, pass_fds=(theirs, answers), **quiet)
+        self.process = subprocess.Popen(words, pass_fds=(theirs, answers), start_new_session=True, **quiet)
         os.close(theirs)
         os.close(answers)
         self.count, self.unread, self.session, self.asked, self.faults = 0, b"", None, [], []
@@ -35,7 +37,7 @@ class Browser:
         return self
 
     def __exit__(self, *_):
-        self.process.kill()
+        os.killpg(self.process.pid, signal.SIGKILL)
         self.process.wait()
         os.close(self.out)
         os.close(self.back)

@@ -218,16 +218,16 @@ def faults_by_keys(page, frames):
         faults += faults_in_bars(frames, at, page.ask(BARS))
         faults += faults_in_rectangles(frames[at], page.ask(WIDTH), page.ask(RECTANGLES))
     page.press("Home")
-    before = page.ask(RECTANGLES)[0][1][0]
+    before = page.ask(RECTANGLES)
     page.ask(FOCUS.format("flame"))
     page.press("ArrowDown")
     first = next(rows(frames[0].threads[0].scopes, 0))
     said = page.ask("document.getElementById('info').textContent")
     faults += [] if first[1][0] in said and shown(first[3]) in said and first[4] in said else [f"it says {said!r} of {first}"]
     page.press("+")
-    closer = page.ask(RECTANGLES)[0][1][0]
+    closer = page.ask(RECTANGLES)
     page.press("Escape")
-    return faults + ([] if closer != before and page.ask(RECTANGLES)[0][1][0] == before else ["a zoom that does nothing"])
+    return faults + ([] if closer != before and page.ask(RECTANGLES) == before else ["a zoom that does nothing"])
 
 
 def faults_in_page(program, source):
