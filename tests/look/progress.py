@@ -1,8 +1,8 @@
 """What puffin-look shows on a terminal of how much of a file is read."""
 
 import contextlib
-import pathlib
 import os
+import pathlib
 import pty
 import re
 import signal
@@ -13,18 +13,18 @@ import time
 from ..cli import run
 
 SHORT = pathlib.Path(__file__).resolve().parent / "cases/frames_two_scopes/file.hex"
-# so many bytes are read in a tenth of a second or more
-SIZE = 20_000_000
+# so many bytes are read in some tenths of a second
+SIZE = 40_000_000
 SHOWN = re.compile(rb"(?:puffin-look: \d+ %\r)+ +\r")
 
 
 @contextlib.contextmanager
-def long_file(more=b""):
+def long_file(more=b"", size=SIZE):
     """The path of a file with the frames of a short one, again and again, and these bytes behind them."""
     data = run.digits(SHORT)
     with tempfile.TemporaryDirectory() as place:
-        path = pathlib.Path(place, "file")
-        path.write_bytes(data[:4] + data[4:] * (SIZE // len(data)) + more)
+        path = pathlib.Path(place, "file").resolve()
+        path.write_bytes(data[:4] + data[4:] * (size // len(data)) + more)
         yield path
 
 
@@ -36,17 +36,26 @@ def next_piece(terminal):
         return b""
 
 
+def opened(program):
+    """The paths of what a program that runs has open."""
+    found = set()
+    with contextlib.suppress(OSError):
+        for it in pathlib.Path(f"/proc/{program.pid}/fd").iterdir():
+            found.add(os.readlink(it))
+    return found
+
+
 def on_terminal(words, **others):
-    """What a program writes to a terminal. It is stopped three times, so that it takes a second. Its outputs are the terminal,
-    but for the others that are given."""
+    """What a program writes to a terminal. It is stopped for longer than it shows nothing, once it has opened its file. Its
+    outputs are the terminal, but for the others that are given."""
     terminal, end = pty.openpty()
     with subprocess.Popen(words, stdin=subprocess.DEVNULL, **{"stdout": end, "stderr": end} | others) as program:
         os.close(end)
-        for _ in range(3):
-            time.sleep(0.01)
-            program.send_signal(signal.SIGSTOP)
-            time.sleep(0.3)
-            program.send_signal(signal.SIGCONT)
+        while program.poll() is None and str(words[-1]) not in opened(program):
+            time.sleep(0.001)
+        program.send_signal(signal.SIGSTOP)
+        time.sleep(0.6)
+        program.send_signal(signal.SIGCONT)
         found = b"".join(iter(lambda: next_piece(terminal), b""))
     os.close(terminal)
     return found
@@ -98,9 +107,13 @@ def beside_a_file(program, _case):
 
 
 def not_beside_a_list(program, _case):
-    with long_file() as path:
+    # (nobody reads the terminal while it is stopped, so it has to wait for that, too)
+    with long_file(size=SIZE // 40) as path:
         words = [program, "frames", path]
         found, wanted = on_terminal(words).replace(b"\r\n", b"\n"), piped(words)
+    # (it may have been stopped before the first line)
+    before = SHOWN.match(found)
+    found = found[before.end() if before else 0 :]
     return [] if found == wanted else [f"the terminal has {found!r:.200} and not {wanted!r:.200}"]
 
 
