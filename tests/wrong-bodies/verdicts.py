@@ -13,8 +13,9 @@ NOT_LOOKED_AT = "NOT LOOKED AT"
 # It says nothing of the function by itself.
 UNSURE = "NO VERDICT"
 
-# What a proof says that cites what an edit took away, which says nothing of the contract.
-OF_A_NAME = re.compile(r"has no field|is not in scope|has no `")
+# What a proof says that cites what an edit took away, which says nothing of the contract. (Below a type that is shown, a note names
+# what is in it and can't be written there: "`M` is not in scope here, so what is shown does not paste back".)
+OF_A_NAME = re.compile(r"has no field|is not in scope(?! here, so what is shown)|has no `")
 
 # The same of a proof that takes apart or builds a value of a type that has other fields now.
 OF_A_SHAPE = re.compile(r"(?:missing|unknown|duplicate) field|field\(s\)|is given as field|come after all its fields|is not a constructor")
