@@ -3,7 +3,8 @@
     python3 -m tests.wrong-bodies.recorded
 
 It reads the verdicts from outputs of checks that are kept in `recorded`, and compares them with those that they must give; it
-looks whether a refusal is forgotten once a file changes that it was read from, and whether the gate tries what it should.
+looks whether a refusal is forgotten once a file changes that it was read from, whether the gate tries what it should, and what is
+written into an edit.
 
 NAME.edit is a wrong body of the crate `heaps`, of which `recorded` has a source file, a definition and a proof, each with `.txt`
 after its name, since `rt ci` wants no source outside of crates; NAME.said is what a check of the body prints, and NAME.again what
@@ -18,7 +19,7 @@ import tempfile
 
 from .. import common
 from .kept import sum_of_crate
-from .run import parsed, texts_of, wrong_bodies
+from .run import parsed, texts_of, wrong_bodies, write_clauses
 from .verdicts import Look, held_to_names, is_judged, judged, looked_at
 
 FOLDER = pathlib.Path(__file__).resolve().parent / "recorded"
@@ -50,6 +51,20 @@ def not_in_the_gate():
     return sorted(with_line ^ {body.name for _, bodies in wrong_bodies(["--gate"]) for body in bodies})
 
 
+# What a refusal tells, with the lines that it writes into an edit. Of a definition no clause may be told.
+WRITTEN = ("top: kept; top: least", ["refused by: top: kept", "refused by: top: least"]), ("", [])
+
+
+def written_otherwise(folder):
+    """What a refusal tells, where other lines are written."""
+    path = folder / "top.edit"
+    for told, lines in WRITTEN:
+        path.write_text("function: top\nfile: src/heap.rt\n")
+        write_clauses(path, told)
+        if path.read_text().splitlines() != ["function: top", *lines, "file: src/heap.rt"]:
+            yield told or "nothing"
+
+
 def main():
     count = common.Count()
     with tempfile.TemporaryDirectory() as name:
@@ -65,7 +80,8 @@ def main():
             are_whole = all(text.count("(") == text.count(")") for text in look.texts.values())
             is_well = count.add(verdict == body.ends and are_whole)
             print(f"recorded {path.stem} ... {'ok' if is_well else f'{verdict} in place of {body.ends}, or half an answer is left'}")
-        for what, wrong in ("forgets", list(not_read_again(crate))), ("gate", not_in_the_gate()):
+        others = ("forgets", not_read_again(crate)), ("gate", not_in_the_gate()), ("writes", written_otherwise(crate))
+        for what, wrong in ((what, list(wrong)) for what, wrong in others):
             print(f"recorded {what} ... {'ok' if count.add(not wrong) else f'wrong: {chr(32).join(wrong)}'}")
     return count.end()
 

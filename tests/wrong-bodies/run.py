@@ -211,11 +211,11 @@ def tried(crate, bodies, below):
 
 
 def write_clauses(path, told):
-    """Writes the clauses that refuse a body behind the functions of its edit."""
+    """Writes the clauses that refuse a body, if any are told, behind the functions of its edit."""
     mark = "# " if path.parent.name == "must-fail" else ""
     lines = path.read_text().splitlines()
     behind = max(number for number, line in enumerate(lines) if line.startswith(f"{mark}function: ")) + 1
-    lines[behind:behind] = [f"{mark}refused by: {it}" for it in told.split("; ")]
+    lines[behind:behind] = [f"{mark}refused by: {it}" for it in told.split("; ") if it]
     path.write_text("".join(f"{line}\n" for line in lines))
 
 
