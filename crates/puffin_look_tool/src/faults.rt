@@ -1,4 +1,4 @@
-//! Why the program fails, and how it tells of it.
+//! Why the program fails, and what it prints then.
 
 use puffin_data::{FileError, FrameIndex};
 use std::io;
