@@ -2,11 +2,12 @@
 with random names and texts, of all bytes."""
 
 from . import forms, traces
-from .forms import differences, escaped, share
+from .forms import differences, escaped, readable
 from .sources import printed
 
 THREADS = dict.fromkeys(("frames", "scopes", "bytes"), forms.COUNT) | {"start": forms.MOMENT, "duration": forms.TIME, "thread": forms.TEXT}
 FRAMES = dict.fromkeys(("frame", "threads", "scopes"), forms.COUNT) | {"start": forms.MOMENT, "duration": forms.TIME}
+SCOPES = {"start": forms.OFFSET, "duration": forms.TIME, "share": forms.SHARE, "thread": forms.TEXT}
 MOST = 2**64 - 1
 
 
@@ -41,17 +42,21 @@ def slowest(frames):
 
 def scope_lines(scopes, begin, whole, indent):
     for (name, *_), start, stop, text, within in scopes:
-        shown = escaped(f"{indent}{name} ({text})" if text else f"{indent}{name}")
-        yield f"{shown} start {start - begin} duration {stop - start} share {share(stop - start, whole)}"
-        yield from scope_lines(within, begin, stop - start, f"{indent}  ")
+        time, shown = stop - start, f"{indent}{name} ({text})" if text else f"{indent}{name}"
+        yield forms.line_of(SCOPES, (start - begin, time, (time, whole), shown))
+        yield from scope_lines(within, begin, time, f"{indent}  ")
+
+
+def tree_head(index, start, stop):
+    return f"frame {index} range {start:,} {stop:,} duration {readable(stop - start)}"
 
 
 def tree_lines(frame, wanted=None):
     """A frame with all its threads, or with the one that is wanted."""
-    yield f"frame {frame.index} range {frame.start} {frame.stop} duration {frame.stop - frame.start}"
+    yield tree_head(frame.index, frame.start, frame.stop)
     for it in frame.threads:
         if wanted in (None, it.name):
-            yield f"thread {escaped(it.name)}"
+            yield f"{forms.heading_of(SCOPES)} {escaped(it.name)}"
             yield from scope_lines(it.scopes, frame.start, frame.stop - frame.start, "")
 
 
@@ -93,7 +98,7 @@ def faults_in_names(program, _source):
     texts = [name.encode() for name in reversed(names)]
     scopes = [[(name,), at, at, text.decode(), []] for at, (name, text) in enumerate(zip(names, texts))]
     last = len(names) - 1
-    wanted = [f"frame 0 range 0 {last} duration {last}", "thread -:main", *scope_lines(scopes, 0, last, "")]
+    wanted = [tree_head(0, 0, last), f"{forms.heading_of(SCOPES)} -:main", *scope_lines(scopes, 0, last, "")]
     return differences(printed(program, traces.file_of(names, texts), "frame", "0"), wanted)
 
 

@@ -1,8 +1,6 @@
 -- Which frames a page has, one frame after the other.
-use Rattle.std.proofs.Common.{◌≡◌, ℕ, suc, ◌+◌, ◌-◌, ◌^◌, ◌≤◌, Bool, true, false, List, [], ◌∷◌, ◌++◌, length, take, Option, Some, None, Result, Ok, Err, inl, inr, refl, ap, sym, ◌∙◌, arith}
-use Rattle.std.specs.Prelude.{fold, insert, if◌then◌else◌, unwrap_or, nat_lt, cond, not, position}
-use Rattle.std.specs.List.{position_or_len}
-use Rattle.std.proofs.lemmas.Bool.Decides.{nat_tests}
+use Rattle.std.proofs.Common.{◌≡◌, ℕ, ◌+◌, ◌-◌, ◌^◌, ◌≤◌, false, List, [], ◌∷◌, ◌++◌, length, take, Option, Result, Ok, Err, inl, inr, refl, ap, sym, ◌∙◌}
+use Rattle.std.specs.Prelude.{fold}
 use Rattle.std.proofs.lemmas.List.{map-append}
 use Rattle.std.proofs.lemmas.List.Sums.{fold-append}
 use Rattle.puffin_data.specs.declared.file_error.FileError.{FileError}
@@ -15,7 +13,8 @@ use Rattle.puffin_frames.specs.Packet.Next.{stored_of, IsFresh}
 use Rattle.puffin_view.specs.View.ViewedFrames.{fields_of}
 use Rattle.puffin_view.specs.View.File.{frame_stored, file_at, FailsToRead}
 use Rattle.puffin_view.specs.View.FrameFile.{frame_at, HasGiven}
-use Rattle.puffin_look.specs.PageChoice.{row_of, rows_of, is_faster, with_slow, slowest, recent, Chosen, with_fitting, fitting, candidates, IsPageChoice}
+use Rattle.puffin_look.specs.PageChoice.{row_of, rows_of, duration_of, slowest, recent, Chosen, with_fitting, fitting, candidates, IsPageChoice}
+use Rattle.puffin_look.specs.Slowest.{with_row_by}
 use Rattle.puffin_look.specs.inner.PageChoices.{AddsRow, HasRows, HasRowsOf, ReadsRows}
 use Rattle.puffin_look.specs.inner.Taken.{fails_outside}
 use Rattle.puffin_look.specs.declared.page_choice.PageLimits.{PageLimits}
@@ -23,31 +22,6 @@ use Rattle.puffin_look.specs.declared.page_choice.Row.{Row}
 use Rattle.puffin_look.specs.declared.page_choice.Rows.{Rows}
 use Rattle.puffin_look.proofs.Listed.{said_fresh}
 use Rattle.puffin_look.proofs.ThreadsPrinted.{not_outside}
-
--- ---- where a row is put
-
-placed : (rows : List Row) (row : Row) → with_slow rows row ≡ insert rows (position_or_len (is_faster row) rows) row
-placed [] row = refl
-placed (x ∷ xs) row =
-    let n = position_or_len (is_faster row) xs in
-    let next : suc n ≡ 1 + n = omega arith in
-    elim (is_faster row x) as (λ b. (if b then row ∷ (x ∷ xs) else x ∷ with_slow xs row) ≡ insert (x ∷ xs) (cond (not b) (1 + n) 0) row) [
-      | true ↦ refl
-      | false ↦ ap (λ ys. x ∷ ys) (placed xs row) ∙ ap (λ k. insert (x ∷ xs) k row) next
-    ]
-
-at_most : (p : Row → Bool) (xs : List Row) → position_or_len p xs ≤ length xs
-at_most p [] = omega arith
-at_most p (x ∷ xs) = let rest = at_most p xs in elim (p x) as (λ b. cond (not b) (1 + position_or_len p xs) 0 ≤ suc (length xs)) [ true ↦ omega arith | false ↦ omega (arith, rest) ]
-
-or_end : (b : Bool) (n m : ℕ) → nat_lt n m ≡ b → n ≤ m → unwrap_or (cond b (Some n) None) m ≡ n
-or_end true n m h most = refl
-or_end false n m h most = grind (arith, nat_tests)
-
-pub placed_at : (rows : List Row) (row : Row) (o : Option ℕ) (place : ℕ) → o ≡ position (is_faster row) rows → place ≡ unwrap_or o (length rows) → with_slow rows row ≡ insert rows place row
-placed_at rows row o place is at =
-    let p = is_faster row in
-    placed rows row ∙ ap (λ (k : ℕ). insert rows k row) (sym (at ∙ ap (λ (q : Option ℕ). unwrap_or q (length rows)) is ∙ or_end _ (position_or_len p rows) (length rows) refl (at_most p rows)))
 
 -- ---- one frame more
 
@@ -62,8 +36,8 @@ rows_more v u frame stored fresh h a limits =
           ∙ sym (fold-append (λ last row. take v.limits.recent (row ∷ last)) [] (rows_of stored) (r ∷ []))
           ∙ ap (recent v.limits.recent) (sym all)
           ∙ ap (λ (l : PageLimits). recent l.recent (rows_of (stored ++ s ∷ []))) (sym limits);
-      slow = a.slow ∙ (λ i. take v.limits.slow (with_slow (h.slow i) (row i)))
-          ∙ sym (fold-append (λ slow row. take v.limits.slow (with_slow slow row)) [] (rows_of stored) (r ∷ []))
+      slow = a.slow ∙ (λ i. take v.limits.slow (with_row_by duration_of (h.slow i) (row i)))
+          ∙ sym (fold-append (λ slow row. take v.limits.slow (with_row_by duration_of slow row)) [] (rows_of stored) (r ∷ []))
           ∙ ap (slowest v.limits.slow) (sym all)
           ∙ ap (λ (l : PageLimits). slowest l.slow (rows_of (stored ++ s ∷ []))) (sym limits);
     }

@@ -5,7 +5,7 @@ use Rattle.std.specs.List.{position_or_len}
 use Rattle.std.proofs.lemmas.Bool.Decides.{nat_tests}
 use Rattle.puffin_look.specs.OpenFrame.{OpenFrame}
 use Rattle.puffin_look.specs.FrameLines.{frame_row}
-use Rattle.puffin_look.specs.Slowest.{is_faster_by, with_row_by, duration_of, is_faster, with_row}
+use Rattle.puffin_look.specs.Slowest.{is_faster_by, with_row_by, duration_of, with_row}
 use Rattle.puffin_look.specs.declared.frames.FrameRow.{FrameRow}
 
 module _ {X : Type 0} where
@@ -63,6 +63,3 @@ module _ {X : Type 0} (d : X → ℤ) where
 
 pub kept_all : (n : ℕ) (frames : List OpenFrame) (xs : List FrameRow) → fold (λ rows frame. take n (with_row rows (frame_row frame))) (take n xs) frames ≡ take n (fold with_row xs (map frame_row frames))
 kept_all n frames xs = kept_by duration_of frame_row n frames xs
-
-pub placed_at : (rows : List FrameRow) (row : FrameRow) (o : Option ℕ) (place : ℕ) → o ≡ position (is_faster row) rows → place ≡ unwrap_or o (length rows) → with_row rows row ≡ insert rows place row
-placed_at rows row o place is at = placed_by duration_of rows row o place is at

@@ -1,6 +1,6 @@
 -- A frame that is shown as a tree, thread after thread.
 use Rattle.std.proofs.Common.{◌≡◌, ℕ, Bool, true, false, List, [], ◌∷◌, ◌++◌, inl, inr, refl, ap, subst, sym, ◌∙◌, append_assoc, append-nil}
-use Rattle.std.specs.Prelude.{filter, codes, if◌then◌else◌}
+use Rattle.std.specs.Prelude.{filter, if◌then◌else◌}
 use Rattle.std.specs.List.{flat_map}
 use Rattle.std.proofs.lemmas.List.Elements.{filter-append}
 use Rattle.std.proofs.lemmas.List.Concat.{flat_map-append}
@@ -13,8 +13,7 @@ use Rattle.puffin_look.specs.OpenFrame.{OpenFrame}
 use Rattle.puffin_look.specs.Trees.{Entry, Tree, TreeFrame, AreSpelled, AreUnread, all_streams}
 use Rattle.puffin_look.specs.Wanted.{is_wanted, wanted_streams}
 use Rattle.puffin_look.specs.declared.wanted.Wanted.{Wanted}
-use Rattle.puffin_look.specs.ThreadLines.{thread_text}
-use Rattle.puffin_look.specs.FrameTree.{outer_time, time_of, forest_lines, tree_text, head_text, trees_text, has_trees}
+use Rattle.puffin_look.specs.FrameTree.{outer_time, time_of, thread_line, forest_lines, tree_text, head_text, trees_text, has_trees}
 use Rattle.puffin_look.specs.inner.TreeLines.{HasMoreLines}
 use Rattle.puffin_look.specs.inner.FrameTrees.{StepsTree, TakesTrees}
 use Rattle.puffin_look.specs.declared.tree.Lines.{Lines}
@@ -29,10 +28,10 @@ outer_time_within whole (o ∷ around) s = outer_time_within (time_of o) around 
 
 -- ---- a thread
 
-pub tree_added : (v m u : Lines) (key : ThreadKey) (f : Forest) → HasMoreLines v m (codes "thread " ++ (thread_text key ++ codes "\n")) → HasMoreLines m u (forest_lines m.known.now m.range_ns f) → HasMoreLines v u (tree_text v.known.now v.range_ns (key, f))
+pub tree_added : (v m u : Lines) (key : ThreadKey) (f : Forest) → HasMoreLines v m (thread_line key) → HasMoreLines m u (forest_lines m.known.now m.range_ns f) → HasMoreLines v u (tree_text v.known.now v.range_ns (key, f))
 tree_added v m u key f h t = record {
   text = t.text ∙ (λ i. h.text i ++ forest_lines (h.known i).now (h.range i) f)
-      ∙ append_assoc v.text.items (codes "thread " ++ (thread_text key ++ codes "\n")) (forest_lines v.known.now v.range_ns f);
+      ∙ append_assoc v.text.items (thread_line key) (forest_lines v.known.now v.range_ns f);
   known = t.known ∙ h.known;
   range = t.range ∙ h.range;
 }

@@ -4,7 +4,7 @@ use Rattle.std.specs.Fmt.{decimal}
 use Rattle.std.specs.List.{flat_map}
 use Rattle.puffin_look.specs.Escapes.{escaped}
 use Rattle.puffin_look.specs.declared.rows.Value.{Value}
-use Rattle.puffin_look.specs.declared.rows.Value.TheVariants.{Number, Moment, Hundredths, Time, Share, Change, Growth}
+use Rattle.puffin_look.specs.declared.rows.Value.TheVariants.{Number, Moment, Offset, Hundredths, Time, Share, Change, Growth}
 
 -- ---- numbers
 
@@ -36,6 +36,11 @@ readable_time time =
     if nat_lt time 1000000 then in_hundredths (time / 10) (codes " us") else
     if nat_lt time 1000000000 then in_hundredths (time / 10000) (codes " ms") else
     in_hundredths (time / 10000000) (codes " s")
+
+-- the same of a time that may be negative
+abbrev pub readable_offset : ℤ → List ℕ
+readable_offset (pos n) = readable_time n
+readable_offset (negsuc n) = codes "-" ++ readable_time (suc n)
 
 -- in percent, with a digit behind the point, rounded down; of nothing there is no share
 abbrev pub share_text : ℕ → ℕ → List ℕ
@@ -72,6 +77,7 @@ cell width text = codes " " ++ (replicate (width - length text) 32 ++ text)
 abbrev pub value_text : Value → List ℕ
 value_text (Number n) = grouped (decimal n)
 value_text (Moment time) = grouped_moment time
+value_text (Offset from to) = readable_offset (to -ℤ from)
 value_text (Hundredths (Some n)) = in_hundredths n []
 value_text (Hundredths None) = codes "-"
 value_text (Time (Some time)) = readable_time time
@@ -83,6 +89,7 @@ value_text (Growth old new) = growth_text old new
 abbrev pub width_of : Value → ℕ
 width_of (Number n) = 13
 width_of (Moment time) = 26
+width_of (Offset from to) = 11
 width_of (Hundredths n) = 13
 width_of (Time time) = 11
 width_of (Share part whole) = 7

@@ -1,12 +1,13 @@
 -- A frame of a file as a tree of scopes.
-use Rattle.std.specs.Prelude.{◌≡◌, ℕ, zero, suc, ℤ, ◌-ℤ◌, unsigned_abs, Bool, true, false, List, [], ◌∷◌, ◌++◌, length, codes, fold}
-use Rattle.std.specs.Fmt.{decimal, signed_decimal}
+use Rattle.std.specs.Prelude.{◌≡◌, ℕ, zero, suc, ℤ, ◌-ℤ◌, unsigned_abs, Bool, true, false, List, [], ◌∷◌, ◌++◌, length, codes, fold, Some}
+use Rattle.std.specs.Fmt.{decimal}
 use Rattle.std.specs.FinMap as map
 use Rattle.std.specs.List.{flat_map}
 use Rattle.puffin_data.specs.Forest.{Span, Forest}
 use Rattle.puffin_data.specs.Text.{text_in}
 use Rattle.puffin_data.specs.Walk.PlacedScopes.{ScopeInContext, nested_in}
 use Rattle.puffin_threads.specs.Details.Collection.{Collection}
+use Rattle.puffin_threads.specs.Thread.ThreadKey.{ThreadKey}
 use Rattle.puffin_frames.specs.declared.frame_data.meta.FrameMeta.{FrameMeta}
 use Rattle.puffin_look.specs.OpenFrame.{OpenFrame}
 use Rattle.puffin_look.specs.Trees.{Tree, TreeFrame}
@@ -15,7 +16,8 @@ use Rattle.puffin_look.specs.declared.wanted.Wanted.{Wanted}
 use Rattle.puffin_look.specs.Escapes.{escaped}
 use Rattle.puffin_look.specs.Names.{name_or_id}
 use Rattle.puffin_look.specs.ThreadLines.{thread_text}
-use Rattle.puffin_look.specs.Cells.{share_text, length_of}
+use Rattle.puffin_look.specs.Cells.{Cell, row_cell, grouped_moment, readable_time, length_of}
+use Rattle.puffin_look.specs.declared.rows.Value.TheVariants.{Offset, Time, Share}
 
 -- ---- a scope
 
@@ -36,20 +38,23 @@ abbrev pub outer_time : ℕ → List Span → ℕ
 outer_time whole [] = whole
 outer_time whole (s ∷ inner) = outer_time (time_of s) inner
 
-abbrev pub times_text : ℤ → ℕ → List ℕ
-times_text start time = (codes " start " ++ signed_decimal start) ++ (codes " duration " ++ decimal time)
-
 -- a scope's start in the frame, its duration, and its share of what it is in
-abbrev pub numbers_text : ℤ → ℕ → ℕ → List ℕ
-numbers_text start time whole =
-    times_text start time ++ (codes " share " ++ (share_text time whole ++ codes "\n"))
+abbrev pub scope_cells : ℤ → ℕ → Span → List Cell
+scope_cells begin outer s =
+    (codes "start", Offset begin s.start) ∷ (codes "duration", Time (Some (time_of s)))
+    ∷ (codes "share", Share (time_of s) outer) ∷ []
+
+-- two blanks for each scope that it is in, its name and its text
+abbrev pub label_text : Collection → ℕ → Span → List ℕ
+label_text known level s =
+    indent level
+    ++ (escaped (name_or_id s.id (map.get known.by_id s.id))
+    ++ (text_part (text_in s.text) ++ codes "\n"))
 
 -- a scope within so many others, the innermost of which takes this time
 abbrev pub nested_line : Collection → ℤ → ℕ → ℕ → Span → List ℕ
 nested_line known begin level outer s =
-    indent level
-    ++ (escaped (name_or_id s.id (map.get known.by_id s.id))
-    ++ (text_part (text_in s.text) ++ numbers_text (s.start -ℤ begin) (time_of s) outer))
+    flat_map row_cell (scope_cells begin outer s) ++ (codes "  " ++ label_text known level s)
 
 abbrev pub scope_line : Collection → ℤ × ℤ → ScopeInContext → List ℕ
 scope_line known range s =
@@ -59,24 +64,28 @@ scope_line known range s =
 
 abbrev pub range_text : ℤ × ℤ → List ℕ
 range_text range =
-    (codes " range " ++ signed_decimal range.0) ++ (codes " " ++ signed_decimal range.1)
+    codes " range " ++ (grouped_moment range.0 ++ (codes " " ++ grouped_moment range.1))
 
-abbrev pub duration_text : ℤ → List ℕ
-duration_text duration = (codes " duration " ++ signed_decimal duration) ++ codes "\n"
+abbrev pub duration_text : ℤ × ℤ → List ℕ
+duration_text range = codes " duration " ++ (readable_time (length_of range) ++ codes "\n")
 
 -- each scope of a forest, before the scopes in it
 abbrev pub forest_lines : Collection → ℤ × ℤ → Forest → List ℕ
 forest_lines known range f = flat_map (scope_line known range) (nested_in [] f)
 
+-- a thread, behind the names of the columns
+abbrev pub thread_line : ThreadKey → List ℕ
+thread_line key =
+    codes "       start    duration   share  thread " ++ (thread_text key ++ codes "\n")
+
 -- a thread, and its scopes
 abbrev pub tree_text : Collection → ℤ × ℤ → Tree → List ℕ
-tree_text known range t =
-    (codes "thread " ++ (thread_text t.0 ++ codes "\n")) ++ forest_lines known range t.1
+tree_text known range t = thread_line t.0 ++ forest_lines known range t.1
 
 abbrev pub head_text : FrameMeta → List ℕ
 head_text meta =
     (codes "frame " ++ decimal meta.frame_index)
-    ++ (range_text meta.range_ns ++ duration_text (meta.range_ns.1 -ℤ meta.range_ns.0))
+    ++ (range_text meta.range_ns ++ duration_text meta.range_ns)
 
 abbrev pub trees_text : Collection → TreeFrame → List ℕ
 trees_text known f = head_text f.meta ++ flat_map (tree_text known f.meta.range_ns) f.trees

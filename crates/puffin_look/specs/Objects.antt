@@ -10,7 +10,7 @@ use Rattle.puffin_look.specs.Cells.{Cell, Name, distance, row_line}
 use Rattle.puffin_look.specs.declared.lines.Form.{Form}
 use Rattle.puffin_look.specs.declared.lines.Form.TheVariants.{Table, Json}
 use Rattle.puffin_look.specs.declared.rows.Value.{Value}
-use Rattle.puffin_look.specs.declared.rows.Value.TheVariants.{Number, Moment, Hundredths, Time, Share, Change, Growth}
+use Rattle.puffin_look.specs.declared.rows.Value.TheVariants.{Number, Moment, Offset, Hundredths, Time, Share, Change, Growth}
 
 -- a number, or a string of its digits if it is too great for the doubles that most readers have
 abbrev pub exact_token : ℕ → List ℕ → Token
@@ -50,6 +50,7 @@ growth_token (suc n) new =
 abbrev pub value_token : Value → Token
 value_token (Number n) = integer_token (pos n)
 value_token (Moment time) = integer_token time
+value_token (Offset from to) = integer_token (to -ℤ from)
 value_token (Hundredths (Some n)) = hundredths_token n
 value_token (Hundredths None) = null
 value_token (Time (Some time)) = integer_token (pos time)

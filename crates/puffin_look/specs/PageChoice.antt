@@ -1,5 +1,5 @@
 -- Which frames a page has by default: the last and the slowest.
-use Rattle.std.specs.Prelude.{◌≡◌, ◌⊎◌, ℕ, ◌-◌, ◌-ℤ◌, Bool, int_lt, nat_le, nat_eq, not, ◌&&◌, List, [], ◌∷◌, ◌++◌, fold, map, take, Option, if◌then◌else◌}
+use Rattle.std.specs.Prelude.{◌≡◌, ◌⊎◌, ℕ, ℤ, ◌-◌, ◌-ℤ◌, Bool, nat_le, nat_eq, not, ◌&&◌, List, [], ◌∷◌, ◌++◌, fold, map, take, Option, if◌then◌else◌}
 use Rattle.std.specs.List.{list_any}
 use Rattle.puffin_data.specs.declared.file_error.FileError.{FileError}
 use Rattle.puffin_data.specs.Device.{FailsAt}
@@ -8,6 +8,7 @@ use Rattle.puffin_view.specs.View.ViewedFrames.{fields_of}
 use Rattle.puffin_view.specs.View.File.{frame_stored, file_at, TookFrames, FailsToRead}
 use Rattle.puffin_view.specs.View.FrameFile.{frame_at, HasGiven}
 use Rattle.puffin_look.specs.Printed.{Begins, IsFull}
+use Rattle.puffin_look.specs.Slowest.{with_row_by}
 use Rattle.puffin_look.specs.declared.page_choice.PageLimits.{PageLimits}
 use Rattle.puffin_look.specs.declared.page_choice.Row.{Row}
 
@@ -24,18 +25,12 @@ rows_of stored = map (λ s. row_of (fields_of (frame_stored s))) stored
 
 -- ---- the slowest
 
-abbrev pub is_faster : Row → Row → Bool
-is_faster row other = int_lt other.duration_ns row.duration_ns
-
--- a row before the first that is faster
-abbrev pub with_slow : List Row → Row → List Row
-with_slow [] row = row ∷ []
-with_slow (first ∷ rows) row =
-    if is_faster row first then row ∷ (first ∷ rows) else first ∷ with_slow rows row
+abbrev pub duration_of : Row → ℤ
+duration_of row = row.duration_ns
 
 -- this many, the slowest first, and of equally slow ones the one that comes first in the file
 abbrev pub slowest : ℕ → List Row → List Row
-slowest n rows = fold (λ slow row. take n (with_slow slow row)) [] rows
+slowest n rows = fold (λ slow row. take n (with_row_by duration_of slow row)) [] rows
 
 -- ---- the last
 

@@ -1,12 +1,12 @@
 //! Appends the parts of the line of a scope in a frame's tree.
 
-ghost use Rattle.std.specs.Prelude.{◌≡◌, ◌++◌, ◌<◌, ◌^◌, ◌-ℤ◌, codes, OnOk};
+ghost use Rattle.std.specs.Prelude.{◌≡◌, ◌++◌, ◌<◌, ◌^◌, ◌-ℤ◌, OnOk};
 ghost use Rattle.std.specs.Fmt.{signed_decimal};
-ghost use Rattle.puffin_look.specs.FrameTree.{indent, text_part, times_text, numbers_text};
+ghost use Rattle.puffin_look.specs.FrameTree.{indent, text_part};
 ghost use Rattle.puffin_look.specs.Cells.{share_text};
 
 use crate::escapes::push_escaped;
-use crate::text::{push_count, push_number};
+use crate::text::push_number;
 use itoa::Buffer;
 use puffin_data::NanoSecond;
 use std::alloc::AllocError;
@@ -59,44 +59,4 @@ pub(crate) fn push_difference(
         text.extend_from_slice(b"-")?;
     }
     push_number(text, to.abs_diff(from))
-}
-
-/// Appends when a scope began in its frame, and how long it took.
-fn push_times(
-    text: &mut Vec<u8>,
-    begin: NanoSecond,
-    start: NanoSecond,
-    time: u64,
-) -> Result<(), AllocError>
-    ensures { OnOk result (
-        text.new.items ≡ text.old.items ++ times_text (start -ℤ begin) time) }
-{
-    text.extend_from_slice(b" start ")?;
-    push_difference(text, begin, start)?;
-    push_count(text, b" duration ", time)
-}
-
-/// Appends a scope's share behind its label, and the end of the line.
-fn push_share_end(text: &mut Vec<u8>, part: u64, whole: u64) -> Result<(), AllocError>
-    ensures { OnOk result (text.new.items
-        ≡ text.old.items ++ (codes " share " ++ (share_text part whole ++ codes "\n"))) }
-{
-    text.extend_from_slice(b" share ")?;
-    push_share(text, part, whole)?;
-    text.extend_from_slice(b"\n")
-}
-
-/// Appends the numbers of a scope, and the end of the line.
-pub(crate) fn push_numbers(
-    text: &mut Vec<u8>,
-    begin: NanoSecond,
-    start: NanoSecond,
-    time: u64,
-    whole: u64,
-) -> Result<(), AllocError>
-    ensures { OnOk result (
-        text.new.items ≡ text.old.items ++ numbers_text (start -ℤ begin) time whole) }
-{
-    push_times(text, begin, start, time)?;
-    push_share_end(text, time, whole)
 }

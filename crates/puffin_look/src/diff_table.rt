@@ -9,7 +9,7 @@ ghost use Rattle.puffin_look.specs.DiffTable.{total_in, diff_cells, diff_row, di
 
 use crate::diff::{Diff, DiffRow, PerFrame, own_in};
 use crate::lines::{Form, Lines};
-use crate::rows::{Cell, Value, row_of};
+use crate::rows::{Cell, Value, add_row};
 use puffin_data::FileError;
 use puffin_data::data::{Drain, write_all};
 use std::alloc::{AllocError, Global};
@@ -55,11 +55,10 @@ fn cells_of(row: &DiffRow) -> [Cell; 10]
 }
 
 /// Adds a row.
-fn push_row(alloc: Global, form: Form, lines: &mut Lines, row: &DiffRow) -> Result<(), AllocError>
+fn push_row(form: Form, lines: &mut Lines, row: &DiffRow) -> Result<(), AllocError>
     ensures { OnOk result (Adds lines.old lines.new (diff_row form row.now)) }
 {
-    let line = row_of(alloc, form, &cells_of(row), Some(("name", &row.name)))?;
-    lines.add(&line)
+    add_row(lines, form, &cells_of(row), Some(("name", &row.name)))
 }
 
 /// Returns the whole list.
@@ -68,7 +67,7 @@ fn text_of(alloc: Global, form: Form, diff: &Diff) -> Result<Vec<u8>, AllocError
 {
     let mut lines = Lines::new(alloc, form, HEAD)?;
     for row in diff.rows.iter() {
-        push_row(alloc, form, &mut lines, row)?;
+        push_row(form, &mut lines, row)?;
     }
     lines.closed(form)
 }

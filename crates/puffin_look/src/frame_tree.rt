@@ -13,7 +13,9 @@ ghost use Rattle.puffin_look.specs.inner.FrameTrees.{StepsTree, IsTreeFault, IsA
 
 use crate::listing::{Listing, list_frames};
 use crate::overview::Overview;
-use crate::text::{push_count, push_moment};
+use crate::readable::{push_grouped_moment, push_readable};
+use crate::text::push_count;
+use crate::top::length_of;
 use crate::tree::Lines;
 use crate::wanted::Wanted;
 use puffin_data::data::{Drain, Source, StreamInfo};
@@ -26,15 +28,18 @@ use std::alloc::{AllocError, Global};
 fn push_range(text: &mut Vec<u8>, range: (NanoSecond, NanoSecond)) -> Result<(), AllocError>
     ensures { OnOk result (text.new.items ≡ text.old.items ++ range_text range) }
 {
-    push_moment(text, b" range ", range.0)?;
-    push_moment(text, b" ", range.1)
+    text.extend_from_slice(b" range ")?;
+    push_grouped_moment(text, range.0)?;
+    text.extend_from_slice(b" ")?;
+    push_grouped_moment(text, range.1)
 }
 
-/// Appends a duration and the end of the line.
-fn push_duration(text: &mut Vec<u8>, duration: NanoSecond) -> Result<(), AllocError>
-    ensures { OnOk result (text.new.items ≡ text.old.items ++ duration_text duration) }
+/// Appends the duration of a range and the end of the line.
+fn push_duration(text: &mut Vec<u8>, range: (NanoSecond, NanoSecond)) -> Result<(), AllocError>
+    ensures { OnOk result (text.new.items ≡ text.old.items ++ duration_text range) }
 {
-    push_moment(text, b" duration ", duration)?;
+    text.extend_from_slice(b" duration ")?;
+    push_readable(text, length_of(range))?;
     text.extend_from_slice(b"\n")
 }
 
@@ -43,8 +48,8 @@ fn push_head(text: &mut Vec<u8>, frame: &UnpackedFrameData) -> Result<(), AllocE
     ensures { OnOk result (text.new.items ≡ text.old.items ++ head_text frame.now.meta) }
 {
     push_count(text, b"frame ", frame.meta.frame_index)?;
-    push_range(text, frame.range_ns())?;
-    push_duration(text, frame.duration_ns())
+    push_range(text, frame.meta.range_ns)?;
+    push_duration(text, frame.meta.range_ns)
 }
 
 /// The wanted frames, as far as they are still to be written.
@@ -102,10 +107,10 @@ impl<'t> Listing for Trees<'t> {
     }
 }
 
-/// Prints the wanted frames of a file: for each a line with its range and duration, for each of its threads a line,
-/// and for each scope of the thread a line, indented by two blanks for each scope that it is nested in: its name by the details
-/// of the [overview](crate::read_overview), or `#` and the id; its text in parentheses, unless it is empty; its start in the frame,
-/// its duration, and its share of what it is nested in. Times are in nanoseconds.
+/// Prints the wanted frames of a file: for each a line with its range in nanoseconds and its duration, for each of its threads a line
+/// behind the names of the columns, and for each scope of the thread a line: its start in the frame, its duration, and its share of
+/// what it is nested in, in columns; two blanks for each scope that it is nested in; its name by the details of the
+/// [overview](crate::read_overview), or `#` and the id; and its text in parentheses, unless it is empty.
 ///
 /// Returns whether a thread was printed. Fails as [`print_trace`](crate::print_trace) does; only the streams that are printed have
 /// to consist of scopes.

@@ -12,7 +12,7 @@ ghost use Rattle.puffin_look.specs.inner.Rows.{cell_of};
 
 use crate::lines::{Form, Lines};
 use crate::listing::{Listing, list_behind};
-use crate::rows::{Cell, Value, row_of};
+use crate::rows::{Cell, Value, add_row};
 use crate::threads::fails_outside;
 use crate::top::length_of;
 use crate::wanted::Indices;
@@ -72,16 +72,10 @@ impl FrameRow {
 }
 
 /// Adds a row to a list.
-pub(crate) fn push_row(
-    alloc: Global,
-    form: Form,
-    lines: &mut Lines,
-    row: &FrameRow,
-) -> Result<(), AllocError>
+pub(crate) fn push_row(form: Form, lines: &mut Lines, row: &FrameRow) -> Result<(), AllocError>
     ensures { OnOk result (Adds lines.old lines.new (frame_line form row.now)) }
 {
-    let line = row_of(alloc, form, &row.cells(), None)?;
-    lines.add(&line)
+    add_row(lines, form, &row.cells(), None)
 }
 
 /// The list of frames so far.
@@ -117,9 +111,7 @@ impl Listing for FrameList {
     ghost takes_more = { frames_more };
 
     fn add(&mut self, frame: &UnpackedFrameData) -> Answer<()> {
-        let alloc = *self.lines.text.allocator();
-        let row = FrameRow::new(frame);
-        push_row(alloc, self.form, &mut self.lines, &row)?;
+        push_row(self.form, &mut self.lines, &FrameRow::new(frame))?;
         Ok(())
     }
 

@@ -11,7 +11,7 @@ ghost use Rattle.puffin_look.specs.inner.Lining.{Adds};
 
 use crate::columns::push_indent;
 use crate::lines::{Form, Lines};
-use crate::rows::{Value, row_of};
+use crate::rows::{Value, add_row};
 use crate::stacks::Times;
 use indexmap::IndexMap;
 use std::alloc::{AllocError, Global};
@@ -124,7 +124,6 @@ fn name_of(alloc: Global, form: Form, level: usize, name: &[u8]) -> Result<Vec<u
 
 /// Adds a scope of the path that is within so many others.
 fn push_step(
-    alloc: Global,
     form: Form,
     lines: &mut Lines,
     level: usize,
@@ -135,13 +134,13 @@ fn push_step(
     ensures { OnOk result (
         Adds lines.old lines.new (step_line form level front (step_of step.now) outer)) }
 {
+    let alloc = *lines.text.allocator();
     let name = name_of(alloc, form, level, behind(&step.path, front))?;
     let cells = [
         ("time", Value::Time(Some(step.time))),
         ("share", Value::Share(step.time, outer)),
     ];
-    let line = row_of(alloc, form, &cells, Some(("name", &name)))?;
-    lines.add(&line)
+    add_row(lines, form, &cells, Some(("name", &name)))
 }
 
 /// Adds the path that takes the most time at each level, a line for each of its scopes: their durations together, their share of
@@ -166,7 +165,7 @@ pub(crate) fn push_steps(
         if !is_followed(level, step.time, outer) {
             return Ok(());
         }
-        push_step(alloc, form, lines, level, front.len(), &step, outer)?;
+        push_step(form, lines, level, front.len(), &step, outer)?;
         outer = step.time;
         front = step.path;
         front.extend_from_slice(b";")?;

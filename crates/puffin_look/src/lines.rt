@@ -1,6 +1,6 @@
 //! Makes a list, line by line, in one of two forms.
 
-ghost use Rattle.std.specs.Prelude.{◌≡◌, ◌++◌, false, OnOk, IfOk};
+ghost use Rattle.std.specs.Prelude.{◌≡◌, ◌++◌, true, false, OnOk, IfOk};
 ghost use Rattle.puffin_look.specs.Forms.{opening, separator, closing, lead};
 ghost use Rattle.puffin_look.specs.inner.Lining.{Adds};
 
@@ -73,15 +73,17 @@ impl Lines {
         })
     }
 
-    /// Appends what stands between the lines so far and the next one.
-    fn push_lead(&mut self) -> Result<(), AllocError>
+    /// Begins a line: appends what stands between the lines so far and this one.
+    pub(crate) fn push_lead(&mut self) -> Result<(), AllocError>
         ensures text { OnOk result (self.new.text.items
             ≡ self.old.text.items ++ lead self.old.separator.now self.old.has_any) }
         ensures separator { self.new.separator ≡ self.old.separator }
+        ensures any { OnOk result (self.new.has_any ≡ true) }
     {
         if self.has_any {
             self.text.extend_from_slice(self.separator)?;
         }
+        self.has_any = true;
         Ok(())
     }
 
@@ -90,9 +92,7 @@ impl Lines {
         ensures { OnOk result (Adds self.old self.new line.now) }
     {
         self.push_lead()?;
-        self.text.extend_from_slice(line)?;
-        self.has_any = true;
-        Ok(())
+        self.text.extend_from_slice(line)
     }
 
     /// Returns the whole text, once all lines were added.

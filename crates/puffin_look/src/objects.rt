@@ -89,6 +89,7 @@ fn push_value(alloc: Global, writer: &mut Writer, value: Value) -> Result<(), Al
     match value {
         Value::Number(number) | Value::Time(Some(number)) => push_integer(writer, number as i128),
         Value::Moment(time) => push_integer(writer, time as i128),
+        Value::Offset(from, to) => push_integer(writer, to as i128 - from as i128),
         Value::Hundredths(Some(number)) => push_hundredths(alloc, writer, number),
         Value::Share(part, whole) => push_share(alloc, writer, part, whole),
         Value::Change(old, new) => push_integer(writer, new as i128 - old as i128),

@@ -1,11 +1,12 @@
 //! Chooses which frames a page has by default: the last and the slowest.
 
-ghost use Rattle.std.specs.Prelude.{◌≡◌, ◌++◌, [], ◌≤◌, length, insert, position, fold, IfOk, IfErr, OnOk};
+ghost use Rattle.std.specs.Prelude.{◌≡◌, ◌++◌, [], fold, IfOk, IfErr, OnOk};
 ghost use Rattle.puffin_data.specs.Device.{CanFail, IsOutside, failures_after};
 ghost use Rattle.puffin_frames.specs.Frame.Contents.{packet_fields};
-ghost use Rattle.puffin_look.specs.PageChoice.{row_of, is_faster, with_slow, with_fitting, fitting, IsPageChoice};
+ghost use Rattle.puffin_look.specs.PageChoice.{row_of, with_fitting, fitting, IsPageChoice};
 ghost use Rattle.puffin_look.specs.inner.PageChoices.{AddsRow, ReadsRows, chosen_in};
 
+use crate::slowest::{Timed, keep};
 use crate::threads::fails_outside;
 use puffin_data::data::Source;
 use puffin_data::{FileError, FrameIndex, NanoSecond};
@@ -45,20 +46,14 @@ impl Row {
     }
 }
 
-/// Returns the place of the first row that is faster than this one, if there is one.
-fn first_faster(rows: &[Row], row: &Row) -> Option<usize>
-    ensures { result ≡ position (is_faster row.now) rows.now }
-{
-    rows.iter()
-        .position(|other| other.duration_ns < row.duration_ns)
-}
+impl Timed for Row {
+    ghost use Rattle.puffin_look.specs.PageChoice.{duration_of};
 
-/// Returns that place, or else the end.
-fn place_for(rows: &[Row], row: &Row) -> usize
-    ensures place { with_slow rows.now row.now ≡ insert rows.now result row.now }
-    ensures within { result ≤ length rows.now }
-{
-    first_faster(rows, row).unwrap_or(rows.len())
+    ghost duration = { duration_of };
+
+    fn duration_ns(&self) -> NanoSecond {
+        self.duration_ns
+    }
 }
 
 /// The last and the slowest of the frames so far: the last first, and the slowest first.
@@ -78,10 +73,7 @@ impl Rows {
         let row = Row::new(frame);
         self.recent.insert(0, row)?;
         self.recent.truncate(self.limits.recent);
-        let place = place_for(&self.slow, &row);
-        self.slow.insert(place, row)?;
-        self.slow.truncate(self.limits.slow);
-        Ok(())
+        keep(&mut self.slow, self.limits.slow, row)
     }
 }
 

@@ -1,8 +1,8 @@
 //! Appends numbers for a person: with commas between thousands, and durations with a unit.
 
-ghost use Rattle.std.specs.Prelude.{◌≡◌, ◌++◌, codes, OnOk};
+ghost use Rattle.std.specs.Prelude.{◌≡◌, ◌++◌, ◌-ℤ◌, codes, OnOk};
 ghost use Rattle.std.specs.Fmt.{decimal};
-ghost use Rattle.puffin_look.specs.Cells.{comma, grouped, grouped_moment, in_hundredths, readable_time, sign, distance, change_text, growth_text};
+ghost use Rattle.puffin_look.specs.Cells.{comma, grouped, grouped_moment, in_hundredths, readable_time, readable_offset, sign, distance, change_text, growth_text};
 
 use crate::columns::push_share;
 use crate::text::push_number;
@@ -78,6 +78,20 @@ pub(crate) fn push_readable(text: &mut Vec<u8>, time: u64) -> Result<(), AllocEr
         1_000_000..1_000_000_000 => push_hundredths(text, time / 10_000, b" ms"),
         _ => push_hundredths(text, time / 10_000_000, b" s"),
     }
+}
+
+/// Appends the time from one moment to another in that way, with a minus if it is negative.
+pub(crate) fn push_offset(
+    text: &mut Vec<u8>,
+    from: NanoSecond,
+    to: NanoSecond,
+) -> Result<(), AllocError>
+    ensures { OnOk result (text.new.items ≡ text.old.items ++ readable_offset (to -ℤ from)) }
+{
+    if to < from {
+        text.push(b'-')?;
+    }
+    push_readable(text, to.abs_diff(from))
 }
 
 /// Appends a plus or a minus, if the second is greater or less.

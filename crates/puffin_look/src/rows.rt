@@ -1,20 +1,22 @@
 //! Makes the rows of lists: a name for each column, and what a row has in it.
 
-ghost use Rattle.std.specs.Prelude.{◌≡◌, ◌++◌, map, option_map, OnOk, IfOk};
+ghost use Rattle.std.specs.Prelude.{◌≡◌, ◌++◌, map, option_map, OnOk};
 ghost use Rattle.std.specs.List.{flat_map};
-ghost use Rattle.puffin_look.specs.Cells.{cell, width_of, value_text, value_cell, row_cell, row_end, row_line};
+ghost use Rattle.puffin_look.specs.Cells.{cell, width_of, value_text, row_cell, row_end};
 ghost use Rattle.puffin_look.specs.Objects.{row_text};
+ghost use Rattle.puffin_look.specs.inner.Lining.{Adds};
 ghost use Rattle.puffin_look.specs.inner.Rows.{cell_of, name_of};
 
 use crate::columns::push_share;
 use crate::escapes::push_escaped;
-use crate::lines::Form;
+use crate::lines::{Form, Lines};
 use crate::objects::object_of;
 use crate::readable::{
-    push_change, push_grouped, push_grouped_moment, push_growth, push_hundredths, push_readable,
+    push_change, push_grouped, push_grouped_moment, push_growth, push_hundredths, push_offset,
+    push_readable,
 };
 use puffin_data::NanoSecond;
-use std::alloc::{AllocError, Global};
+use std::alloc::AllocError;
 
 /// What a cell of a table has.
 #[derive(Clone, Copy, Debug)]
@@ -23,6 +25,8 @@ pub(crate) enum Value {
     Number(u64),
     /// A moment in nanoseconds.
     Moment(NanoSecond),
+    /// The time from the first moment to the second.
+    Offset(NanoSecond, NanoSecond),
     /// A number of hundredths, if there is one.
     Hundredths(Option<u64>),
     /// A duration in nanoseconds, if there is one.
@@ -43,7 +47,7 @@ impl Value {
         match self {
             Value::Number(_) | Value::Hundredths(_) => 13,
             Value::Moment(_) => 26,
-            Value::Time(_) => 11,
+            Value::Offset(..) | Value::Time(_) => 11,
             Value::Change(..) | Value::Growth(..) => 12,
             Value::Share(..) => 7,
         }
@@ -57,6 +61,7 @@ fn push_value(text: &mut Vec<u8>, value: Value) -> Result<(), AllocError>
     match value {
         Value::Number(number) => push_grouped(text, number),
         Value::Moment(time) => push_grouped_moment(text, time),
+        Value::Offset(from, to) => push_offset(text, from, to),
         Value::Hundredths(Some(number)) => push_hundredths(text, number, b""),
         Value::Time(Some(time)) => push_readable(text, time),
         Value::Share(part, whole) => push_share(text, part, whole),
@@ -77,15 +82,6 @@ fn push_cell(text: &mut Vec<u8>, width: usize, part: &[u8]) -> Result<(), AllocE
     text.extend_from_slice(part)
 }
 
-/// Appends a value in its column.
-fn push_value_cell(text: &mut Vec<u8>, value: Value) -> Result<(), AllocError>
-    ensures { OnOk result (text.new.items ≡ text.old.items ++ value_cell value) }
-{
-    let mut part = Vec::new(*text.allocator());
-    push_value(&mut part, value)?;
-    push_cell(text, value.width(), &part)
-}
-
 /// A column's name, and what a row has in it.
 pub(crate) type Cell = (&'static str, Value);
 
@@ -97,8 +93,11 @@ pub(crate) fn push_cells(text: &mut Vec<u8>, cells: &[Cell]) -> Result<(), Alloc
     ensures { OnOk result (
         text.new.items ≡ text.old.items ++ flat_map row_cell (map cell_of cells.now)) }
 {
-    for cell in cells {
-        push_value_cell(text, cell.1)?;
+    let mut part = Vec::new(*text.allocator());
+    for &(_, value) in cells {
+        part.clear();
+        push_value(&mut part, value)?;
+        push_cell(text, value.width(), &part)?;
     }
     Ok(())
 }
@@ -115,29 +114,38 @@ fn push_end(text: &mut Vec<u8>, name: Option<Name<'_>>) -> Result<(), AllocError
     text.extend_from_slice(b"\n")
 }
 
-/// Returns a row as a line of a table.
-fn line_of(alloc: Global, cells: &[Cell], name: Option<Name<'_>>) -> Result<Vec<u8>, AllocError>
-    ensures { IfOk result (λ line.
-        line.items ≡ row_line (map cell_of cells.now) (option_map name_of name.entry)) }
-{
-    let mut text = Vec::new(alloc);
-    push_cells(&mut text, cells)?;
-    push_end(&mut text, name)?;
-    Ok(text)
-}
-
-/// Returns a row in this form.
-pub(crate) fn row_of(
-    alloc: Global,
+/// Appends a row in this form.
+fn push_row(
+    text: &mut Vec<u8>,
     form: Form,
     cells: &[Cell],
     name: Option<Name<'_>>,
-) -> Result<Vec<u8>, AllocError>
-    ensures { IfOk result (λ line.
-        line.items ≡ row_text form (map cell_of cells.now) (option_map name_of name.entry)) }
+) -> Result<(), AllocError>
+    ensures { OnOk result (text.new.items ≡ text.old.items
+        ++ row_text form (map cell_of cells.now) (option_map name_of name.entry)) }
 {
     match form {
-        Form::Table => line_of(alloc, cells, name),
-        Form::Json => object_of(alloc, cells, name),
+        Form::Table => {
+            push_cells(text, cells)?;
+            push_end(text, name)
+        }
+        Form::Json => {
+            let object = object_of(*text.allocator(), cells, name)?;
+            text.extend_from_slice(&object)
+        }
     }
+}
+
+/// Adds a row to a list.
+pub(crate) fn add_row(
+    lines: &mut Lines,
+    form: Form,
+    cells: &[Cell],
+    name: Option<Name<'_>>,
+) -> Result<(), AllocError>
+    ensures { OnOk result (Adds lines.old lines.new (
+        row_text form (map cell_of cells.now) (option_map name_of name.entry))) }
+{
+    lines.push_lead()?;
+    push_row(&mut lines.text, form, cells, name)
 }

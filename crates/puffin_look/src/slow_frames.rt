@@ -7,11 +7,11 @@ ghost use Rattle.puffin_look.specs.OpenFrame.{open_of};
 ghost use Rattle.puffin_look.specs.Trees.{TreeFrame, IsRead, AreUnread};
 ghost use Rattle.puffin_look.specs.Wanted.{wanted_streams, RefusesTaken};
 ghost use Rattle.puffin_look.specs.Printed.{IsPrinted, IsStopped, IsCutOff};
-ghost use Rattle.puffin_look.specs.Slowest.{IsNoText, is_faster_by, with_row_by};
+ghost use Rattle.puffin_look.specs.Slowest.{IsNoText};
 ghost use Rattle.puffin_look.specs.Forms.{list_text};
 ghost use Rattle.puffin_look.specs.SlowFrames.{head_cells, head_text, between_steps, tail_text, AreSlowFrames};
 ghost use Rattle.puffin_look.specs.inner.Rows.{cell_of};
-ghost use Rattle.puffin_look.specs.inner.SlowlyTaken.{held_duration, held_of, ReadsSlow};
+ghost use Rattle.puffin_look.specs.inner.SlowlyTaken.{ReadsSlow};
 
 use crate::folded::Folding;
 use crate::heavy::push_steps;
@@ -21,6 +21,7 @@ use crate::objects::push_members;
 use crate::overview::Overview;
 use crate::readable::{push_grouped, push_readable};
 use crate::rows::{Cell, Value};
+use crate::slowest::{Timed, keep};
 use crate::stacks::Stacks;
 use crate::text::push_count;
 use crate::top::length_of;
@@ -37,6 +38,16 @@ use std::alloc::{AllocError, Global};
 pub(crate) struct SlowFrame {
     pub duration_ns: NanoSecond,
     pub text: Vec<u8>,
+}
+
+impl Timed for SlowFrame {
+    ghost use Rattle.puffin_look.specs.inner.SlowlyTaken.{held_duration};
+
+    ghost duration = { held_duration };
+
+    fn duration_ns(&self) -> NanoSecond {
+        self.duration_ns
+    }
 }
 
 /// Returns a frame's line.
@@ -130,22 +141,6 @@ fn text_of(
     Ok(text)
 }
 
-/// Returns the place of the first frame that is faster than this one, if there is one.
-fn first_faster(rows: &[SlowFrame], row: &SlowFrame) -> Option<usize>
-    ensures { result ≡ position (is_faster_by held_duration row.now) rows.now }
-{
-    rows.iter()
-        .position(|other| other.duration_ns < row.duration_ns)
-}
-
-/// Returns that place, or else the end.
-fn place_for(rows: &[SlowFrame], row: &SlowFrame) -> usize
-    ensures place { with_row_by held_duration rows.now row.now ≡ insert rows.now result row.now }
-    ensures within { result ≤ length rows.now }
-{
-    first_faster(rows, row).unwrap_or(rows.len())
-}
-
 /// The slowest frames so far, the slowest first.
 #[derive(Drop)]
 struct SlowFrames<'t> {
@@ -154,23 +149,6 @@ struct SlowFrames<'t> {
     form: Form,
     known: &'t ScopeCollection,
     wanted: &'t Wanted,
-}
-
-impl<'t> SlowFrames<'t> {
-    /// Adds a frame, and drops the fastest one if they are too many then.
-    fn add_row(&mut self, row: SlowFrame) -> Result<(), AllocError>
-        ensures rows { OnOk result (self.new.rows.items
-            ≡ take self.old.limit (with_row_by held_duration self.old.rows.items row)) }
-        ensures limit { OnOk result (self.new.limit ≡ self.old.limit) }
-        ensures form { OnOk result (self.new.form ≡ self.old.form) }
-        ensures known { OnOk result (self.new.known ≡ self.old.known) }
-        ensures wanted { OnOk result (self.new.wanted ≡ self.old.wanted) }
-    {
-        let place = place_for(&self.rows, &row);
-        self.rows.insert(place, row)?;
-        self.rows.truncate(self.limit);
-        Ok(())
-    }
 }
 
 impl<'t> Listing for SlowFrames<'t> {
@@ -191,10 +169,11 @@ impl<'t> Listing for SlowFrames<'t> {
     fn add(&mut self, frame: &UnpackedFrameData) -> Answer<()> {
         let alloc = *self.rows.allocator();
         let text = text_of(alloc, self.form, self.known, self.wanted, frame)?;
-        self.add_row(SlowFrame {
+        let row = SlowFrame {
             duration_ns: frame.duration_ns(),
             text,
-        })?;
+        };
+        keep(&mut self.rows, self.limit, row)?;
         Ok(())
     }
 

@@ -4,30 +4,66 @@ ghost use Rattle.std.specs.Prelude.{◌≡◌, ◌+◌, ◌⊎◌, ◌≤◌, le
 ghost use Rattle.puffin_data.specs.Device.{CanFail, TookNothing};
 ghost use Rattle.puffin_look.specs.FrameLines.{frame_list};
 ghost use Rattle.puffin_look.specs.Printed.{IsPrinted, IsStopped, IsCutOff, RefusesNone};
-ghost use Rattle.puffin_look.specs.Slowest.{is_faster, with_row, AreSlowestFrames, IsNoText};
+ghost use Rattle.puffin_look.specs.Slowest.{is_faster_by, with_row_by, AreSlowestFrames, IsNoText};
 
 use crate::frames::{FrameRow, HEAD, push_row};
 use crate::lines::{Form, Lines};
 use crate::listing::{Listing, list_frames};
 use puffin_data::data::{Drain, Source, write_all};
-use puffin_data::{FileError, Result as Answer};
+use puffin_data::{FileError, NanoSecond, Result as Answer};
 use puffin_frames::frame_data::UnpackedFrameData;
 use std::alloc::{AllocError, Global};
 
+/// What has a duration.
+pub(crate) trait Timed {
+    ghost use Rattle.std.specs.Prelude.{ℤ};
+
+    ghost duration: { Self → ℤ };
+
+    /// Returns the duration, in nanoseconds.
+    fn duration_ns(&self) -> NanoSecond
+        ensures { result ≡ duration self.now };
+}
+
+impl Timed for FrameRow {
+    ghost use Rattle.puffin_look.specs.Slowest.{duration_of};
+
+    ghost duration = { duration_of };
+
+    fn duration_ns(&self) -> NanoSecond {
+        self.duration_ns
+    }
+}
+
 /// Returns the place of the first row that is faster than this one, if there is one.
-fn first_faster(rows: &[FrameRow], row: &FrameRow) -> Option<usize>
-    ensures { result ≡ position (is_faster row.now) rows.now }
+fn first_faster<R: Timed>(rows: &[R], row: &R) -> Option<usize>
+    ensures { result ≡ position (is_faster_by R.duration row.now) rows.now }
 {
     rows.iter()
-        .position(|other| other.duration_ns < row.duration_ns)
+        .position(|other| other.duration_ns() < row.duration_ns())
 }
 
 /// Returns that place, or else the end.
-fn place_for(rows: &[FrameRow], row: &FrameRow) -> usize
-    ensures place { with_row rows.now row.now ≡ insert rows.now result row.now }
+fn place_for<R: Timed>(rows: &[R], row: &R) -> usize
+    ensures place { with_row_by R.duration rows.now row.now ≡ insert rows.now result row.now }
     ensures within { result ≤ length rows.now }
 {
     first_faster(rows, row).unwrap_or(rows.len())
+}
+
+/// Adds a row to these, the slowest first, and drops the fastest one if they are too many then.
+pub(crate) fn keep<R: Timed + Drop>(
+    rows: &mut Vec<R>,
+    limit: usize,
+    row: R,
+) -> Result<(), AllocError>
+    ensures { OnOk result (
+        rows.new.items ≡ take limit (with_row_by R.duration rows.old.items row)) }
+{
+    let place = place_for(rows, &row);
+    rows.insert(place, row)?;
+    rows.truncate(limit);
+    Ok(())
 }
 
 /// The slowest frames so far, the slowest first.
@@ -35,20 +71,6 @@ fn place_for(rows: &[FrameRow], row: &FrameRow) -> usize
 struct Slowest {
     rows: Vec<FrameRow>,
     limit: usize,
-}
-
-impl Slowest {
-    /// Adds a frame, and drops the fastest one if they are too many then.
-    fn add_row(&mut self, row: FrameRow) -> Result<(), AllocError>
-        ensures rows { OnOk result (
-            self.new.rows.items ≡ take self.old.limit (with_row self.old.rows.items row)) }
-        ensures limit { self.new.limit ≡ self.old.limit }
-    {
-        let place = place_for(&self.rows, &row);
-        self.rows.insert(place, row)?;
-        self.rows.truncate(self.limit);
-        Ok(())
-    }
 }
 
 impl Listing for Slowest {
@@ -66,7 +88,7 @@ impl Listing for Slowest {
     ghost takes_more = { rows_more };
 
     fn add(&mut self, frame: &UnpackedFrameData) -> Answer<()> {
-        self.add_row(FrameRow::new(frame))?;
+        keep(&mut self.rows, self.limit, FrameRow::new(frame))?;
         Ok(())
     }
 
@@ -83,7 +105,7 @@ fn text_of(alloc: Global, form: Form, rows: &[FrameRow]) -> Result<Vec<u8>, Allo
 {
     let mut lines = Lines::new(alloc, form, HEAD)?;
     for row in rows {
-        push_row(alloc, form, &mut lines, row)?;
+        push_row(form, &mut lines, row)?;
     }
     lines.closed(form)
 }

@@ -14,7 +14,7 @@ ghost use Rattle.puffin_look.specs.inner.Rows.{cell_of};
 use crate::escapes::push_escaped;
 use crate::lines::{Form, Lines};
 use crate::listing::{Listing, list_behind};
-use crate::rows::{Cell, Value, row_of};
+use crate::rows::{Cell, Value, add_row};
 use crate::text::push_time;
 use crate::top::length_of;
 use puffin_data::data::{Drain, Source, StreamInfo, write_all};
@@ -175,7 +175,6 @@ fn cells_of(totals: &ThreadTotals) -> [Cell; 5]
 
 /// Adds a thread's row to a list.
 fn push_row(
-    alloc: Global,
     form: Form,
     lines: &mut Lines,
     thread: &ThreadInfo,
@@ -184,9 +183,8 @@ fn push_row(
     ensures { OnOk result (
         Adds lines.old lines.new (thread_line form (key_of thread.now, totals.now))) }
 {
-    let word = word_of(alloc, thread)?;
-    let line = row_of(alloc, form, &cells_of(totals), Some(("thread", &word)))?;
-    lines.add(&line)
+    let word = word_of(*lines.text.allocator(), thread)?;
+    add_row(lines, form, &cells_of(totals), Some(("thread", &word)))
 }
 
 /// Returns the list of all threads.
@@ -196,7 +194,7 @@ fn text_of(alloc: Global, form: Form, threads: &Threads) -> Result<Vec<u8>, Allo
 {
     let mut lines = Lines::new(alloc, form, HEAD)?;
     'threads: for (thread, totals) in threads.totals.iter() {
-        push_row(alloc, form, &mut lines, thread, totals)?;
+        push_row(form, &mut lines, thread, totals)?;
     }
     lines.closed(form)
 }

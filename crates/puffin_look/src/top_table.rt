@@ -8,7 +8,7 @@ ghost use Rattle.puffin_look.specs.inner.Rows.{cell_of};
 ghost use Rattle.puffin_look.specs.TopTable.{top_cells, top_row, top_text};
 
 use crate::lines::{Form, Lines};
-use crate::rows::{Cell, Value, row_of};
+use crate::rows::{Cell, Value, add_row};
 use crate::top::{Top, TopRow};
 use puffin_data::FileError;
 use puffin_data::data::{Drain, write_all};
@@ -36,18 +36,15 @@ fn cells_of(whole: u64, row: &TopRow) -> [Cell; 9]
 }
 
 /// Adds a row.
-fn push_row(
-    alloc: Global,
-    form: Form,
-    lines: &mut Lines,
-    whole: u64,
-    row: &TopRow,
-) -> Result<(), AllocError>
+fn push_row(form: Form, lines: &mut Lines, whole: u64, row: &TopRow) -> Result<(), AllocError>
     ensures { OnOk result (Adds lines.old lines.new (top_row form whole row.now)) }
 {
-    let cells = cells_of(whole, row);
-    let line = row_of(alloc, form, &cells, Some(("name", &row.name)))?;
-    lines.add(&line)
+    add_row(
+        lines,
+        form,
+        &cells_of(whole, row),
+        Some(("name", &row.name)),
+    )
 }
 
 /// Returns the whole list.
@@ -57,7 +54,7 @@ fn text_of(alloc: Global, form: Form, top: &Top) -> Result<Vec<u8>, AllocError>
 {
     let mut lines = Lines::new(alloc, form, HEAD)?;
     for row in top.rows.iter() {
-        push_row(alloc, form, &mut lines, top.whole, row)?;
+        push_row(form, &mut lines, top.whole, row)?;
     }
     lines.closed(form)
 }

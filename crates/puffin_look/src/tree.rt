@@ -1,6 +1,6 @@
 //! The lines of a frame's scopes.
 
-ghost use Rattle.std.specs.Prelude.{◌≡◌, ◌++◌, ◌+◌, ◌<◌, ◌^◌, ◌⊎◌, codes, OnOk, IfErr};
+ghost use Rattle.std.specs.Prelude.{◌≡◌, ◌++◌, ◌+◌, ◌<◌, ◌^◌, ◌⊎◌, OnOk, IfErr};
 ghost use Rattle.std.specs.FinMap as map;
 ghost use Rattle.puffin_data.specs.declared.error.Error.{Error};
 ghost use Rattle.puffin_data.specs.Forest.{Forest};
@@ -11,15 +11,16 @@ ghost use Rattle.puffin_data.specs.Walk.FoundScopes.{found_of};
 ghost use Rattle.puffin_threads.specs.Thread.ThreadKey.{key_of};
 ghost use Rattle.puffin_look.specs.Escapes.{escaped};
 ghost use Rattle.puffin_look.specs.Names.{name_or_id};
-ghost use Rattle.puffin_look.specs.ThreadLines.{thread_text};
-ghost use Rattle.puffin_look.specs.FrameTree.{nested_line, forest_lines, tree_text};
+ghost use Rattle.puffin_look.specs.FrameTree.{label_text, nested_line, thread_line, forest_lines, tree_text};
 ghost use Rattle.puffin_look.specs.Cells.{length_of};
 ghost use Rattle.puffin_look.specs.inner.TreeLines.{HasMoreLines};
 
-use crate::columns::{push_indent, push_numbers, push_text};
+use crate::columns::{push_indent, push_text};
 use crate::escapes::push_escaped;
 use crate::names::{details_under, number_name};
+use crate::rows::{Value, push_cells};
 use crate::threads::push_thread;
+use crate::top::length_of;
 use puffin_data::data::{RawScope, StreamInfo, Visitor, text_of, walk_with};
 use puffin_data::{NanoSecond, Result as Answer};
 use puffin_threads::scope_details::ScopeCollection;
@@ -48,6 +49,24 @@ pub(crate) struct Outer {
     pub time: u64,
 }
 
+/// Appends a scope's name and text, indented by two blanks for each level, and the end of the line.
+fn push_label(
+    text: &mut Vec<u8>,
+    known: &ScopeCollection,
+    level: usize,
+    scope: &RawScope,
+) -> Result<(), AllocError>
+    requires { 0 < scope.now.id }
+    ensures text { OnOk result (text.new.items
+        ≡ text.old.items ++ label_text known.now level (found_of scope.now).span) }
+    ensures level { OnOk result (level < 2 ^ 63) }
+{
+    push_indent(text, level)?;
+    push_name(text, known, scope.id)?;
+    push_text(text, text_of(scope.text))?;
+    text.extend_from_slice(b"\n")
+}
+
 /// Appends a scope's line.
 fn push_scope(
     text: &mut Vec<u8>,
@@ -61,11 +80,15 @@ fn push_scope(
         ++ nested_line known.now begin outer.level outer.time (found_of scope.now).span) }
     ensures level { OnOk result (outer.level < 2 ^ 63) }
 {
-    push_indent(text, outer.level)?;
-    push_name(text, known, scope.id)?;
-    push_text(text, text_of(scope.text))?;
     let time = scope.stop.abs_diff(scope.start);
-    push_numbers(text, begin, scope.start, time, outer.time)
+    let cells = [
+        ("start", Value::Offset(begin, scope.start)),
+        ("duration", Value::Time(Some(time))),
+        ("share", Value::Share(time, outer.time)),
+    ];
+    push_cells(text, &cells)?;
+    text.extend_from_slice(b"  ")?;
+    push_label(text, known, outer.level, scope)
 }
 
 /// The lines that are still to be written, and what the next ones depend on.
@@ -104,12 +127,13 @@ impl<'s, 'k> Visitor<'s> for Lines<'k> {
 }
 
 impl<'k> Lines<'k> {
-    /// Appends a thread's line.
+    /// Appends a thread's line, behind the names of the columns.
     fn push_head(&mut self, thread: &ThreadInfo) -> Result<(), AllocError>
         ensures { OnOk result (HasMoreLines self.old self.new
-            (codes "thread " ++ (thread_text (key_of thread.now) ++ codes "\n"))) }
+            (thread_line (key_of thread.now))) }
     {
-        self.text.extend_from_slice(b"thread ")?;
+        self.text
+            .extend_from_slice(b"       start    duration   share  thread ")?;
         push_thread(&mut self.text, thread)?;
         self.text.extend_from_slice(b"\n")
     }
@@ -121,7 +145,7 @@ impl<'k> Lines<'k> {
     {
         Outer {
             level: 0,
-            time: self.range_ns.1.abs_diff(self.range_ns.0),
+            time: length_of(self.range_ns),
         }
     }
 

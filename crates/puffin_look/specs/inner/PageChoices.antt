@@ -6,7 +6,8 @@ use Rattle.puffin_frames.specs.Packet.Stored.{Stored}
 use Rattle.puffin_view.specs.View.File.{file_at, TookFrames, FailsToRead}
 use Rattle.puffin_view.specs.View.FrameFile.{frame_at, HasGiven}
 use Rattle.puffin_look.specs.Printed.{Begins, IsFull}
-use Rattle.puffin_look.specs.PageChoice.{rows_of, with_slow, slowest, recent, Chosen}
+use Rattle.puffin_look.specs.PageChoice.{rows_of, duration_of, slowest, recent, Chosen}
+use Rattle.puffin_look.specs.Slowest.{with_row_by}
 use Rattle.puffin_look.specs.declared.page_choice.Row.{Row}
 use Rattle.puffin_look.specs.declared.page_choice.Rows.{Rows}
 use Rattle.puffin_look.specs.declared.page_choice.Choice.{Choice}
@@ -14,7 +15,7 @@ use Rattle.puffin_look.specs.declared.page_choice.Choice.{Choice}
 -- one row more
 pub record AddsRow (v u : Rows) (row : Row) : Type 0 where
   pub recent : u.recent.items ≡ take v.limits.recent (row ∷ v.recent.items)
-  pub slow : u.slow.items ≡ take v.limits.slow (with_slow v.slow.items row)
+  pub slow : u.slow.items ≡ take v.limits.slow (with_row_by duration_of v.slow.items row)
 
 -- these are the rows of these frames
 pub record HasRows (v : Rows) (stored : List Stored) : Type 0 where

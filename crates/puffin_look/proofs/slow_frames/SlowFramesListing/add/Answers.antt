@@ -9,5 +9,5 @@ pub returns-clause-ok : goal.returns-clause-ok
 returns-clause-ok c = (
   [],
   refl,
-  frame_kept c.args.self.now c.add_row.new.self (open_of c.args.frame.now) _ c.in_ok-text.ensures.ok (to_z-of_z w64 c.duration_ns.result (omega (arith, ints)) ∙ c.duration_ns.ensures) c.in_ok-add_row.ensures.rows c.in_ok-add_row.ensures.limit c.in_ok-add_row.ensures.form c.in_ok-add_row.ensures.known c.in_ok-add_row.ensures.wanted,
+  frame_kept c.args.self.now _ (open_of c.args.frame.now) _ c.in_ok-text.ensures.ok (to_z-of_z w64 c.duration_ns.result (omega (arith, ints)) ∙ c.duration_ns.ensures) c.in_ok-keep.ensures refl refl refl refl,
 )

@@ -9,7 +9,7 @@ returns-clause-ok c = (
   refl,
   record {
     none = refl;
-    limit = c.in_ok-add_row.ensures.limit;
-    rows = c.in_ok-add_row.ensures.rows ∙ ap (λ (r : FrameRow). take c.args.self.now.limit (with_row c.args.self.now.rows.items r)) c.new.ensures;
+    limit = refl;
+    rows = c.in_ok-keep.ensures ∙ ap (λ (r : FrameRow). take c.args.self.now.limit (with_row c.args.self.now.rows.items r)) c.new.ensures;
   },
 )
