@@ -5,11 +5,12 @@
     python3 -m tests.wrong-bodies.run --write [CRATE[/WORD]..]
     python3 -m tests.wrong-bodies.run --shown
 
-With a word it tries those of the crate whose names have it, with --gate only those with a line `gate`, and with --write it writes
-into edits that name no clause those that refuse them.
+With a word it tries those of the crate whose names have it, with --gate only those with a line `gate`, and with --write only those
+that name no clause, into which it writes those that refuse them.
 
-README.md says what a wrong body looks like, how several are tried at once, what is kept of a run, and what --shown tries. The
-last line is 'N passed, M failed'.
+README.md says what a wrong body looks like, how several are tried at once, what is kept of a run, and what --shown tries. Each
+verdict is printed, kept and written once it is known, so that a run that is cut off loses none. The last line is 'N passed, M
+failed'.
 """
 
 import concurrent.futures
@@ -113,14 +114,14 @@ def is_alone(body):
 
 
 class Tries:
-    """The tries of one crate's wrong bodies."""
+    """The tries of one crate's wrong bodies. `tell` is called with each, its verdict and what is said of it, once this is known."""
 
-    def __init__(self, copy, bodies):
+    def __init__(self, copy, bodies, tell):
         self.copy = copy
         self.waiting = list(bodies)
         self.looks = {body: Look() for body in bodies}
         self.apart = set()
-        self.ended = {}
+        self.tell = tell
 
     def group(self):
         """The next bodies to try together: no two of one function, and none that a check couldn't tell apart."""
@@ -138,7 +139,7 @@ class Tries:
         self.waiting.remove(body)
         verdict, why = held_to_names(body, verdict, clauses)
         errors = re.findall(r"^.*\berror(?:\[[\w-]+\])?: .*$", said, re.M)
-        self.ended[body] = verdict, why or "".join(errors[:1])[:300]
+        self.tell(body, verdict, why or "".join(errors[:1])[:300])
 
     def text_of(self, body):
         """What a body makes of a file."""
@@ -175,7 +176,6 @@ class Tries:
     def run(self):
         while self.waiting:
             self.try_together(self.group())
-        return self.ended
 
 
 def has_libraries(crates, folder):
@@ -191,23 +191,30 @@ def has_libraries(crates, folder):
 
 
 def tried(crate, bodies, below):
-    """The lines on a crate's wrong bodies, and of each whether it ended as it must."""
-    begun = time.monotonic()
-    earlier = Kept(crate, below)
-    ended = {body: told for body in bodies for told in earlier.told(body)}
-    left = [body for body in bodies if body not in ended]
+    """Tries a crate's wrong bodies. Whether each ended as it must."""
+    begun, earlier, are_well = time.monotonic(), Kept(crate, below), []
+
+    def tell(body, verdict, why):
+        are_well.append(verdict == body.ends or verdict == UNNAMED and body.ends == REFUSED)
+        print(f"{crate}/{body.name}: {verdict}{': ' if why else ''}{why}", flush=True)
+        if verdict in (REFUSED, UNNAMED):
+            earlier.keep(body, (verdict, why))
+        if verdict == UNNAMED and why and "--write" in sys.argv:
+            path = next(it for it in wrong_of(crate) if it.stem == body.name)
+            write_clauses(path, why)
+            earlier.keep(*bodies_of(crate, [path]), (REFUSED, why))
+
+    left = []
+    for body in bodies:
+        told = earlier.told(body)
+        left += [] if told else [body]
+        for verdict, why in told:
+            tell(body, verdict, why)
     with tempfile.TemporaryDirectory() as folder:
-        ended |= Tries(Copy(crate, folder, below), left).run()
-    for body in left:
-        if ended[body][0] in (REFUSED, UNNAMED):
-            earlier.keep(body, ended[body])
-    if "--write" in sys.argv:
-        for body in (body for body, (verdict, _) in ended.items() if verdict == UNNAMED):
-            write_clauses(next(it for it in wrong_of(crate) if it.stem == body.name), ended[body][1])
-    lines = [f"{crate}/{body.name}: {verdict}{': ' if why else ''}{why}" for body, (verdict, why) in ended.items()]
+        Tries(Copy(crate, folder, below), left, tell).run()
     took = time.monotonic() - begun
-    are_well = [verdict == body.ends or verdict == UNNAMED and body.ends == REFUSED for body, (verdict, _) in ended.items()]
-    return [*sorted(lines), f"{crate}: {len(left)} tried in {took:.0f} seconds, and {len(bodies) - len(left)} earlier"], are_well
+    print(f"{crate}: {len(left)} tried in {took:.0f} seconds, and {len(bodies) - len(left)} earlier", flush=True)
+    return are_well
 
 
 def write_clauses(path, told):
@@ -232,15 +239,17 @@ def bodies_of(crate, paths):
 
 def wrong_bodies(words):
     """Crates with their wrong bodies, the most first: those that are named, or all; with those that are shown, or, behind --gate,
-    only those that the gate tries."""
+    only those that the gate tries, or, behind --write, that name no clause."""
     shown = [("puffin_data", bodies_of("puffin_data", sorted(HERE.glob("shown/*.edit"))))]
     if words == ["--shown"]:
         return shown
-    of_gate, words = "--gate" in words, [it for it in words if it not in ("--gate", "--write")]
+    of_gate, without = "--gate" in words, "--write" in words
+    words = [it for it in words if it not in ("--gate", "--write")]
     found = []
     for word in words or [it for it in common.crates() if any(wrong_of(it))]:
         crate, _, part = word.partition("/")
         bodies = bodies_of(crate, [it for it in wrong_of(crate) if part in it.name])
+        bodies = [it for it in bodies if not (it.clauses and without)]
         found.append((crate, [it for it in bodies if it.is_of_gate or not of_gate]))
     named = [it for it in found if it[1] or words]
     return sorted(named, key=lambda it: -len(it[1])) + ([] if words or of_gate else shown)
@@ -267,9 +276,7 @@ def main():
             return count.end()
         begun = [lanes.submit(tried, crate, bodies, below) for crate, bodies in tasks]
         for ended in concurrent.futures.as_completed(begun):
-            lines, are_well = ended.result()
-            print("\n".join(lines), flush=True)
-            for is_well in are_well:
+            for is_well in ended.result():
                 count.add(is_well)
     used = resource.getrusage(resource.RUSAGE_CHILDREN)
     print(f"wrong bodies: {(used.ru_utime + used.ru_stime) / 60:.1f} processor minutes")
