@@ -1,6 +1,6 @@
 //! Prints the scopes of two files by name.
 
-ghost use Rattle.std.specs.Prelude.{◌≡◌, ◌+◌, ◌⊎◌, map, option_map, OnOk, IfOk, IfErr, Err};
+ghost use Rattle.std.specs.Prelude.{◌≡◌, ◌+◌, ◌⊎◌, map, OnOk, IfOk, IfErr, Err};
 ghost use Rattle.std.specs.Io.KnownBytes.{Appends};
 ghost use Rattle.puffin_data.specs.Device.{CanFail, IsOutside, TookNothing, WritesBeginning};
 ghost use Rattle.puffin_look.specs.inner.Lining.{Adds};

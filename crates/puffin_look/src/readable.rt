@@ -1,8 +1,8 @@
 //! Appends numbers for a person: with commas between thousands, and durations with a unit.
 
-ghost use Rattle.std.specs.Prelude.{◌≡◌, ◌++◌, ◌-ℤ◌, codes, OnOk};
+ghost use Rattle.std.specs.Prelude.{◌≡◌, ◌++◌, ◌-ℤ◌, OnOk};
 ghost use Rattle.std.specs.Fmt.{decimal};
-ghost use Rattle.puffin_look.specs.Cells.{comma, grouped, grouped_moment, in_hundredths, readable_time, readable_offset, sign, distance, change_text, growth_text};
+ghost use Rattle.puffin_look.specs.Cells.{comma, grouped, grouped_moment, in_hundredths, readable_time, readable_offset, sign, change_text, growth_text};
 
 use crate::columns::push_share;
 use crate::text::push_number;

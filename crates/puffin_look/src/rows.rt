@@ -94,10 +94,10 @@ pub(crate) fn push_cells(text: &mut Vec<u8>, cells: &[Cell]) -> Result<(), Alloc
         text.new.items ≡ text.old.items ++ flat_map row_cell (map cell_of cells.now)) }
 {
     let mut part = Vec::new(*text.allocator());
-    for &(_, value) in cells {
+    for cell in cells {
         part.clear();
-        push_value(&mut part, value)?;
-        push_cell(text, value.width(), &part)?;
+        push_value(&mut part, cell.1)?;
+        push_cell(text, cell.1.width(), &part)?;
     }
     Ok(())
 }

@@ -1,10 +1,10 @@
 //! Shows what takes the most time in the slowest frames of a file.
 
-ghost use Rattle.std.specs.Prelude.{◌≡◌, ◌++◌, ◌+◌, ◌⊎◌, ◌∷◌, [], ◌-ℤ◌, ℕ, List, ◌≤◌, codes, false, length, map, take, insert, position, OnOk, IfOk, IfErr, Err};
+ghost use Rattle.std.specs.Prelude.{◌≡◌, ◌+◌, ◌⊎◌, [], codes, false, map, OnOk, IfOk, IfErr, Err};
 ghost use Rattle.puffin_data.specs.declared.error.Error.{Error};
 ghost use Rattle.puffin_data.specs.Device.{CanFail, TookNothing};
 ghost use Rattle.puffin_look.specs.OpenFrame.{open_of};
-ghost use Rattle.puffin_look.specs.Trees.{TreeFrame, IsRead, AreUnread};
+ghost use Rattle.puffin_look.specs.Trees.{AreUnread};
 ghost use Rattle.puffin_look.specs.Wanted.{wanted_streams, RefusesTaken};
 ghost use Rattle.puffin_look.specs.Printed.{IsPrinted, IsStopped, IsCutOff};
 ghost use Rattle.puffin_look.specs.Slowest.{IsNoText};

@@ -1,10 +1,12 @@
 -- The line's parts, one after the other.
-use Rattle.std.proofs.Common.{List, ℕ, ◌++◌, ◌-ℤ◌, ap, ◌∙◌, w64, arith}
+use Rattle.std.proofs.Common.{[], ◌∷◌, ◌++◌, ◌-ℤ◌, ◌∙◌, codes, Some, w64, arith}
+use Rattle.std.specs.List.{flat_map}
 use Rattle.std.specs.Prelude.{unsigned_abs}
 use Rattle.std.proofs.lemmas.Int.{ints, to_z-of_z}
 use Rattle.std.proofs.lemmas.Result.{on_ok_weaker}
-use Rattle.puffin_look.specs.FrameTree.{text_part, numbers_text}
-use Rattle.puffin_look.proofs.Pushed.{pushed4}
+use Rattle.puffin_look.specs.Cells.{row_cell}
+use Rattle.puffin_look.specs.declared.rows.Value.TheVariants.{Offset, Time, Share}
+use Rattle.puffin_look.proofs.Pushed.{pushed3}
 use Rattle.puffin_look.proofs.tree.push_scope.Goals as goal
 
 pub returns-clause-text : goal.returns-clause-text
@@ -13,7 +15,5 @@ returns-clause-text c =
     let start = to_z-of_z w64 c.args.scope.now.start (omega (arith, ints)) in
     let stop = to_z-of_z w64 c.args.scope.now.stop (omega (arith, ints)) in
     let time = c.abs_diff-time.ensures ∙ (λ i. unsigned_abs (stop i -ℤ start i)) in
-    let text = c.in_ok-push_text.ensures ∙ ap (λ (t : List ℕ). c.push_name.new.text.items ++ text_part t) c.text_of.ensures in
-    on_ok_weaker c.push_numbers.result
-    (λ h. pushed4 _ _ _ _ _ _ _ _ _ c.in_ok-push_indent.ensures.text c.in_ok-push_name.ensures text (h ∙ (λ i. c.push_text.new.text.items ++ numbers_text (start i -ℤ begin i) (time i) c.args.outer.time)))
-    c.push_numbers.ensures
+    let cells = c.in_ok-push_cells.ensures ∙ (λ i. c.args.text.now.items ++ flat_map row_cell ((codes "start", Offset (begin i) (start i)) ∷ (codes "duration", Time (Some (time i))) ∷ (codes "share", Share (time i) c.args.outer.time) ∷ [])) in
+    on_ok_weaker c.push_label.result (pushed3 _ _ _ _ _ _ _ cells c.in_ok-extend_from_slice.ensures.items) c.push_label.ensures.text
