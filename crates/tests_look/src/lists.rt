@@ -306,7 +306,8 @@ fn a_frame_is_a_tree(rt: HostRuntime) {
     let thread = main_thread(&rt, Some(100));
     let printed = frame_of(&rt, 1, Some(thread));
     equal(&rt, printed.0, Ok(true));
-    let lines = b"frame 1 range 400 401 duration 1 ns\n       start    duration   share  thread 100:main\n\
+    let lines =
+        b"frame 1 range 400 401 duration 1 ns\n       start    duration   share  thread 100:main\n\
         \x20       0 ns        1 ns  100.0%  #1 (a)\n";
     equal(&rt, printed.1.as_slice(), lines);
     equal(&rt, frame_of(&rt, 2, None).0, Ok(false));
