@@ -172,10 +172,15 @@ def named_kinds(said):
     return kinds_of([error for _, _, error in errors_in(said)], {}, lambda _, kind: kind)
 
 
+def answers_in(text):
+    """The goals that a file answers; its other items are lemmas."""
+    return re.findall(r"^(?:abbrev )?pub (\S+) : goal\.", text, re.M)
+
+
 def kinds_in(text, errors, lemmas, is_of_shape):
     """The kinds of the errors of a file's items. Where a type has another shape, a lemma may fail for that alone."""
-    goals = re.findall(r"^(?:abbrev )?pub (\S+) : goal\.", text, re.M)
-    return kinds_of(errors, lemmas, lambda it, kind: NAMES if is_of_shape and it not in goals else kind)
+    answers = answers_in(text)
+    return kinds_of(errors, lemmas, lambda it, kind: NAMES if is_of_shape and it not in answers else kind)
 
 
 def without(text, kinds):
@@ -232,7 +237,8 @@ def looked_at(body, said, text_of, look):
             text = look.texts.get(file) or text_of(file)
             kinds = kinds_in(text, [error for it, _, error in errors if it == file], named_kinds(said), body.is_of_shape)
             look.texts[file], gone = without(text, kinds)
-            look.left_out.setdefault(function, {}).update(gone)
+            # (a lemma may fail only since the answer that it was for is gone)
+            look.left_out.setdefault(function, {}).update((it, gone[it]) for it in answers_in(text) if it in gone)
             is_new = is_new or bool(gone)
     return is_new
 
