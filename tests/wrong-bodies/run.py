@@ -24,6 +24,7 @@ import tempfile
 import time
 
 from .. import common
+from ..house import promises, sources
 from .kept import Kept
 from .verdicts import BAD, NOT_LOOKED_AT, REFUSED, UNKNOWN, UNNAMED, UNSURE
 from .verdicts import Look, WrongBody, changes_a_shape, held_to_names, is_judged, judged, looked_at, wrong_below
@@ -113,6 +114,14 @@ def is_alone(body):
     return body.is_of_definitions()
 
 
+def that_call_others(crate, bodies):
+    """Pairs of bodies of which one changes what the other calls, as far as names tell: beside that one it couldn't be judged."""
+    paths = {it.stem: it for it in wrong_of(crate)}
+    changed = {body: promises.changed_by(paths[body.name]) for body in bodies if body.name in paths}
+    called = {body: {it for piece in pieces for it in sources.named_in(piece)} for body, pieces in changed.items()}
+    return {frozenset((body, it)) for body in called for it in changed if it is not body and called[body] & changed[it]}
+
+
 class Tries:
     """The tries of one crate's wrong bodies. `tell` is called with each, its verdict and what is said of it, once this is known."""
 
@@ -120,7 +129,7 @@ class Tries:
         self.copy = copy
         self.waiting = list(bodies)
         self.looks = {body: Look() for body in bodies}
-        self.apart = set()
+        self.apart = that_call_others(copy.crate, bodies)
         self.tell = tell
 
     def group(self):

@@ -21,7 +21,10 @@ OF_A_NAME = re.compile(r"has no field|is not in scope(?! here, so what is shown)
 OF_A_SHAPE = re.compile(r"(?:missing|unknown|duplicate) field|field\(s\)|is given as field|come after all its fields|is not a constructor")
 
 # What it says of items that rest on one that has an error.
-ABOVE = re.compile(r"declarations? that depends? on `([^`]+)`, which was rejected, w(?:as|ere) not checked: (.*)")
+ABOVE = re.compile(r"declarations? that depends? on `([^`]+)`, which was (?:rejected|not admitted), w(?:as|ere) not checked: (.*)")
+
+# What stands beside the names of such items.
+BESIDE = re.compile(r" \(via [^()]*\)| and \d+ more$")
 
 # Where it names values at which a goal is false.
 AT_VALUES = re.compile(r"the goal fails, at|allow values at which this goal is false")
@@ -150,26 +153,34 @@ def kind_of(error):
     return NAMES if is_of_names(error) else VALUES if AT_VALUES.search(error) else OTHER_TYPE
 
 
-def named_kinds(said):
-    """The kinds of the errors of all items, the weakest of each."""
+def kinds_of(errors, lemmas, kind_of_named):
+    """The kinds of the errors of all items, the weakest of each. What rests on another item, or on one of these lemmas, has the kind
+    of that; what rests on one that isn't named has the weakest kind of all."""
+    weakest = min([*lemmas.values(), *[kind_of(it) for it in errors if not ABOVE.search(it)]], default=NAMES)
     found = {}
-    for _, _, error in errors_in(said):
-        for name in re.findall(r"\A`([^`]+)`: ", error):
-            found[name] = min(kind_of(error), found.get(name, VALUES))
+    for error in errors:
+        above, name = ABOVE.search(error), re.match(r"`([^`]+)`: ", error)
+        names = BESIDE.sub("", above[2]).split(", ") if above else [name[1]] if name else []
+        kind = found.get(above[1], lemmas.get(above[1], weakest)) if above else kind_of(error)
+        for it in names:
+            found[it] = min(kind_of_named(it, kind), found.get(it, VALUES))
     return found
+
+
+def named_kinds(said):
+    """The kinds of the errors of all items of proof files."""
+    return kinds_of([error for _, _, error in errors_in(said)], {}, lambda _, kind: kind)
+
+
+def answers_in(text):
+    """The goals that a file answers; its other items are lemmas."""
+    return re.findall(r"^(?:abbrev )?pub (\S+) : goal\.", text, re.M)
 
 
 def kinds_in(text, errors, lemmas, is_of_shape):
-    """The kinds of the errors of a file's items, the weakest of each. What rests on a lemma has the kind of that. Where a type has
-    another shape, a lemma may fail for that alone."""
-    goals, found = re.findall(r"^(?:abbrev )?pub (\S+) : goal\.", text, re.M), {}
-    for error in errors:
-        above, name = ABOVE.search(error), re.match(r"`([^`]+)`: ", error)
-        names = above[2].split(", ") if above else [name[1]] if name else []
-        kind = found.get(above[1], lemmas.get(above[1], NAMES)) if above else kind_of(error)
-        for it in names:
-            found[it] = min(NAMES if is_of_shape and it not in goals else kind, found.get(it, VALUES))
-    return found
+    """The kinds of the errors of a file's items. Where a type has another shape, a lemma may fail for that alone."""
+    answers = answers_in(text)
+    return kinds_of(errors, lemmas, lambda it, kind: NAMES if is_of_shape and it not in answers else kind)
 
 
 def without(text, kinds):
@@ -226,7 +237,8 @@ def looked_at(body, said, text_of, look):
             text = look.texts.get(file) or text_of(file)
             kinds = kinds_in(text, [error for it, _, error in errors if it == file], named_kinds(said), body.is_of_shape)
             look.texts[file], gone = without(text, kinds)
-            look.left_out.setdefault(function, {}).update(gone)
+            # (a lemma may fail only since the answer that it was for is gone)
+            look.left_out.setdefault(function, {}).update((it, gone[it]) for it in answers_in(text) if it in gone)
             is_new = is_new or bool(gone)
     return is_new
 
