@@ -112,7 +112,7 @@ def edits_that_do_not_apply():
 
 
 def crates_with_other_edits_in_the_gate():
-    """Of each crate `rt ci` tries a few wrong bodies, which cost it a proof of the crate, and the gate at most twelve. Only
+    """Of a crate `rt ci` tries at most a few wrong bodies, which cost it a proof of the crate, and the gate at most twelve. Only
     the C library has none there."""
     for name, crate in common.crates().items():
         of_kit, others = (list(crate.folder().glob(f"{it}/*.edit")) for it in ("must-fail", "wrong"))
