@@ -1,5 +1,6 @@
 -- The scopes of a game's rounds, and what its frames show of each thread.
-use Rattle.std.specs.Prelude.{◌≡◌, ◌≤◌, ◌==◌, ◌%◌, ℕ, codes, if◌then◌else◌, List, [], ◌∷◌, Some, slice_get}
+use Rattle.std.specs.Prelude.{◌≡◌, ◌≤◌, ◌==◌, ◌%◌, ℕ, codes, if◌then◌else◌, List, [], ◌∷◌, length, take, suc, ◌<◌, Some, slice_get}
+use Rattle.std.specs.FinMap as fin_map
 use Rattle.puffin_frames.specs.Frame.Contents.{Streams}
 use Rattle.puffin.specs.declared.light.outcome.Outcome.{Outcome}
 use Rattle.puffin.specs.declared.light.outcome.ThreadCounts.{ThreadCounts}
@@ -31,3 +32,9 @@ pub record ShowsGame (known : ℕ) (game : Game) (outcome : Outcome) : Type 0 wh
       × (slice_get outcome.threads.items number ≡ Some count)
       × ∥ ShowsCode known (in_turn (part_code game number) rounds) name frames pending
       count.unreported ∥₁
+  -- if each of ten rounds had its frame, then each frame has the scopes of its round alone, but for those that had to wait
+  pub each_round : length frames ≡ 10 → (round number : ℕ) (name : List ℕ) → round < 10 →
+      slice_get the_names number ≡ Some name →
+      (waiting : ℕ)
+      × ∥ ShowsCode known (in_turn (part_code game number) (suc round)) name
+      (take (suc round) frames) fin_map.empty waiting ∥₁

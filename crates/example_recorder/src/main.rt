@@ -117,7 +117,7 @@ impl Rounds for Game {
         rt: &R,
         _round: usize,
         taken: &puffin::Result<Emitted>,
-        _frames: &mut F,
+        _frames: &F,
     ) -> bool {
         self.files.lock(rt).write_taken(taken)
     }

@@ -4,13 +4,12 @@ use Rattle.std.specs.Prelude.{slice_get, IsOk, IfOk, IfErr, Result}
 use Rattle.std.specs.Option.{option_or}
 use Rattle.std.proofs.lemmas.Option.{none-some}
 use Rattle.std.proofs.lemmas.List.{length-append}
-use Rattle.puffin_frames.specs.Frame.Contents.{Streams}
 use Rattle.std.specs.declared.thread.PromisedHandle.{PromisedHandle}
 use Rattle.puffin.specs.declared.light.outcome.Failed.{Failed}
 use Rattle.puffin.specs.declared.light.outcome.ThreadCounts.{ThreadCounts}
 use Rattle.puffin.specs.declared.light.ready.Ended.{Ended}
 use Rattle.puffin.specs.declared.light.started.Works.{Works}
-use Rattle.puffin.specs.Happenings.{Happening, frames_in}
+use Rattle.puffin.specs.Happenings.{Happening}
 use Rattle.puffin.specs.Members.{Member, all_handed}
 use Rattle.puffin.specs.Taking.{TookAll}
 use Rattle.puffin.specs.Joined.{TellsAt, EachJoined, AreJoined, EachTells, AreStarted, AreTold}
@@ -125,7 +124,7 @@ module _ {A T W : Type 0} (tells : T → W → ℕ → Ended → List Happening 
   joined_none taker leader failed shares is = record { rest = []; shares_are = is; as_many = refl; each = λ k h e. absurd cc }
 
 -- the leader led, and all threads are joined
-module _ {A T W J E : Type 0} (tells : T → W → ℕ → Ended → List Happening → List Happening → Type 0) (leads : T → W → ℕ → List Happening → List Happening → Type 0) (takes : T → W → List Streams → Type 0) where
+module _ {A T W J E : Type 0} (tells : T → W → ℕ → Ended → List Happening → List Happening → Type 0) (leads : T → W → ℕ → List Happening → List Happening → Type 0) (takes : T → W → List Happening → Type 0) where
   pub all_told : (handles : List (PromisedHandle A (Works T W))) (threads : List T) (leader : T) (program : W) (taker own : Member) (counted : ThreadCounts) (frames : ℕ) (r : Result J E)
       (failed : J → Option Failed) (counts : J → List ThreadCounts) (led : J → ThreadCounts) (taken missed : J → ℕ) (n : ℕ) (shares : J → List Member)
       → AreStarted handles threads program
@@ -133,7 +132,7 @@ module _ {A T W J E : Type 0} (tells : T → W → ℕ → Ended → List Happen
       → IfOk r (λ j. all_handed (shares j) ≡ taker.counts.handed)
       → IfOk r (λ j. led j ≡ counted)
       → IfOk r (λ j. (taken j ≡ frames) × (missed j ≡ n))
-      → leads leader program counted.unreported [] own.own → takes leader program (frames_in taker.own) → TookAll taker frames
+      → leads leader program counted.unreported [] own.own → takes leader program taker.own → TookAll taker frames
       → length handles ≡ length threads
       → IfOk r (λ j. AreTold tells leads takes threads leader program (failed j) (counts j) (led j) (taken j) (shares j))
   all_told handles threads leader program taker own counted frames (Ok j) failed counts led taken missed n shares started joined handed leader_is frames_are told took takes_all many = record {

@@ -7,7 +7,7 @@ use Rattle.std.proofs.lemmas.List.Elements.{All-append, All-cons, All-nil, recur
 use Rattle.history.specs.Entries.{entries_by, HasAuthors, AreAllAuthors}
 use Rattle.history.proofs.lemmas.Counting.{once_more, all_once}
 use Rattle.history.proofs.lemmas.AllAuthors.{not_left, has_authors-prefix}
-use Rattle.puffin.specs.Happenings.{Happening, left, is_left, History}
+use Rattle.puffin.specs.Happenings.{Happening, marked, left, is_left, History}
 use Rattle.puffin.specs.Members.{Member, account_of, all_reported, all_handed}
 use Rattle.puffin.specs.Leaving.{accounts_of, last_entries, AreAuthors}
 
@@ -17,13 +17,13 @@ accounts_more ms m = map-append account_of ms (m ∷ [])
 pub none_yet : (n : ℕ) (log : History) → AreAuthors n [] log
 none_yet n log = record { own = All-nil _; below = All-nil _; most = λ k. omega arith }
 
-pub entries_more : (log now new : History) (ms : List Member) (m : Member) → now ≡ log ++ last_entries (accounts_of ms) → new ≡ now ++ (m.number, left) ∷ [] → new ≡ log ++ last_entries (accounts_of (ms ++ m ∷ []))
-entries_more log now new ms m is more = more ∙ ap (λ (l : History). l ++ (m.number, left) ∷ []) is ∙ append_assoc log (last_entries (accounts_of ms)) ((m.number, left) ∷ [])
-    ∙ ap (λ (l : History). log ++ l) (sym (map-append (λ a. (a.0, left)) (accounts_of ms) (account_of m ∷ [])) ∙ ap last_entries (sym (accounts_more ms m)))
+pub entries_more : (log now new : History) (ms : List Member) (m : Member) → now ≡ log ++ last_entries (accounts_of ms) → new ≡ now ++ (m.number, marked left) ∷ [] → new ≡ log ++ last_entries (accounts_of (ms ++ m ∷ []))
+entries_more log now new ms m is more = more ∙ ap (λ (l : History). l ++ (m.number, marked left) ∷ []) is ∙ append_assoc log (last_entries (accounts_of ms)) ((m.number, marked left) ∷ [])
+    ∙ ap (λ (l : History). log ++ l) (sym (map-append (λ a. (a.0, marked left)) (accounts_of ms) (account_of m ∷ [])) ∙ ap last_entries (sym (accounts_more ms m)))
 
 pub authors_more : (n : ℕ) (log now : History) (ms : List Member) (m : Member) → AreAuthors n (accounts_of ms) log → now ≡ log ++ last_entries (accounts_of ms) → m.own ≡ entries_by m.number now → count_by is_left m.own ≡ 0 → m.number < n → AreAuthors n (accounts_of (ms ++ m ∷ [])) log
 authors_more n log now ms m so_far is own stays less =
-    let its = not_left left is_left refl m.number log m.own (accounts_of ms) (own ∙ ap (entries_by m.number) is) stays in
+    let its = not_left (marked left) is_left refl m.number log m.own (accounts_of ms) (own ∙ ap (entries_by m.number) is) stays in
     let P : ℕ × List Happening → Type 0 = λ a. a.1 ≡ entries_by a.0 log in
     let Q : ℕ × List Happening → Type 0 = λ a. a.0 < n in
     let a : ℕ × List Happening = account_of m in

@@ -20,4 +20,8 @@ mod TakenFrames
 mod ShownRuns
 mod ShownJobs
 mod ShownPools
+mod CutHistory
+mod KeptSteps
+mod RunningRounds
+mod ShownRounds
 mod TellingJobs

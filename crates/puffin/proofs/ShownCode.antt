@@ -3,6 +3,7 @@ use Rattle.std.proofs.Common.{◌≡◌, ◌≢◌, ℕ, zero, suc, ◌<◌, ◌
 use mathlib.Core.Logic.{∥∥₁_map}
 use Rattle.std.specs.Prelude.{slice_get, count_by, cond}
 use Rattle.std.specs.Str.{bytes_eq}
+use Rattle.std.proofs.lemmas.List.Concat.{flat_map-append}
 use Rattle.std.proofs.lemmas.List.Sums.{sum_by-cons}
 use Rattle.std.proofs.lemmas.Slice.Eq.{bytes_eq-Decides}
 use Rattle.std.specs.List.{All, Contains}
@@ -16,7 +17,7 @@ use Rattle.puffin_data.proofs.lemmas.Unique.{same_forest}
 use Rattle.puffin_threads.specs.Thread.ThreadKey.{ThreadKey, has_same_key}
 use Rattle.puffin_threads.proofs.lemmas.ThreadKeys.{has_same_key-one, has_same_key-itself}
 use Rattle.puffin.specs.Code.{Code, AreScopesOf}
-use Rattle.puffin.specs.Happenings.{Happening, reported, frames_in, reports_under}
+use Rattle.puffin.specs.Happenings.{Happening, reported, framed, marked, unmarked, frame_of, frames_in, report_under, reports_under}
 use Rattle.puffin.specs.Leaving.{accounts_of}
 use Rattle.puffin.specs.Members.{Member, account_of}
 use Rattle.puffin.specs.Recounted.{SpellInTurn}
@@ -40,6 +41,29 @@ under_others i j apart (r ∷ rs) = unlike (has_same_key j i) refl (under_others
 pub no_frames : (i : ThreadKey) (rs : List StreamFacts) → frames_in (map (reported i) rs) ≡ []
 no_frames i [] = refl
 no_frames i (r ∷ rs) = no_frames i rs
+
+-- ---- reports and frames without marks
+
+under_unmarked : (i : ThreadKey) (hs : List Happening) → reports_under i (unmarked hs) ≡ reports_under i hs
+under_unmarked i [] = refl
+under_unmarked i (reported j r ∷ hs) = ap (λ (rs : List StreamFacts). report_under i (reported j r) ++ rs) (under_unmarked i hs)
+under_unmarked i (framed streams ∷ hs) = under_unmarked i hs
+under_unmarked i (marked mark ∷ hs) = under_unmarked i hs
+
+frames_unmarked : (hs : List Happening) → frames_in (unmarked hs) ≡ frames_in hs
+frames_unmarked [] = refl
+frames_unmarked (reported j r ∷ hs) = frames_unmarked hs
+frames_unmarked (framed streams ∷ hs) = ap (λ fs. streams ∷ fs) (frames_unmarked hs)
+frames_unmarked (marked mark ∷ hs) = frames_unmarked hs
+
+-- what more there is without marks is more of reports and of frames
+pub more_under : (i : ThreadKey) (before after more : List Happening) → unmarked after ≡ unmarked before ++ more → reports_under i after ≡ reports_under i before ++ reports_under i more
+more_under i before after more is =
+    sym (under_unmarked i after) ∙ ap (reports_under i) is ∙ flat_map-append (report_under i) (unmarked before) more ∙ ap (λ (rs : List StreamFacts). rs ++ reports_under i more) (under_unmarked i before)
+
+pub more_frames : (before after more : List Happening) → unmarked after ≡ unmarked before ++ more → frames_in after ≡ frames_in before ++ frames_in more
+more_frames before after more is =
+    sym (frames_unmarked after) ∙ ap frames_in is ∙ flat_map-append frame_of (unmarked before) more ∙ ap (λ fs. fs ++ frames_in more) (frames_unmarked before)
 
 -- streams that fit memory spell one forest
 pub spelled_once : (rs : List StreamFacts) (f g : Forest) → AllFit rs → SpellInTurn rs f → SpellInTurn rs g → f ≡ g
@@ -106,7 +130,7 @@ frames_show known n is names shares counts taker log pending did same quiet reco
     shown : (share : Member) (code : Code) (waiting : ℕ) → slice_get shares k ≡ Some share → HasRun name Short known code [] share.own waiting → ∥ ShowsCode known code name (frames_in taker.own) pending waiting ∥₁
     shown share code waiting there ran =
         ∥∥₁_map (recounts.threads i (account_of share) (account_of taker) (contained all (suc k) share there) (contained all 0 taker refl) (every Others all reports) (every Untaken all takes)) (λ t.
-        let one : t.0 ≡ ran.shown = spelled_once ran.streams t.0 ran.shown ran.fit (subst (λ (rs : List StreamFacts). SpellInTurn rs t.0) (ap (reports_under i) ran.told ∙ under_itself i ran.streams) t.2) ran.spelled in
+        let one : t.0 ≡ ran.shown = spelled_once ran.streams t.0 ran.shown ran.fit (subst (λ (rs : List StreamFacts). SpellInTurn rs t.0) (more_under i [] share.own _ ran.told ∙ under_itself i ran.streams) t.2) ran.spelled in
         record {
           start = ran.start;
           shown = t.0;
@@ -132,7 +156,7 @@ frames_show known n is names shares counts taker log pending did same quiet reco
             let d = did j its.0 its.1 in
             let is_d : d.0 ≡ m = at_most_one (slice_get shares j) d.0 m d.3 e in
             subst (λ (x : Member). reports_under i x.own ≡ []) is_d
-            (ap (reports_under i) d.6.told ∙ under_others (key_for d.0 d.6) i (λ same_name. let at : j ≡ k = one_place name names j k alone (its.1 ∙ ap Some (sym same_name)) named in other (ap (λ (x : Member). x.number) (at_most_one (slice_get shares j) m share e (ap (slice_get shares) at ∙ there)))) d.6.streams)
+            (more_under i [] d.0.own _ d.6.told ∙ under_others (key_for d.0 d.6) i (λ same_name. let at : j ≡ k = one_place name names j k alone (its.1 ∙ ap Some (sym same_name)) named in other (ap (λ (x : Member). x.number) (at_most_one (slice_get shares j) m share e (ap (slice_get shares) at ∙ there)))) d.6.streams)
 
         takes : (j : ℕ) (m : Member) → slice_get all j ≡ Some m → Untaken (account_of m)
         takes zero m e other = let is_taker : taker ≡ m = cc in absurd (other (ap (λ (x : Member). x.number) (sym is_taker)))
@@ -140,4 +164,4 @@ frames_show known n is names shares counts taker log pending did same quiet reco
             let its = named_at names shares j m same e in
             let d = did j its.0 its.1 in
             let is_d : d.0 ≡ m = at_most_one (slice_get shares j) d.0 m d.3 e in
-            subst (λ (x : Member). frames_in x.own ≡ []) is_d (ap frames_in d.6.told ∙ no_frames (key_for d.0 d.6) d.6.streams)
+            subst (λ (x : Member). frames_in x.own ≡ []) is_d (more_frames [] d.0.own _ d.6.told ∙ no_frames (key_for d.0 d.6) d.6.streams)

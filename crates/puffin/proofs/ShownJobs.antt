@@ -5,7 +5,7 @@ use Rattle.std.specs.Prelude.{slice_get, count_by}
 use Rattle.std.specs.Str.{bytes_eq}
 use Rattle.std.specs.List.{Contains}
 use Rattle.std.proofs.lemmas.List.{append-nil}
-use Rattle.std.proofs.lemmas.List.Concat.{flat_map-append, flat_map-cons}
+use Rattle.std.proofs.lemmas.List.Concat.{flat_map-cons}
 use Rattle.std.proofs.lemmas.List.Sums.{sum_by-cons, sum_by-append}
 use Rattle.std.proofs.lemmas.Slice.Eq.{bytes_eq-Decides}
 use Rattle.std.proofs.lemmas.Option.{slice_get_within, slice_get-get_or}
@@ -14,12 +14,12 @@ use Rattle.puffin_data.specs.Forest.{Forest, append}
 use Rattle.puffin_data.specs.Honesty.{StreamFacts}
 use Rattle.puffin_threads.specs.Thread.ThreadKey.{ThreadKey}
 use Rattle.puffin.specs.Code.{Code, AreScopesOf}
-use Rattle.puffin.specs.Happenings.{Happening, reported, frame_of, frames_in, report_under, reports_under}
+use Rattle.puffin.specs.Happenings.{Happening, reported, frames_in, reports_under}
 use Rattle.puffin.specs.Members.{Member, account_of}
 use Rattle.puffin.specs.Recounted.{SpellInTurn}
 use Rattle.puffin.specs.Telling.{HasRun, Job, HaveRun}
 use Rattle.puffin.specs.Shown.{ShowsCode, IsAlone, names_in, FramesShowJobs}
-use Rattle.puffin.proofs.ShownCode.{under_itself, under_others, no_frames, spelled_once, at_most_one, contained, every, none_in, here, is_here}
+use Rattle.puffin.proofs.ShownCode.{under_itself, under_others, no_frames, more_under, more_frames, spelled_once, at_most_one, contained, every, none_in, here, is_here}
 
 abbrev names_of : List Job → List (List ℕ)
 names_of jobs = map (λ job. job.name) jobs
@@ -58,8 +58,7 @@ module _ (is : List ℕ → Code → Type 0) (known : ℕ) where
   -- a job of another name adds nothing
   apart : (name : List ℕ) (job : Job) (before mid : List Happening) → name ≢ job.name → HasRun job.name Short known job.code before mid job.unreported → (start : Option ℤ) → reports_under (key start name) mid ≡ reports_under (key start name) before
   apart name job before mid differs ran start =
-      ap (reports_under (key start name)) ran.told
-      ∙ flat_map-append (report_under (key start name)) before (map (reported (key ran.start job.name)) ran.streams)
+      more_under (key start name) before mid (map (reported (key ran.start job.name)) ran.streams) ran.told
       ∙ ap (λ (rs : List StreamFacts). reports_under (key start name) before ++ rs) (under_others (key ran.start job.name) (key start name) differs ran.streams)
       ∙ append-nil (reports_under (key start name) before)
 
@@ -73,8 +72,7 @@ module _ (is : List ℕ → Code → Type 0) (known : ℕ) where
   untaken [] before after ran = ap frames_in ran
   untaken (job ∷ jobs) before after (mid, it, ran, rest) =
       untaken jobs mid after rest
-      ∙ ap frames_in ran.told
-      ∙ flat_map-append frame_of before (map (reported (key ran.start job.name)) ran.streams)
+      ∙ more_frames before mid (map (reported (key ran.start job.name)) ran.streams) ran.told
       ∙ ap (λ fs. frames_in before ++ fs) (no_frames (key ran.start job.name) ran.streams)
       ∙ append-nil (frames_in before)
 
@@ -111,8 +109,7 @@ module _ (is : List ℕ → Code → Type 0) (known : ℕ) where
             ran = mine;
             alone =
                 absent name jobs mid after (omega (arith, once, sum, one)) rest mine.start
-                ∙ ap (reports_under i) mine.told
-                ∙ flat_map-append (report_under i) before (map (reported i) mine.streams)
+                ∙ more_under i before mid (map (reported i) mine.streams) mine.told
                 ∙ ap (λ (rs : List StreamFacts). rs ++ reports_under i (map (reported i) mine.streams)) (none mine.start)
                 ∙ under_itself i mine.streams;
           }

@@ -20,17 +20,17 @@ use Rattle.puffin.proofs.ShownJobs.{frames_show_jobs}
 use Rattle.puffin.proofs.ShownRuns.{there}
 
 -- a list of what there is for each number
-chosen : (P : ℕ → List Job → Type 0) (n : ℕ) → ((k : ℕ) → k < n → (jobs : List Job) × P k jobs) → (threads : List (List Job)) × (length threads ≡ n) × ((k : ℕ) (jobs : List Job) → slice_get threads k ≡ Some jobs → P k jobs)
-chosen P zero f = ([], refl, λ k jobs e. absurd cc)
-chosen P (suc n) f = put (f 0 (omega arith)) (chosen (λ k. P (suc k)) n (λ k below. f (suc k) (omega arith)))
+pub chosen : {A : Type 0} (P : ℕ → A → Type 0) (n : ℕ) → ((k : ℕ) → k < n → (x : A) × P k x) → (xs : List A) × (length xs ≡ n) × ((k : ℕ) (x : A) → slice_get xs k ≡ Some x → P k x)
+chosen P zero f = ([], refl, λ k x e. absurd cc)
+chosen {A} P (suc n) f = put (f 0 (omega arith)) (chosen (λ k. P (suc k)) n (λ k below. f (suc k) (omega arith)))
   where
-    put : (first : (jobs : List Job) × P 0 jobs) → ((threads : List (List Job)) × (length threads ≡ n) × ((k : ℕ) (jobs : List Job) → slice_get threads k ≡ Some jobs → P (suc k) jobs))
-        → (threads : List (List Job)) × (length threads ≡ suc n) × ((k : ℕ) (jobs : List Job) → slice_get threads k ≡ Some jobs → P k jobs)
-    put first rest = (first.0 ∷ rest.0, ap suc rest.1, λ k jobs e. at first rest.0 rest.2 k jobs e)
+    put : (first : (x : A) × P 0 x) → ((xs : List A) × (length xs ≡ n) × ((k : ℕ) (x : A) → slice_get xs k ≡ Some x → P (suc k) x))
+        → (xs : List A) × (length xs ≡ suc n) × ((k : ℕ) (x : A) → slice_get xs k ≡ Some x → P k x)
+    put first rest = (first.0 ∷ rest.0, ap suc rest.1, λ k x e. at first rest.0 rest.2 k x e)
       where
-        at : (first : (jobs : List Job) × P 0 jobs) (rest : List (List Job)) → ((k : ℕ) (jobs : List Job) → slice_get rest k ≡ Some jobs → P (suc k) jobs) → (k : ℕ) (jobs : List Job) → slice_get (first.0 ∷ rest) k ≡ Some jobs → P k jobs
-        at first rest later zero jobs e = let eq : first.0 ≡ jobs = cc in subst (P 0) eq first.1
-        at first rest later (suc k) jobs e = later k jobs e
+        at : (first : (x : A) × P 0 x) (rest : List A) → ((k : ℕ) (x : A) → slice_get rest k ≡ Some x → P (suc k) x) → (k : ℕ) (x : A) → slice_get (first.0 ∷ rest) k ≡ Some x → P k x
+        at first rest later zero x e = let eq : first.0 ≡ x = cc in subst (P 0) eq first.1
+        at first rest later (suc k) x e = later k x e
 
 -- what is so of what didn't fail
 well_so : {X E : Type 0} (P : Type 0) (result : Result X E) → IsOk result → OnOk result P → P
@@ -53,8 +53,8 @@ module _ (C : Type 0) {W : Type 0} (states : W → Bool) (does : W → List ℕ 
   abbrev led_tells : Ready C → W → ℕ → List Happening → List Happening → Type 0
   led_tells ready pool unreported before after = HasLedAs (states pool) (leads pool) (string_bytes ready.name) Short (num_known ready.scopes) before after unreported
 
-  abbrev took : Ready C → W → List Streams → Type 0
-  took ready pool frames = takes pool frames
+  abbrev took : Ready C → W → List Happening → Type 0
+  took ready pool told = takes pool (frames_in told)
 
   shown : (known : ℕ) (leader_name : List ℕ) (names : List (List ℕ)) (pool : W) (outcome : Outcome)
       → NamedTold tells led_tells took known leader_name names pool outcome → states pool ≡ true → outcome.failed ≡ None

@@ -25,8 +25,8 @@ there [] k below = absurd (omega arith)
 there (x ∷ xs) zero below = (x, refl)
 there (x ∷ xs) (suc k) below = there xs k (omega arith)
 
-only_one : {A : Type 0} (o : Option A) (x y : A) → o ≡ Some x → o ≡ Some y → x ≡ y
-only_one o x y p q = let same = sym p ∙ q in cc
+pub only_one_of : {A : Type 0} (o : Option A) (x y : A) → o ≡ Some x → o ≡ Some y → x ≡ y
+only_one_of o x y p q = let same = sym p ∙ q in cc
 
 -- what a thread ran that didn't fail
 ran_well : {X E : Type 0} (is : Code → Type 0) (name : List ℕ) (known : ℕ) (result : Result X E) (after : List Happening) (waiting : ℕ) → IsOk result → HasRunAs true is name Short known result [] after waiting → (code : Code) × is code × HasRun name Short known code [] after waiting
@@ -40,8 +40,8 @@ module _ (C : Type 0) {W : Type 0} (states : W → Bool) (runs : W → ℕ → C
   abbrev led_tells : Ready C → W → ℕ → List Happening → List Happening → Type 0
   led_tells ready program unreported before after = HasLedAs (states program) (leads program) (string_bytes ready.name) Short (num_known ready.scopes) before after unreported
 
-  abbrev took : Ready C → W → List Streams → Type 0
-  took ready program frames = takes program frames
+  abbrev took : Ready C → W → List Happening → Type 0
+  took ready program told = takes program (frames_in told)
 
   ran_each : (known : ℕ) (names : List (List ℕ)) (threads : List (Ready C)) (program : W) (failed : Option Failed) (counts : List ThreadCounts) (shares : List Member) → states program ≡ true → failed ≡ None → length threads ≡ length names → AreNamed known names threads
       → EachTells tells threads program failed counts shares → RanEach known (runs program) names shares counts
@@ -49,7 +49,7 @@ module _ (C : Type 0) {W : Type 0} (states : W → Bool) (runs : W → ℕ → C
       let t = there threads k (subst (λ (n : ℕ). k < n) (sym same) (slice_get_within names k name at)) in
       let told = each k t.0 t.1 in
       let its = named k t.0 t.1 in
-      let its_name : string_bytes t.0.name ≡ name = only_one (slice_get names k) (string_bytes t.0.name) name its.0 at in
+      let its_name : string_bytes t.0.name ≡ name = only_one_of (slice_get names k) (string_bytes t.0.name) name its.0 at in
       let ran = ran_well (runs program k) (string_bytes t.0.name) (num_known t.0.scopes) told.ended.result told.share.own told.ended.left.unreported (told.went_well none)
       (subst (λ (b : Bool). HasRunAs b (runs program k) (string_bytes t.0.name) Short (num_known t.0.scopes) told.ended.result [] told.share.own told.ended.left.unreported) stated told.told) in (
         told.share,
@@ -119,7 +119,7 @@ module _ (C : Type 0) {W : Type 0} (states : W → Bool) (runs : W → ℕ → C
   shows_if known leader_name names program (Err e) told = tt
 
 -- the names of threads that told
-pub named_told : {C W E : Type 0} (tells : Ready C → W → ℕ → Ended → List Happening → List Happening → Type 0) (leads : Ready C → W → ℕ → List Happening → List Happening → Type 0) (takes : Ready C → W → List Streams → Type 0)
+pub named_told : {C W E : Type 0} (tells : Ready C → W → ℕ → Ended → List Happening → List Happening → Type 0) (leads : Ready C → W → ℕ → List Happening → List Happening → Type 0) (takes : Ready C → W → List Happening → Type 0)
     (known : ℕ) (leader_name : List ℕ) (names : List (List ℕ)) (program : W) (threads : List (Ready C)) (leader : Ready C) (r : Result Outcome E)
     → length threads ≡ length names → AreNamed known names threads → (string_bytes leader.name ≡ leader_name) × (num_known leader.scopes ≡ known)
     → IfOk r (λ outcome. HasTold tells leads takes threads leader program outcome)

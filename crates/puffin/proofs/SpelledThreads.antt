@@ -14,10 +14,10 @@ use Rattle.puffin_threads.proofs.lemmas.ThreadKeys.{key_cmp_total, key_cmp-one}
 use Rattle.puffin_frames.specs.Frame.Contents.{Streams, no_scopes, stream_under, reported_to}
 use Rattle.history.specs.Entries.{events, entries_by, AreAllAuthors}
 use Rattle.history.proofs.lemmas.AllAuthors.{only_one}
-use Rattle.puffin.specs.Happenings.{Happening, reported, framed, left, History, pending_after, due_after, frame_of, frames_in, AreReports, report_under, reports_under, Stands}
+use Rattle.puffin.specs.Happenings.{Happening, reported, framed, marked, History, pending_after, due_after, frame_of, frames_in, AreReports, report_under, reports_under, Stands, AreSeen}
 use Rattle.puffin.specs.Recounted.{SpellInTurn, streams_under, SpellReports, Recounts}
 
-append_append : (f g h : Forest) → append (append f g) h ≡ append f (append g h)
+pub append_append : (f g h : Forest) → append (append f g) h ≡ append f (append g h)
 append_append empty g h = refl
 append_append (node s c o) g h = ap (λ (x : Forest). node s c x) (append_append o g h)
 
@@ -73,7 +73,7 @@ spells_after i [] s f honest reports = merely (empty, ((f, empty, honest, refl, 
 spells_after i (reported j r ∷ hs) s f honest reports = ∥∥₁_elim reports.0.0 ∥∥₁_prop (λ its.
     more_reported i j r s hs f its.0 honest its.1 reports.0.1 (λ h. spells_after i hs (reported_to s j r) h) (has_same_key i j) refl reports.1)
 spells_after i (framed x ∷ hs) s f honest reports = ∥∥₁_map (spells_after i hs fm.empty empty (honest_empty i) reports.1) (λ t. (t.0, ((f, t.0, honest, t.1.0, refl), t.1.1)))
-spells_after i (left ∷ hs) s f honest reports = spells_after i hs s f honest reports.1
+spells_after i (marked mark ∷ hs) s f honest reports = spells_after i hs s f honest reports.1
 
 whole : (i : ThreadKey) (pending : Streams) (hs : List Happening) → Stands pending hs → SpellReports i (frames_in hs) pending (reports_under i hs)
 whole i pending hs s = ∥∥₁_elim (s.none i) ∥∥₁_prop (λ none. ∥∥₁_map (spells_after i hs s.start empty none s.reports) (λ t. (
@@ -83,13 +83,14 @@ whole i pending hs s = ∥∥₁_elim (s.none i) ∥∥₁_prop (λ none. ∥∥
 )))
 
 -- what all shares know, once each has been given back
-pub recounted : (n : ℕ) (accounts : List (ℕ × List Happening)) (log : History) (pending : Streams) → ∥ Stands pending (events log) ∥₁ → AreAllAuthors n accounts log → Recounts n accounts log pending
-recounted n accounts log pending stands all =
+pub recounted : (n : ℕ) (accounts : List (ℕ × List Happening)) (log : History) (pending : Streams) → ∥ Stands pending (events log) ∥₁ → AreSeen 0 0 (events log) → AreAllAuthors n accounts log → Recounts n accounts log pending
+recounted n accounts log pending stands seen all =
     let hs : List Happening = events log in
     let spelled : (i : ThreadKey) → SpellReports i (frames_in hs) pending (reports_under i hs) = λ i. ∥∥₁_elim stands ∥∥₁_prop (λ s. whole i pending hs s) in
     record {
       all = all;
       stands = stands;
+      seen = seen;
       spelled = spelled;
       threads = λ i a taker there took alone takes.
           let its : frames_in hs ≡ frames_in taker.1 = only_one frame_of n taker.0 accounts log all takes ∙ ap frames_in (sym (All-contains (λ b. b.1 ≡ entries_by b.0 log) accounts taker all.own took)) in

@@ -1,11 +1,12 @@
 -- What a share counts through which only frames are taken.
-use Rattle.std.proofs.Common.{◌≡◌, ℕ, ◌+◌, ◌<◌, ◌^◌, List, [], ◌∷◌, ◌++◌, Option, Some, None, length, refl, ap, sym, subst, ◌∙◌, arith}
+use Rattle.std.proofs.Common.{◌≡◌, ℕ, ◌+◌, ◌<◌, ◌^◌, List, [], ◌∷◌, ◌++◌, Option, Some, None, length, inl, inr, refl, ap, sym, subst, ◌∙◌, arith}
 use Rattle.std.specs.Arc.{arc_value}
 use Rattle.std.specs.FinMap as map
 use Rattle.std.specs.declared.sync.Arc.{Arc}
 use Rattle.std.specs.Prelude.{IfOk, OnErr, Result, Ok, Err}
 use Rattle.std.proofs.lemmas.List.{length-append, append-nil}
 use Rattle.std.proofs.lemmas.List.Elements.{All-nil, All-push}
+use Rattle.std.proofs.lemmas.List.Concat.{flat_map-append}
 use Rattle.std.proofs.lemmas.List.Sums.{sum_by-append}
 use Rattle.puffin_frames.specs.declared.frame_data.frame.FrameData.{FrameData}
 use Rattle.puffin_frames.specs.Frame.Contents.{Streams, AreHonest, holding_of, frame_meta}
@@ -13,10 +14,10 @@ use Rattle.puffin_frames.specs.Frame.Holding.{Holding}
 use Rattle.puffin_frames.specs.Frame.Sums.{total_scopes}
 use Rattle.puffin_threads.specs.Thread.ThreadKey.{ThreadKey}
 use Rattle.puffin_data.specs.Honesty.{StreamFacts}
-use Rattle.puffin.specs.Happenings.{Happening, framed, reports_under, report_under, frames_in, frame_of}
-use Rattle.puffin.specs.Members.{Member, IsNewMember, TakesFrame}
+use Rattle.puffin.specs.Happenings.{Happening, Mark, framed, marked, reports_under, report_under, frames_in, frame_of}
+use Rattle.puffin.specs.Members.{Member, IsNewMember, TakesFrame, Marks}
 use Rattle.puffin.specs.Shares.{CountsFrame, SpellsItsScopes}
-use Rattle.puffin.specs.Taking.{CountsTaken, IsTaken, TakesMore, TakesLast, num_scopes_in, TookAll}
+use Rattle.puffin.specs.Taking.{CountsTaken, IsTaken, TakesMore, TakesLast, num_scopes_in, TookAll, FramesOnce}
 use Rattle.puffin.proofs.TellingShares.{nothing_told}
 
 no_report : (i : ThreadKey) (own : List Happening) (streams : Streams) → reports_under i (own ++ framed streams ∷ []) ≡ reports_under i own
@@ -95,3 +96,25 @@ takes_last (Err e) frame old before new takes is = tt
 pub takes_refused : {E X : Type 0} (r : Result X E) (old before new : List Streams) → TakesMore old before → OnErr r (new ≡ before) → OnErr r (TakesMore old new)
 takes_refused (Ok x) old before new takes same = tt
 takes_refused (Err e) old before new takes same = subst (TakesMore old) (sym same) takes
+
+-- ---- marks
+
+-- a share that marks something took as many frames
+pub still_took : (old new : Member) (mark : Mark) (frames : ℕ) → Marks old mark new → TookAll old frames → TookAll new frames
+still_took old new mark frames marks took = record {
+  quiet = λ i. ap (λ (own : List Happening). length (reports_under i own)) marks.own ∙ ap length (flat_map-append (report_under i) old.own (marked mark ∷ []) ∙ append-nil (reports_under i old.own)) ∙ took.quiet i;
+  as_many = λ few. took.as_many (subst (λ (fs : List Streams). length fs < 2 ^ 64) same few) ∙ ap length (sym same);
+  handed = ap (λ c. c.handed) marks.counts ∙ took.handed ∙ ap num_scopes_in (sym same);
+}
+  where
+    same : frames_in new.own ≡ frames_in old.own
+    same = ap frames_in marks.own ∙ flat_map-append frame_of old.own (marked mark ∷ []) ∙ append-nil (frames_in old.own)
+
+-- whatever a call answers, its share tells of one frame more at most
+pub took_once : {A E X S : Type 0} (r : Result X E) (frame : X → Option (Arc FrameData A)) (old new : Member) → IfOk r (λ x. TakesFrame old (frame x) new) → (S → new ≡ old) → OnErr r S → FramesOnce old.own new.own
+took_once (Err e) frame old new takes is same = inl (ap (λ (m : Member). m.own) (is same))
+took_once (Ok x) frame old new takes is same = at (frame x) takes
+  where
+    at : {A : Type 0} (f : Option (Arc FrameData A)) → TakesFrame old f new → FramesOnce old.own new.own
+    at None is = inl (ap (λ (m : Member). m.own) is)
+    at (Some frame) (before, due, pending, held, told) = inr (due, told.own)

@@ -283,7 +283,7 @@ reports_pass m n (Ok true) some (waits, handed, (r, is, accepted)) = record {
 }
 
 -- the thread's name and first start stay
-reports_stay : (old new : calls.Thread) (before after : List Happening) (result : Result Bool Error) → Reports Accepts Refuses old new before after result → (new.name ≡ old.name) × (new.first_start ≡ old.first_start)
+pub reports_stay : (old new : calls.Thread) (before after : List Happening) (result : Result Bool Error) → Reports Accepts Refuses old new before after result → (new.name ≡ old.name) × (new.first_start ≡ old.first_start)
 reports_stay old new before after (Ok false) h = (ap (λ (t : calls.Thread). t.name) h.1, ap (λ (t : calls.Thread). t.first_start) h.1)
 reports_stay old new before after (Ok true) h = (ap (λ (t : calls.Thread). t.name) h.1, ap (λ (t : calls.Thread). t.first_start) h.1)
 reports_stay old new before after (Err e) h = (ap (λ (t : calls.Thread). t.name) h.0, ap (λ (t : calls.Thread). t.first_start) h.0)
@@ -343,6 +343,16 @@ told_forest (r ∷ rs) events (f, later, honest, fit, h, is) =
     let t = told_forest rs later h in
     (append f t.0, ((f, t.0, honest, t.1.0, refl), (fit, t.1.1)), is ∙ ap (λ (w : List Event). tour f ++ w) t.2 ∙ sym (tour-append f t.0))
 
+-- What has passed of a new thread that added these scopes: what was told and what waits are just these.
+pub told_passed : (o n : Stage) (f : Forest) (name : List ℕ) (form : Form) → o.thread ≡ new_thread name form → n.thread.name ≡ name → Passes o n (tour f)
+    → (start : Option ℤ) × (streams : List StreamFacts) × (n.told ≡ o.told ++ under (record { start = start; name = name }) streams) × (shown waits : Forest) × (SpellInTurn streams shown × AllFit streams) × (append shown waits ≡ f) × (n.thread.word ≡ tour waits)
+told_passed o n f name form first its_name all =
+    let word : o.thread.word ≡ [] = ap (λ (t : calls.Thread). t.word) first in
+    let g = told_forest all.streams all.reported all.spelled in
+    let rest = all.balanced (empty, word) in
+    let whole : tour (append g.0 rest.0) ≡ tour f = tour-append g.0 rest.0 ∙ ap (λ (w : List Event). w ++ tour rest.0) (sym g.2) ∙ ap (λ (w : List Event). all.reported ++ w) (sym rest.1) ∙ all.kept ∙ ap (λ (w : List Event). w ++ tour f) word in
+    (n.thread.first_start, all.streams, all.told ∙ ap (λ (x : List ℕ). o.told ++ under (record { start = n.thread.first_start; name = x }) all.streams) its_name, g.0, rest.0, g.1, one_tour (append g.0 rest.0) f whole, rest.1)
+
 -- Code added these scopes to a new thread, and then what waited was reported, or not. What was told and what waits are just these.
 pub told_all : (o m n : Stage) (f : Forest) (name : List ℕ) (form : Form) (result : Result Bool Error) → o.thread ≡ new_thread name form → Adds o m f → Reports Accepts Refuses m.thread n.thread m.told n.told result
     → (start : Option ℤ) × (streams : List StreamFacts) × (n.told ≡ o.told ++ under (record { start = start; name = name }) streams) × (shown waits : Forest) × (SpellInTurn streams shown × AllFit streams) × (append shown waits ≡ f) × (n.thread.word ≡ tour waits)
@@ -354,11 +364,7 @@ told_all o m n f name form result first adds reports =
     let begun : n.thread.first_start ≡ None → m.thread.word ≡ [] = λ none. nothing_waits p (sym stay.1 ∙ none) (adds.none (sym stay.1 ∙ none)) word in
     let q = reports_pass m n result begun reports in
     let all = passes_both o m n (tour f) [] stay.0 (λ t h. stay.1 ∙ h) p q in
-    let g = told_forest all.streams all.reported all.spelled in
-    let rest = all.balanced (empty, word) in
-    let its_name : n.thread.name ≡ name = stay.0 ∙ adds.name ∙ ap (λ (t : calls.Thread). t.name) first in
-    let whole : tour (append g.0 rest.0) ≡ tour f = tour-append g.0 rest.0 ∙ ap (λ (w : List Event). w ++ tour rest.0) (sym g.2) ∙ ap (λ (w : List Event). all.reported ++ w) (sym rest.1) ∙ all.kept ∙ ap (λ (w : List Event). w ++ (tour f ++ [])) word ∙ append-nil (tour f) in
-    (n.thread.first_start, all.streams, all.told ∙ ap (λ (x : List ℕ). o.told ++ under (record { start = n.thread.first_start; name = x }) all.streams) its_name, g.0, rest.0, g.1, one_tour (append g.0 rest.0) f whole, rest.1)
+    told_passed o n f name form first (stay.0 ∙ adds.name ∙ ap (λ (t : calls.Thread). t.name) first) (subst (λ (w : List Event). Passes o n w) (append-nil (tour f)) all)
   where
     nothing_waits : (p : Passes o m (tour f)) → m.thread.first_start ≡ None → tour f ≡ [] → o.thread.word ≡ [] → m.thread.word ≡ []
     nothing_waits p none no_scopes word =

@@ -1,8 +1,11 @@
 -- Code on a light thread, by what its reporter tells.
-use Rattle.std.proofs.Common.{◌≡◌, ◌⊎◌, ℕ, ℤ, pos, Bool, true, false, List, Some, Result, Ok, Err, inl, inr, refl, sym, ap, ◌∙◌, subst}
+use Rattle.std.proofs.Common.{◌≡◌, ◌⊎◌, ℕ, ℤ, pos, Bool, true, false, List, [], ◌∷◌, ◌++◌, map, Some, Result, Ok, Err, inl, inr, refl, sym, ap, ◌∙◌, subst}
 use Rattle.puffin_data.specs.declared.error.Error.{Error}
 use Rattle.puffin_data.specs.declared.data.form.Form.{Form}
+use Rattle.std.proofs.lemmas.Grind.{flat_map-append}
 use Rattle.puffin_data.specs.Forest.{Forest, empty, append}
+use Rattle.puffin_data.specs.Forest.Measures.{scope_count}
+use Rattle.puffin_data.specs.Forest.Words.{open_after}
 use Rattle.puffin_data.specs.Honesty.{StreamFacts}
 use Rattle.puffin_data.specs.Text.{cut_text}
 use Rattle.puffin_threads.specs.declared.thread_profiler.profiler.ThreadProfiler.{ThreadProfiler}
@@ -23,11 +26,11 @@ use Rattle.puffin.specs.LightThread.{profiler_of, reporter_of, scopes_of}
 use Rattle.puffin.specs.Places.{num_known}
 use Rattle.puffin.specs.Guards.{BeginsThere, MakesRoom, BeginsAt, EndsIn, Leaves}
 use Rattle.puffin.specs.Code.{Code, nothing, scope, Runs, AreScopesOf, MayBe, scope_if, span_at}
-use Rattle.puffin.specs.Happenings.{Happening}
+use Rattle.puffin.specs.Happenings.{Happening, reported, unless_marked, unmarked}
 use Rattle.puffin.specs.Telling.{KeepsReports, HasRun, RunsAs, HasRunAs, LeadsAs, HasLedAs}
 use Rattle.puffin.proofs.lemmas.Waiting.{num_ended-tour}
 use Rattle.puffin.proofs.lemmas.StartedThreads.{HasStarted}
-use Rattle.puffin.proofs.Telling.{Stage, Adds, Accepts, Refuses, some_first, adds_started, adds_report, adds_nothing, adds_both, innermost, around, told_all}
+use Rattle.puffin.proofs.Telling.{Stage, Adds, Accepts, Refuses, some_first, adds_started, adds_report, adds_nothing, adds_both, innermost, around, told_passed, told_all, num_open}
 
 begins_form : {C R : Type 0} (answers : C → ℤ → C → Type 0) (old new : Thread C R) (place : Place) (text : List ℕ) (state : GuardState) → BeginsThere answers old place text state new → (thread_of (profiler_of new)).form ≡ (thread_of (profiler_of old)).form
 begins_form answers old new place text (On offset) begins = ap (λ (t : calls.Thread). t.form) begins.begins.1.begun
@@ -40,11 +43,19 @@ may_be answers old new place text Off begins = tt
 may_be answers old new place text (Refused e) begins = begins.begins.1
 
 -- the same for a thread that knows as much and has the same form
-moved : {k known : ℕ} {x form : Form} (code : Code) (f : Forest) → k ≡ known → x ≡ form → AreScopesOf k x code f → AreScopesOf known form code f
+pub moved : {k known : ℕ} {x form : Form} (code : Code) (f : Forest) → k ≡ known → x ≡ form → AreScopesOf k x code f → AreScopesOf known form code f
 moved {k} {known} {x} {form} code f same_known same_form is = subst (λ (y : Form). AreScopesOf known y code f) same_form (subst (λ (n : ℕ). AreScopesOf n x code f) same_known is)
 
+-- the same of what is told without marks
+pub keeps_unmarked : {R : Type 0} (accepts : R → ThreadKey → List Details → StreamFacts → R → Type 0) (refuses : R → ThreadKey → List Details → StreamFacts → Error → R → Type 0) (told : R → List Happening) → KeepsReports accepts refuses told
+    → KeepsReports accepts refuses (λ r. unmarked (told r))
+keeps_unmarked accepts refuses told keeps = record {
+  accepted = λ old i ds r new h. let kept = keeps.accepted old i ds r new h in (ap unmarked kept.0 ∙ flat_map-append unless_marked (told old) (reported i r ∷ []), kept.1);
+  refused = λ old i ds r e new h. ap unmarked (keeps.refused old i ds r e new h);
+}
+
 module _ {C R : Type 0} (answers : C → ℤ → C → Type 0) (accepts : R → ThreadKey → List Details → StreamFacts → R → Type 0) (refuses : R → ThreadKey → List Details → StreamFacts → Error → R → Type 0) (told : R → List Happening) (keeps : KeepsReports accepts refuses told) where
-  abbrev stage : Thread C R → Stage
+  abbrev pub stage : Thread C R → Stage
   stage t = record { known = num_known (scopes_of t); thread = thread_of (profiler_of t); told = told (reporter_of t) }
 
   closes_by : (old new : calls.Thread) (at : ℤ) (before after : R) (closed : Closed) → Closes accepts refuses old new at before after closed → Closes Accepts Refuses old new at (told before) (told after) closed
@@ -52,7 +63,7 @@ module _ {C R : Type 0} (answers : C → ℤ → C → Type 0) (accepts : R → 
   closes_by old new at before after Reported h = (h.0, h.1, (h.2.0, h.2.1, keeps.accepted before (key_of_thread (after_end old at)) (after_end old at).details h.2.0 after h.2.2))
   closes_by old new at before after (Kept e) h = (h.0, h.1, (h.2.0, h.2.1, keeps.refused before (key_of_thread (after_end old at)) (after_end old at).details h.2.0 e after h.2.2))
 
-  reports_by : (old new : calls.Thread) (before after : R) (result : Result Bool Error) → Reports accepts refuses old new before after result → Reports Accepts Refuses old new (told before) (told after) result
+  pub reports_by : (old new : calls.Thread) (before after : R) (result : Result Bool Error) → Reports accepts refuses old new before after result → Reports Accepts Refuses old new (told before) (told after) result
   reports_by old new before after (Ok false) h = (h.0, h.1, ap told h.2)
   reports_by old new before after (Ok true) h = (h.0, h.1, (h.2.0, h.2.1, keeps.accepted before (key_of_thread old) old.details h.2.0 after h.2.2))
   reports_by old new before after (Err e) h = (
@@ -110,7 +121,7 @@ module _ {C R : Type 0} (answers : C → ℤ → C → Type 0) (accepts : R → 
   begun_started a b place text Off begins started none = ap (λ p. (thread_of p).word) begins.begins ∙ started (sym (ap (λ p. (thread_of p).first_start) begins.begins) ∙ none)
   begun_started a b place text (Refused e) begins started none = ap (λ p. (thread_of p).word) begins.begins.0 ∙ started (sym (ap (λ p. (thread_of p).first_start) begins.begins.0) ∙ none)
 
-  adds_code : (code : Code) (old new : Thread C R) → HasStarted (stage old).thread → Runs (BeginsAt answers accepts refuses) (EndsIn answers accepts refuses) code old new → (f : Forest) × AreScopesOf (num_known (scopes_of old)) (thread_of (profiler_of old)).form code f × Adds (stage old) (stage new) f
+  pub adds_code : (code : Code) (old new : Thread C R) → HasStarted (stage old).thread → Runs (BeginsAt answers accepts refuses) (EndsIn answers accepts refuses) code old new → (f : Forest) × AreScopesOf (num_known (scopes_of old)) (thread_of (profiler_of old)).form code f × Adds (stage old) (stage new) f
   adds_code nothing old new started runs = (empty, refl, subst (λ t. Adds (stage old) (stage t) empty) (sym runs) (adds_nothing (stage old)))
   adds_code (scope place text within after) old new started (state, begun, left, ended, (ready, room, begins), inner, leaves, later) =
       let made = adds_room old ready started room in
@@ -138,38 +149,73 @@ module _ {C R : Type 0} (answers : C → ℤ → C → Type 0) (accepts : R → 
         adds_both (stage old) (stage ended) (stage new) (scope_if state span i.0) l.0 whole l.2,
       )
 
-  -- code ran on a new thread, and then what waited was reported, or not
-  has_run : (code : Code) (old mid : Thread C R) (last : calls.Thread) (after : R) (name : List ℕ) (form : Form) (result : Result Bool Error) (waiting : ℕ) → thread_of (profiler_of old) ≡ new_thread name form → Runs (BeginsAt answers accepts refuses) (EndsIn answers accepts refuses) code old mid
+  -- code added scopes to a new thread, and then what waited was reported, or not
+  pub has_added : (code : Code) (f : Forest) (o : Stage) (mid : Thread C R) (last : calls.Thread) (after : R) (name : List ℕ) (form : Form) (result : Result Bool Error) (waiting : ℕ) (before now : List Happening) → o.thread ≡ new_thread name form
+      → AreScopesOf o.known form code f → Adds o (stage mid) f
       → Reports accepts refuses (thread_of (profiler_of mid)) last (reporter_of mid) after result → waiting ≡ num_ended last.word
-      → HasRun name form (num_known (scopes_of old)) code (told (reporter_of old)) (told after) waiting
-  has_run code old mid last after name form result waiting first runs reports counted =
-      let a = adds_code code old mid (λ none. ap (λ (x : calls.Thread). x.word) first) runs in
+      → o.told ≡ unmarked before → told after ≡ unmarked now
+      → HasRun name form o.known code before now waiting
+  has_added code f o mid last after name form result waiting before now first scopes adds reports counted began is =
       let n : Stage = record { known = num_known (scopes_of mid); thread = last; told = told after } in
-      let t = told_all (stage old) (stage mid) n a.0 name form result first a.2 (reports_by (thread_of (profiler_of mid)) last (reporter_of mid) after result reports) in
-      let its_form : (thread_of (profiler_of old)).form ≡ form = ap (λ (x : calls.Thread). x.form) first in
+      let t = told_all o (stage mid) n f name form result first adds (reports_by (thread_of (profiler_of mid)) last (reporter_of mid) after result reports) in
       record {
         start = t.0;
         streams = t.1;
-        told = t.2;
+        told = sym is ∙ t.2 ∙ ap (λ (hs : List Happening). hs ++ map (reported (record { start = t.0; name = name })) t.1) began;
         shown = t.3;
         waits = t.4;
         spelled = t.5.0;
         fit = t.5.1;
-        began = subst (λ (x : Form). AreScopesOf (num_known (scopes_of old)) x code (append t.3 t.4)) its_form (subst (AreScopesOf (num_known (scopes_of old)) (thread_of (profiler_of old)).form code) (sym t.6) a.1);
+        began = subst (AreScopesOf o.known form code) (sym t.6) scopes;
         counted = sym (counted ∙ ap num_ended t.7 ∙ num_ended-tour t.4);
       }
 
-  pub has_run_as : {X E : Type 0} (states : Bool) (is : Code → Type 0) (old mid : Thread C R) (last : calls.Thread) (after : R) (name : List ℕ) (form : Form) (r : Result X E) (result : Result Bool Error) (waiting : ℕ) → thread_of (profiler_of old) ≡ new_thread name form
+  -- code added scopes to a new thread, of which some wait
+  pub has_added_so_far : (code : Code) (f : Forest) (o : Stage) (mid : Thread C R) (name : List ℕ) (form : Form) (now : List Happening) → o.thread ≡ new_thread name form
+      → AreScopesOf o.known form code f → Adds o (stage mid) f
+      → o.told ≡ [] → told (reporter_of mid) ≡ unmarked now
+      → (waits : ℕ) × HasRun name form o.known code [] now waits
+  has_added_so_far code f o mid name form now first scopes adds began is =
+      let shut : num_open o ≡ 0 = ap (λ (x : calls.Thread). open_after 0 x.word) first in
+      let t = told_passed o (stage mid) f name form first (adds.name ∙ ap (λ (x : calls.Thread). x.name) first) (adds.passed shut) in (
+        scope_count t.4,
+        record {
+          start = t.0;
+          streams = t.1;
+          told = sym is ∙ t.2 ∙ ap (λ (hs : List Happening). hs ++ map (reported (record { start = t.0; name = name })) t.1) began;
+          shown = t.3;
+          waits = t.4;
+          spelled = t.5.0;
+          fit = t.5.1;
+          began = subst (AreScopesOf o.known form code) (sym t.6) scopes;
+          counted = refl;
+        },
+      )
+
+  -- code ran on a new thread, and then what waited was reported, or not
+  has_run : (code : Code) (old mid : Thread C R) (last : calls.Thread) (after : R) (name : List ℕ) (form : Form) (result : Result Bool Error) (waiting : ℕ) (before now : List Happening) → thread_of (profiler_of old) ≡ new_thread name form
+      → Runs (BeginsAt answers accepts refuses) (EndsIn answers accepts refuses) code old mid
+      → Reports accepts refuses (thread_of (profiler_of mid)) last (reporter_of mid) after result → waiting ≡ num_ended last.word
+      → told (reporter_of old) ≡ unmarked before → told after ≡ unmarked now
+      → HasRun name form (num_known (scopes_of old)) code before now waiting
+  has_run code old mid last after name form result waiting before now first runs reports counted began is =
+      let a = adds_code code old mid (λ none. ap (λ (x : calls.Thread). x.word) first) runs in
+      let its_form : (thread_of (profiler_of old)).form ≡ form = ap (λ (x : calls.Thread). x.form) first in
+      has_added code a.0 (stage old) mid last after name form result waiting before now first (subst (λ (x : Form). AreScopesOf (num_known (scopes_of old)) x code a.0) its_form a.1) a.2 reports counted began is
+
+  pub has_run_as : {X E : Type 0} (states : Bool) (is : Code → Type 0) (old mid : Thread C R) (last : calls.Thread) (after : R) (name : List ℕ) (form : Form) (r : Result X E) (result : Result Bool Error) (waiting : ℕ) (before now : List Happening) → thread_of (profiler_of old) ≡ new_thread name form
       → RunsAs states is (BeginsAt answers accepts refuses) (EndsIn answers accepts refuses) old r mid
       → Reports accepts refuses (thread_of (profiler_of mid)) last (reporter_of mid) after result → waiting ≡ num_ended last.word
-      → HasRunAs states is name form (num_known (scopes_of old)) r (told (reporter_of old)) (told after) waiting
-  has_run_as false is old mid last after name form r result waiting first runs reports counted = tt
-  has_run_as true is old mid last after name form (Ok x) result waiting first (code, it, runs) reports counted = (code, it, has_run code old mid last after name form result waiting first runs reports counted)
-  has_run_as true is old mid last after name form (Err e) result waiting first runs reports counted = tt
+      → told (reporter_of old) ≡ unmarked before → told after ≡ unmarked now
+      → HasRunAs states is name form (num_known (scopes_of old)) r before now waiting
+  has_run_as false is old mid last after name form r result waiting before now first runs reports counted began is_now = tt
+  has_run_as true is old mid last after name form (Ok x) result waiting before now first (code, it, runs) reports counted began is_now = (code, it, has_run code old mid last after name form result waiting before now first runs reports counted began is_now)
+  has_run_as true is old mid last after name form (Err e) result waiting before now first runs reports counted began is_now = tt
 
-  pub has_led_as : (states : Bool) (is : Code → Type 0) (old mid : Thread C R) (last : calls.Thread) (after : R) (name : List ℕ) (form : Form) (result : Result Bool Error) (waiting : ℕ) → thread_of (profiler_of old) ≡ new_thread name form
+  pub has_led_as : (states : Bool) (is : Code → Type 0) (old mid : Thread C R) (last : calls.Thread) (after : R) (name : List ℕ) (form : Form) (result : Result Bool Error) (waiting : ℕ) (before now : List Happening) → thread_of (profiler_of old) ≡ new_thread name form
       → LeadsAs states is (BeginsAt answers accepts refuses) (EndsIn answers accepts refuses) old mid
       → Reports accepts refuses (thread_of (profiler_of mid)) last (reporter_of mid) after result → waiting ≡ num_ended last.word
-      → HasLedAs states is name form (num_known (scopes_of old)) (told (reporter_of old)) (told after) waiting
-  has_led_as false is old mid last after name form result waiting first runs reports counted = tt
-  has_led_as true is old mid last after name form result waiting first (code, it, runs) reports counted = (code, it, has_run code old mid last after name form result waiting first runs reports counted)
+      → told (reporter_of old) ≡ unmarked before → told after ≡ unmarked now
+      → HasLedAs states is name form (num_known (scopes_of old)) before now waiting
+  has_led_as false is old mid last after name form result waiting before now first runs reports counted began is_now = tt
+  has_led_as true is old mid last after name form result waiting before now first (code, it, runs) reports counted began is_now = (code, it, has_run code old mid last after name form result waiting before now first runs reports counted began is_now)

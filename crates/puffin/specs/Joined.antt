@@ -9,7 +9,7 @@ use Rattle.puffin.specs.declared.light.outcome.Outcome.{Outcome}
 use Rattle.puffin.specs.declared.light.outcome.ThreadCounts.{ThreadCounts}
 use Rattle.puffin.specs.declared.light.ready.Ended.{Ended}
 use Rattle.puffin.specs.declared.light.started.Works.{Works}
-use Rattle.puffin.specs.Happenings.{Happening, History, frames_in}
+use Rattle.puffin.specs.Happenings.{Happening, History}
 use Rattle.puffin.specs.Leaving.{accounts_of}
 use Rattle.puffin.specs.Members.{Member, all_handed}
 use Rattle.puffin.specs.Recounted.{Recounts}
@@ -70,7 +70,7 @@ AreStarted {A} {T} {W} handles threads program =
 pub record AreTold {T W : Type 0}
     (tells : T → W → ℕ → Ended → List Happening → List Happening → Type 0)
     (leads : T → W → ℕ → List Happening → List Happening → Type 0)
-    (takes : T → W → List Streams → Type 0) (threads : List T) (leader : T) (program : W)
+    (takes : T → W → List Happening → Type 0) (threads : List T) (leader : T) (program : W)
     (failed : Option Failed) (counts : List ThreadCounts) (leader_counts : ThreadCounts)
     (frames : ℕ) (shares : List Member) : Type 0 where
   pub taker : Member
@@ -80,7 +80,7 @@ pub record AreTold {T W : Type 0}
   pub as_many : length rest ≡ length threads
   pub each : EachTells tells threads program failed counts rest
   pub led : leads leader program leader_counts.unreported [] own.own
-  pub taken : takes leader program (frames_in taker.own)
+  pub taken : takes leader program taker.own
   pub took : TookAll taker frames
   pub handed : all_handed shares ≡ taker.counts.handed
 
@@ -88,7 +88,7 @@ pub record AreTold {T W : Type 0}
 pub record HasTold {T W : Type 0}
     (tells : T → W → ℕ → Ended → List Happening → List Happening → Type 0)
     (leads : T → W → ℕ → List Happening → List Happening → Type 0)
-    (takes : T → W → List Streams → Type 0) (threads : List T) (leader : T) (program : W)
+    (takes : T → W → List Happening → Type 0) (threads : List T) (leader : T) (program : W)
     (outcome : Outcome) : Type 0 where
   pub shares : List Member
   pub log : History

@@ -1,7 +1,7 @@
 -- Shares that leave a history, one after the other.
 use Rattle.std.specs.Prelude.{◌≡◌, ℕ, ◌<◌, ◌≤◌, ◌==◌, List, All, map, count_by}
 use Rattle.history.specs.Entries.{entries_by}
-use Rattle.puffin.specs.Happenings.{Happening, left, History}
+use Rattle.puffin.specs.Happenings.{Happening, marked, left, History}
 use Rattle.puffin.specs.Members.{Member, account_of}
 
 abbrev pub accounts_of : List Member → List (ℕ × List Happening)
@@ -9,7 +9,7 @@ accounts_of members = map account_of members
 
 -- their last entries
 abbrev pub last_entries : List (ℕ × List Happening) → History
-last_entries accounts = map (λ a. (a.0, left)) accounts
+last_entries accounts = map (λ a. (a.0, marked left)) accounts
 
 -- each is one of the first n authors of the history, with its entries there, and none is there twice
 pub record AreAuthors (n : ℕ) (accounts : List (ℕ × List Happening)) (log : History) : Type 0 where

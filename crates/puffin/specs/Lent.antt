@@ -1,8 +1,11 @@
 -- What a guard lends, and what is left of what lends.
+use Rattle.std.specs.Prelude.{◌≡◌, ◌++◌, ◌∷◌, [], List}
 use Rattle.std.specs.Borrow.{GName}
 use Rattle.puffin_scopes.specs.declared.guard_state.GuardState.{GuardState}
 use Rattle.puffin.specs.declared.light.guard.Guard.{Guard}
 use Rattle.puffin.specs.declared.light.thread.Thread.{Thread}
+use Rattle.puffin.specs.Happenings.{Happening, Mark, marked}
+use Rattle.puffin.specs.LightThread.{reporter_of}
 
 -- the thread that a guard lends
 abbrev pub thread_in : {T : Type 0} → Guard T → T
@@ -23,3 +26,9 @@ with_thread guard thread = record guard { thread = record guard.thread { now = t
 -- the thread with another reporter
 abbrev pub with_reporter : {C P : Type 0} → Thread C P → P → Thread C P
 with_reporter thread reporter = record thread { reporter = reporter }
+
+-- nothing changed but that its reporter tells this more
+abbrev pub MarksThere : {C P : Type 0} → (P → List Happening) → Thread C P → Mark → Thread C P → Type 0
+MarksThere told old mark new =
+    (new ≡ with_reporter old (reporter_of new))
+    × (told (reporter_of new) ≡ told (reporter_of old) ++ marked mark ∷ [])

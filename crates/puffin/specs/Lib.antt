@@ -19,5 +19,6 @@ pub mod Ended
 pub mod Code
 pub mod Telling
 pub mod Shown
+pub mod Rounds
 pub mod Joined
 pub mod inner

@@ -9,7 +9,7 @@ use Rattle.history.specs.Entries.{events, entries_by}
 use Rattle.puffin_frames.specs.declared.frame_data.frame.FrameData.{FrameData}
 use Rattle.puffin_frames.specs.Frame.Contents.{Streams, holding_of}
 use Rattle.puffin.specs.Shares.{ShareCounts, no_counts}
-use Rattle.puffin.specs.Happenings.{Happening, happening_code, framed, History, ArePending}
+use Rattle.puffin.specs.Happenings.{Happening, Mark, marked, happening_code, framed, History, ArePending}
 
 -- a share: what it counts, its number, what happened through it, and the history up to the last of that
 pub record Member : Type 0 where
@@ -63,6 +63,11 @@ pub record Tells (old : Member) (h : Happening) (before : History) (new : Member
 -- the same of some history, which only the holder of the lock sees whole
 abbrev pub Told : Member → Happening → Member → Type 0
 Told old h new = (before : History) × Tells old h before new
+
+-- a share that marks this, and counts nothing more
+pub record Marks (old : Member) (mark : Mark) (new : Member) : Type 0 where
+  pub counts : new.counts ≡ old.counts
+  pub own : new.own ≡ old.own ++ marked mark ∷ []
 
 -- the streams of a frame that isn't packed
 abbrev pub unpacked_in : FrameData → Streams

@@ -5,7 +5,7 @@ use Rattle.puffin_data.specs.Honesty.{StreamFacts, AreHonestFacts}
 use Rattle.puffin_threads.specs.Thread.ThreadKey.{ThreadKey}
 use Rattle.puffin_frames.specs.Frame.Contents.{Streams, stream_under}
 use Rattle.history.specs.Entries.{events, AreAllAuthors}
-use Rattle.puffin.specs.Happenings.{Happening, History, Stands, frames_in, reports_under}
+use Rattle.puffin.specs.Happenings.{Happening, History, Stands, AreSeen, frames_in, reports_under}
 
 -- these streams, one after the other, spell the scopes of a forest, each in its form
 abbrev pub SpellInTurn : List StreamFacts → Forest → Type 0
@@ -40,6 +40,8 @@ pub record Recounts (n : ℕ) (accounts : List (ℕ × List Happening)) (log : H
   pub all : AreAllAuthors n accounts log
   -- each frame had just what was due: all reports since the frame before it; and all since the last are pending
   pub stands : ∥ Stands pending (events log) ∥₁
+  -- what shares saw was so
+  pub seen : AreSeen 0 0 (events log)
   -- the frames, and then what is pending, spell exactly what was reported, under each thread's start and name
   pub spelled : (i : ThreadKey) →
       SpellReports i (frames_in (events log)) pending (reports_under i (events log))

@@ -104,7 +104,7 @@ AreNamed {C} known names threads =
 pub record NamedTold {C W : Type 0}
     (tells : Ready C → W → ℕ → Ended → List Happening → List Happening → Type 0)
     (leads : Ready C → W → ℕ → List Happening → List Happening → Type 0)
-    (takes : Ready C → W → List Streams → Type 0) (known : ℕ) (leader_name : List ℕ)
+    (takes : Ready C → W → List Happening → Type 0) (known : ℕ) (leader_name : List ℕ)
     (names : List (List ℕ)) (program : W) (outcome : Outcome) : Type 0 where
   pub threads : List (Ready C)
   pub leader : Ready C

@@ -1,12 +1,12 @@
 -- How a program's leader counts the frames that it takes.
-use Rattle.std.specs.Prelude.{ℕ, ◌+◌, ◌-◌, ◌^◌, ◌<◌, ◌≡◌, List, [], ◌∷◌, ◌++◌, length, sum_by, All, Option, Some, None, min}
+use Rattle.std.specs.Prelude.{ℕ, ◌⊎◌, ◌+◌, ◌-◌, ◌^◌, ◌<◌, ◌≡◌, List, [], ◌∷◌, ◌++◌, length, sum_by, All, Option, Some, None, min}
 use Rattle.std.specs.Arc.{arc_value}
 use Rattle.std.specs.FinMap as map
 use Rattle.std.specs.declared.sync.Arc.{Arc}
 use Rattle.puffin_frames.specs.declared.frame_data.frame.FrameData.{FrameData}
 use Rattle.puffin_frames.specs.Frame.Contents.{Streams, AreHonest, holding_of}
 use Rattle.puffin_frames.specs.Frame.Sums.{total_scopes}
-use Rattle.puffin.specs.Happenings.{frames_in}
+use Rattle.puffin.specs.Happenings.{Happening, framed, frames_in}
 use Rattle.puffin.specs.Members.{Member}
 use Rattle.puffin.specs.Recounted.{ReportsNothing}
 
@@ -29,6 +29,10 @@ IsTaken old None new = new ≡ old
 IsTaken old (Some frame) new = (streams : Streams)
     × (holding_of (arc_value frame) ≡ record { packed = None; unpacked = Some streams })
     × (new ≡ old ++ streams ∷ [])
+
+-- nothing more happened than that a frame was handed out, if one was
+abbrev pub FramesOnce : List Happening → List Happening → Type 0
+FramesOnce old new = (new ≡ old) ⊎ ((streams : Streams) × (new ≡ old ++ framed streams ∷ []))
 
 -- Any number of frames were taken. They come behind those before, and each has honest streams with a scope.
 pub record TakesMore (old new : List Streams) : Type 0 where

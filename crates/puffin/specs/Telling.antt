@@ -11,7 +11,7 @@ use Rattle.puffin_threads.specs.Details.{Details}
 use Rattle.puffin_scopes.specs.declared.guard_state.GuardState.{GuardState}
 use Rattle.puffin.specs.declared.light.place.Place.{Place}
 use Rattle.puffin.specs.Code.{Code, Runs, AreScopesOf}
-use Rattle.puffin.specs.Happenings.{Happening, reported}
+use Rattle.puffin.specs.Happenings.{Happening, reported, unmarked}
 use Rattle.puffin.specs.Recounted.{SpellInTurn}
 
 -- what happened through a reporter's share: each accepted report is the last of it, and fits memory; no refused one changes it
@@ -38,7 +38,8 @@ pub record HasRun (name : List ℕ) (form : Form) (known : ℕ) (code : Code) (b
     (waiting : ℕ) : Type 0 where
   pub start : Option ℤ
   pub streams : List StreamFacts
-  pub told : after ≡ before ++ map (reported (record { start = start; name = name })) streams
+  pub told : unmarked after
+      ≡ unmarked before ++ map (reported (record { start = start; name = name })) streams
   pub fit : AllFit streams
   pub shown : Forest
   pub waits : Forest

@@ -26,6 +26,7 @@ mod joined;
 pub mod laws;
 mod leader;
 mod macros;
+mod meeting;
 pub mod outcome;
 pub mod place;
 pub mod pool;

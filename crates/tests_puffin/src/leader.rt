@@ -197,7 +197,7 @@ impl Rounds for Ending {
         _rt: &R,
         round: usize,
         taken: &Result<Emitted>,
-        _frames: &mut F,
+        _frames: &F,
     ) -> bool {
         if let Ok(emitted) = taken
             && emitted.frame.is_some()

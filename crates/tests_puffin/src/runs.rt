@@ -63,7 +63,7 @@ impl Rounds for Failing {
         _rt: &R,
         _round: usize,
         _taken: &Result<Emitted>,
-        _frames: &mut F,
+        _frames: &F,
     ) -> bool {
         self.round.fetch_add(1, Ordering::SeqCst);
         true
@@ -173,7 +173,7 @@ impl Rounds for Short {
         _rt: &R,
         _round: usize,
         taken: &Result<Emitted>,
-        frames: &mut F,
+        frames: &F,
     ) -> bool {
         if let Ok(emitted) = taken
             && let Some(frame) = &emitted.frame

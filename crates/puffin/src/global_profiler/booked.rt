@@ -1,5 +1,5 @@
 //! The value that a shared profiler's lock protects.
-ghost use Rattle.std.specs.Prelude.{◌≡◌, ◌+◌, ◌≤◌, [], vec_len, Some, OnOk, OnErr, IfOk, IfErr, ⊤};
+ghost use Rattle.std.specs.Prelude.{◌≡◌, ◌+◌, ◌≤◌, [], vec_len, Some, OnOk, OnErr, IfOk, IfErr, IsTrue, IsFalse, ⊤};
 ghost use Rattle.std.specs.FinMap as map;
 ghost use Rattle.std.specs.Arc.{arc_value};
 ghost use Rattle.history.specs.Entries.{events};
@@ -12,12 +12,14 @@ ghost use Rattle.puffin_collector.specs.Collector.Collecting.{CountsScopes};
 ghost use Rattle.puffin.specs.Profiler.Calls.{TakesReport, RegistersScopes, HandsOutFrame, AddsFrame, AddsSink, RemovesSink};
 ghost use Rattle.puffin.specs.Profiler.{collected_of, SameSinks};
 ghost use Rattle.puffin.specs.Shares.{with_reported, CountsFrame};
-ghost use Rattle.puffin.specs.Happenings.{reported, Stands};
-ghost use Rattle.puffin.specs.Members.{Tells, TakesFrame, all_reported, all_handed};
+ghost use Rattle.puffin.specs.Happenings.{reported, Stands, HasMet, AreSeen, AreSeen-prop, arrived, released, saw_arrived, saw_released};
+ghost use Rattle.puffin.specs.Members.{Tells, TakesFrame, Marks, all_reported, all_handed};
 ghost use Rattle.puffin.specs.Leaving.{accounts_of};
 ghost use Rattle.puffin.specs.Recounted.{Recounts};
 
-use crate::global_profiler::event::{Event, Frames, Report, Reports};
+use crate::global_profiler::event::{
+    Arrives, Event, Frames, Releases, Report, Reports, SeesArrived, SeesReleased,
+};
 use crate::global_profiler::leaving::leave_all;
 use crate::global_profiler::profiler::GlobalProfiler;
 use crate::global_profiler::share::{Parts, Share};
@@ -46,11 +48,16 @@ pub struct Booked<L: Ledger + History, M: Ledger> {
     reported: Book<L>,
     handed: Book<M>,
     parts: Parts<L, M>,
+    /// How many parts of rounds were done, and how many rounds were closed.
+    arrived: u64,
+    released: u64,
     log: Log<Event, L>,
     ghost reported_is: { reported.total ≡ (collected_of profiler).reported },
     ghost handed_is: { handed.total ≡ (collected_of profiler).emitted },
     ghost authors_are: { log.authors ≡ parts },
     ghost stands: { ∥ Stands (collected_of profiler).streams (events log.entries) ∥₁ },
+    ghost met: { HasMet arrived released (events log.entries) },
+    ghost seen: { AreSeen 0 0 (events log.entries) } by { AreSeen-prop 0 0 (events log.entries) },
 }
 
 /// The counts of all shares of a profiler together, and the number of pending scopes.
@@ -90,6 +97,8 @@ impl<L: Ledger + History, M: Ledger> Booked<L, M> {
             reported,
             handed,
             parts,
+            arrived: 0,
+            released: 0,
             log,
         }
     }
@@ -104,6 +113,8 @@ impl<L: Ledger + History, M: Ledger> Booked<L, M> {
             reported: _,
             handed: _,
             parts: _,
+            arrived: _,
+            released: _,
             log: _,
         } = self;
         profiler
@@ -256,6 +267,52 @@ impl<L: Ledger + History, M: Ledger> Booked<L, M> {
         self.reported.audit(&mut share.reported);
         self.handed.audit(&mut share.handed);
         self.profiler.totals()
+    }
+
+    /// Counts a thread's part of a round, and returns how many parts were done so far.
+    pub(crate) fn arrive(&mut self, share: &mut Share<L, M>) -> u64
+        requires boxed_sinks { ⊤ }
+        ensures { Marks share.old arrived share.new }
+    {
+        self.arrived = self.arrived.saturating_add(1);
+        self.log.add::<(), Arrives>(&mut share.author, &());
+        self.arrived
+    }
+
+    /// Counts a round as closed.
+    pub(crate) fn release(&mut self, share: &mut Share<L, M>)
+        requires boxed_sinks { ⊤ }
+        ensures { Marks share.old released share.new }
+    {
+        self.released = self.released.saturating_add(1);
+        self.log.add::<(), Releases>(&mut share.author, &());
+    }
+
+    /// Returns whether at least this many parts were done. If so, the share has seen it.
+    pub(crate) fn have_arrived(&mut self, share: &mut Share<L, M>, parts: u64) -> bool
+        requires boxed_sinks { ⊤ }
+        ensures so { IsTrue result → Marks share.old (saw_arrived parts) share.new }
+        ensures otherwise { IsFalse result → share.new ≡ share.old }
+    {
+        let have = self.arrived >= parts;
+        if have {
+            self.log.add::<u64, SeesArrived>(&mut share.author, &parts);
+        }
+        have
+    }
+
+    /// Returns whether at least this many rounds were closed. If so, the share has seen it.
+    pub(crate) fn have_released(&mut self, share: &mut Share<L, M>, rounds: u64) -> bool
+        requires boxed_sinks { ⊤ }
+        ensures so { IsTrue result → Marks share.old (saw_released rounds) share.new }
+        ensures otherwise { IsFalse result → share.new ≡ share.old }
+    {
+        let have = self.released >= rounds;
+        if have {
+            self.log
+                .add::<u64, SeesReleased>(&mut share.author, &rounds);
+        }
+        have
     }
 
     /// Adds up the counts of all shares, and returns the sums with the number of pending scopes. The shares leave the history,

@@ -7,19 +7,19 @@ use std::marker::Model;
 use std::snapshot::Snapshot;
 use std::sync::Arc;
 
-/// An entry of a history: a report, a frame, or the return of a share. There are no values of it when a program runs.
+/// An entry of a history: a report, a frame, or a mark of a share, such as its return. There are no values of it when a program runs.
 pub struct Event {
     made: bool,
 }
 
 impl Model for Event {
-    ghost use Rattle.puffin.specs.Happenings.{Happening, left, happening_code};
+    ghost use Rattle.puffin.specs.Happenings.{Happening, marked, left, happening_code};
 
     ghost Value = { Happening };
 
     ghost coded = { happening_code };
 
-    ghost view = { λ event. left };
+    ghost view = { λ event. marked left };
 }
 
 /// A report, as an entry speaks of it.
@@ -55,7 +55,43 @@ impl Adds<Arc<FrameData>, Event> for Frames {
 pub(crate) struct Returns;
 
 impl Adds<(), Event> for Returns {
-    ghost use Rattle.puffin.specs.Happenings.{left};
+    ghost use Rattle.puffin.specs.Happenings.{marked, left};
 
-    ghost entry = { λ nothing. left };
+    ghost entry = { λ nothing. marked left };
+}
+
+/// Adds that a thread did its part of a round.
+pub(crate) struct Arrives;
+
+impl Adds<(), Event> for Arrives {
+    ghost use Rattle.puffin.specs.Happenings.{marked, arrived};
+
+    ghost entry = { λ nothing. marked arrived };
+}
+
+/// Adds that a round was closed.
+pub(crate) struct Releases;
+
+impl Adds<(), Event> for Releases {
+    ghost use Rattle.puffin.specs.Happenings.{marked, released};
+
+    ghost entry = { λ nothing. marked released };
+}
+
+/// Adds that a share saw so many parts done.
+pub(crate) struct SeesArrived;
+
+impl Adds<u64, Event> for SeesArrived {
+    ghost use Rattle.puffin.specs.Happenings.{marked, saw_arrived};
+
+    ghost entry = { λ number. marked (saw_arrived number) };
+}
+
+/// Adds that a share saw so many rounds closed.
+pub(crate) struct SeesReleased;
+
+impl Adds<u64, Event> for SeesReleased {
+    ghost use Rattle.puffin.specs.Happenings.{marked, saw_released};
+
+    ghost entry = { λ number. marked (saw_released number) };
 }

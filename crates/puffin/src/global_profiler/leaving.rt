@@ -2,7 +2,7 @@
 ghost use Rattle.std.specs.Prelude.{◌≡◌, ◌+◌, ◌<◌, ◌++◌, ◌∷◌, [], vec_len};
 ghost use Rattle.std.specs.List.{count_by};
 ghost use Rattle.history.specs.Entries.{entries_by, HasAuthors};
-ghost use Rattle.puffin.specs.Happenings.{left, is_left};
+ghost use Rattle.puffin.specs.Happenings.{marked, left, is_left};
 ghost use Rattle.puffin.specs.Members.{all_reported, all_handed};
 ghost use Rattle.puffin.specs.Leaving.{accounts_of, last_entries, AreAuthors};
 
@@ -20,7 +20,7 @@ fn leave<L: Ledger + History, M: Ledger>(
     share: Share<L, M>,
 )
     ensures log { (log.new.authors ≡ log.old.authors)
-        × (log.new.entries ≡ log.old.entries ++ (share.number, left) ∷ []) }
+        × (log.new.entries ≡ log.old.entries ++ (share.number, marked left) ∷ []) }
     ensures own { share.own ≡ entries_by share.number log.old.entries }
     ensures stays { count_by is_left share.own ≡ 0 }
     ensures authors { (share.number < log.old.authors)

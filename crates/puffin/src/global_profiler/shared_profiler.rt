@@ -11,8 +11,8 @@ ghost use Rattle.puffin_frames.specs.Frame.Sums.{total_scopes};
 ghost use Rattle.puffin.specs.Profiler.{collected_of};
 ghost use Rattle.puffin.specs.Shares.{with_reported, CountsFrame, SpellsItsScopes};
 ghost use Rattle.puffin.specs.SharedCauses.{IsReportCause, IsScopesCause, IsFrameCause, IsAddingCause, IsSinkCause, IsDetailsCause};
-ghost use Rattle.puffin.specs.Happenings.{History, reported};
-ghost use Rattle.puffin.specs.Members.{IsNewMember, Told, TakesFrame, all_reported, all_handed};
+ghost use Rattle.puffin.specs.Happenings.{History, reported, arrived, released, saw_arrived, saw_released};
+ghost use Rattle.puffin.specs.Members.{IsNewMember, Told, TakesFrame, Marks, all_reported, all_handed};
 ghost use Rattle.puffin.specs.Leaving.{accounts_of};
 ghost use Rattle.puffin.specs.Recounted.{Recounts};
 
@@ -31,7 +31,7 @@ use puffin_threads::thread_profiler::ThreadInfo;
 use std::alloc::Global;
 use std::hint::spin_loop;
 use std::sync::ledger::{Blank, Ledger};
-use std::sync::{Arc, Mutex, MutexGuard, Wait};
+use std::sync::{Arc, Condvar, Mutex, MutexGuard, Wait};
 use std::thread::yield_now;
 
 /// The number of times that a thread tries the lock again before it sleeps.
@@ -274,6 +274,64 @@ impl<L: Ledger + History, M: Ledger> SharedProfiler<L, M> {
         ensures same { share.new ≡ share.old }
     {
         self.lock(rt).totals(share)
+    }
+
+    /// Calls [`Booked::arrive`] under the lock.
+    pub(crate) fn arrive(&self, rt: &impl Wait, share: &mut Share<L, M>) -> u64
+        requires boxed_sinks { ⊤ }
+        ensures { Marks share.old arrived share.new }
+    {
+        self.lock(rt).arrive(share)
+    }
+
+    /// Calls [`Booked::release`] under the lock.
+    pub(crate) fn release(&self, rt: &impl Wait, share: &mut Share<L, M>)
+        requires boxed_sinks { ⊤ }
+        ensures { Marks share.old released share.new }
+    {
+        self.lock(rt).release(share);
+    }
+
+    /// Waits until at least this many parts were done. `changed` must be notified then.
+    pub(crate) fn wait_arrived<R: Wait>(
+        &self,
+        rt: &R,
+        share: &mut Share<L, M>,
+        changed: &Condvar,
+        parts: u64,
+    )
+        requires boxed_sinks { ⊤ }
+        ensures { Marks share.old (saw_arrived parts) share.new }
+    {
+        let mut booked = self.lock(rt);
+        for _ in rt.forever() {
+            if booked.have_arrived(share, parts) {
+                return;
+            }
+            booked = changed.wait(rt, booked);
+        }
+        unreachable!()
+    }
+
+    /// Waits until at least this many rounds were closed. `changed` must be notified then.
+    pub(crate) fn wait_released<R: Wait>(
+        &self,
+        rt: &R,
+        share: &mut Share<L, M>,
+        changed: &Condvar,
+        rounds: u64,
+    )
+        requires boxed_sinks { ⊤ }
+        ensures { Marks share.old (saw_released rounds) share.new }
+    {
+        let mut booked = self.lock(rt);
+        for _ in rt.forever() {
+            if booked.have_released(share, rounds) {
+                return;
+            }
+            booked = changed.wait(rt, booked);
+        }
+        unreachable!()
     }
 
     /// Calls [`Booked::settle`] under the lock. Whoever settles all shares knows the whole history: the frames and then what

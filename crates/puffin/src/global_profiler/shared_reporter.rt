@@ -2,6 +2,8 @@
 ghost use Rattle.std.specs.Prelude.{◌≡◌, ◌+◌, ◌≤◌, ℤ, pos, ◌≤ℤ◌, OnErr, IfOk, ⊤};
 ghost use Rattle.puffin_data.specs.declared.error.Error.{Error};
 ghost use Rattle.puffin_threads.specs.Thread.Closing.{EndsInnermost, Closes, Reports};
+ghost use Rattle.puffin.specs.Happenings.{arrived, saw_released};
+ghost use Rattle.puffin.specs.Members.{Marks};
 ghost use Rattle.puffin.specs.Reporters.{share_of};
 
 use crate::global_profiler::share::Share;
@@ -12,8 +14,8 @@ use puffin_data::data::StreamInfoRef;
 use puffin_data::{Error, Result};
 use puffin_threads::scope_details::ScopeDetails;
 use puffin_threads::thread_profiler::{AnyThread, Closed, Reporter, ThreadInfo};
-use std::sync::Wait;
 use std::sync::ledger::Ledger;
+use std::sync::{Condvar, Wait};
 
 /// Reports to a shared profiler through a share, which counts the scopes that are accepted and knows each report. The reporter
 /// owns `rt`, the handle with which it waits for the profiler's lock.
@@ -53,6 +55,23 @@ impl<L: Ledger + History, M: Ledger, R: Wait> SharedReporter<L, M, R> {
         ensures same { share_of self.new ≡ share_of self.old }
     {
         self.profiler.totals(&self.rt, &mut self.share)
+    }
+
+    /// Calls [`SharedProfiler::arrive`] with its share.
+    pub(crate) fn arrive(&mut self) -> u64
+        requires boxed_sinks { ⊤ }
+        ensures { Marks (share_of self.old) arrived (share_of self.new) }
+    {
+        self.profiler.arrive(&self.rt, &mut self.share)
+    }
+
+    /// Calls [`SharedProfiler::wait_released`] with its share.
+    pub(crate) fn wait_released(&mut self, changed: &Condvar, rounds: u64)
+        requires boxed_sinks { ⊤ }
+        ensures { Marks (share_of self.old) (saw_released rounds) (share_of self.new) }
+    {
+        self.profiler
+            .wait_released(&self.rt, &mut self.share, changed, rounds);
     }
 
     /// Ends a thread's innermost open scope, which must have this offset. If it was the last open one, reports all scopes that

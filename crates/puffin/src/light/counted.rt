@@ -2,6 +2,7 @@
 ghost use Rattle.std.specs.Prelude.{◌≡◌, ◌<◌, ◌^◌};
 
 use crate::global_profiler::{Share, SharedReporter};
+use crate::light::meeting::{Meeting, Meets};
 use crate::light::outcome::ThreadCounts;
 use crate::light::ready::Left;
 use crate::scope_details::ScopeDetails;
@@ -95,4 +96,25 @@ impl<L: Ledger + History, M: Ledger, R: Wait> Reporter for Counting<L, M, R> {
         self.reported = self.reported.saturating_add(times.num_scopes as u64);
         Ok(())
     }
+}
+
+impl<L: Ledger + History, M: Ledger, R: Wait> Meets for Counting<L, M, R> {
+    ghost use Rattle.std.proofs.Common.{ap};
+
+    ghost told = { λ counting. counting.reporter.share.own };
+
+    fn arrive(&mut self, meeting: &Meeting) {
+        if self.reporter.arrive() % meeting.parts == 0 {
+            meeting.arrived.notify_one();
+        }
+    }
+
+    fn wait_released(&mut self, meeting: &Meeting, rounds: u64) {
+        self.reporter.wait_released(&meeting.released, rounds);
+    }
+
+    ghost keeps = { record {
+      accepted = λ old i ds r new h. (h.1.1.own, h.2);
+      refused = λ old i ds r e new h. ap (λ m. m.own) h.0;
+    } };
 }

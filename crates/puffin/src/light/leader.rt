@@ -1,7 +1,6 @@
 //! A program's leader: it takes frames through one share, and reports its own scopes through another.
 ghost use Rattle.std.specs.Prelude.{[]};
 ghost use Rattle.puffin.specs.Members.{IsNewMember};
-ghost use Rattle.puffin.specs.Happenings.{frames_in};
 
 use crate::global_profiler::{Share, SharedProfiler, SharedReporter};
 use crate::light::counted::{CountedShare, Counting};
@@ -41,7 +40,7 @@ pub(crate) fn lead<L: Ledger + History, M: Ledger, R: Wait + Clock + Copy, T, W:
 ) -> Led<L, M>
     ensures tells { W.leads leader program.now result.counted.counts.unreported []
         result.counted.share.own }
-    ensures takes { W.takes leader program.now (frames_in result.taken.share.own) }
+    ensures takes { W.takes leader program.now result.taken.share.own }
 {
     let Seat {
         frames,

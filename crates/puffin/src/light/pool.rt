@@ -7,12 +7,13 @@ ghost use Rattle.puffin.specs.Telling.{Named};
 
 use crate::light::gate::Gate;
 use crate::light::guard::Records;
+use crate::light::meeting::{Gathers, Meets};
 use crate::light::outcome::Outcome;
 use crate::light::program::{Frames, run_named};
 use crate::light::ready::{AnyProgram, Ended, Left, Ready, end};
 use crate::light::scopes::Scopes;
 use crate::light::settings::Settings;
-use crate::thread_profiler::{Reporter, SystemClock};
+use crate::thread_profiler::SystemClock;
 use std::io;
 use std::rt::Clock;
 use std::sync::Wait;
@@ -104,6 +105,7 @@ impl<C: Clock + Copy + Drop, W: Pool> AnyProgram<Ready<SystemClock<C>>> for Jobs
     ghost use Rattle.std.specs.Prelude.{OnOk, string_bytes};
     ghost use Rattle.puffin_data.specs.declared.data.form.Form.{Form};
     ghost use Rattle.puffin.specs.Places.{num_known};
+    ghost use Rattle.puffin.specs.Happenings.{frames_in};
     ghost use Rattle.puffin.specs.Telling.{HasLedAs, HaveRunAs, Named};
 
     ghost tells = { λ ready jobs number ended before after.
@@ -115,14 +117,14 @@ impl<C: Clock + Copy + Drop, W: Pool> AnyProgram<Ready<SystemClock<C>>> for Jobs
         HasLedAs (W.states jobs.pool.now) (W.leads jobs.pool.now) (string_bytes ready.name)
         Form.Short (num_known ready.scopes) before after unreported };
 
-    ghost takes = { λ ready jobs frames. W.takes jobs.pool.now frames };
+    ghost takes = { λ ready jobs told. W.takes jobs.pool.now (frames_in told) };
 
     fn gate(&self) -> &Gate {
         &self.gate
     }
 
     /// Does one job after the other, until there is none or one fails. The thread goes on under the name of each.
-    fn run<R: Wait, P: Reporter>(
+    fn run<R: Wait, P: Meets>(
         &self,
         rt: &R,
         _number: usize,
@@ -181,7 +183,7 @@ impl<C: Clock + Copy + Drop, W: Pool> AnyProgram<Ready<SystemClock<C>>> for Jobs
         unreachable!()
     }
 
-    fn lead<R: Wait, P: Reporter, F: Frames>(
+    fn lead<R: Wait, P: Meets, F: Gathers>(
         &self,
         rt: &R,
         thread: Ready<SystemClock<C>>,

@@ -10,12 +10,13 @@ ghost use Rattle.puffin_threads.specs.Thread.Clock.{clock_start, clock_begun};
 use crate::global_profiler::Emitted;
 use crate::light::gate::Gate;
 use crate::light::guard::Records;
+use crate::light::meeting::{Gathers, Meets};
 use crate::light::outcome::Outcome;
 use crate::light::ready::{AnyProgram, Crew, Ended, Left, Ready, end};
 use crate::light::scopes::Scopes;
 use crate::light::settings::Settings;
 use crate::light::started::run;
-use crate::thread_profiler::{NsSource, Reporter, SystemClock};
+use crate::thread_profiler::{NsSource, SystemClock};
 use history::NewLog;
 use puffin_data::Result;
 use std::io;
@@ -47,8 +48,7 @@ pub trait Frames {
 
     /// Makes the next frame list every known scope, and not only the new ones, so that a file which begins with that frame has
     /// all names. Allocates nothing.
-    fn emit_scope_snapshot(&mut self)
-        ensures { taken self.new ≡ taken self.old };
+    fn emit_scope_snapshot(&self);
 
     /// Returns how many of the program's threads haven't ended. The leader isn't one of them.
     fn num_working(&self) -> usize;
@@ -186,6 +186,7 @@ impl<C: NsSource + Drop, W: Program> AnyProgram<Ready<C>> for Gated<'_, W> {
     ghost use Rattle.std.specs.Prelude.{string_bytes};
     ghost use Rattle.puffin_data.specs.declared.data.form.Form.{Form};
     ghost use Rattle.puffin.specs.Places.{num_known};
+    ghost use Rattle.puffin.specs.Happenings.{frames_in};
     ghost use Rattle.puffin.specs.Telling.{HasRunAs, HasLedAs};
 
     ghost tells = { λ ready gated number ended before after.
@@ -197,13 +198,13 @@ impl<C: NsSource + Drop, W: Program> AnyProgram<Ready<C>> for Gated<'_, W> {
         HasLedAs (W.states gated.program.now) (W.leads gated.program.now)
         (string_bytes ready.name) Form.Short (num_known ready.scopes) before after unreported };
 
-    ghost takes = { λ ready gated frames. W.takes gated.program.now frames };
+    ghost takes = { λ ready gated told. W.takes gated.program.now (frames_in told) };
 
     fn gate(&self) -> &Gate {
         &self.gate
     }
 
-    fn run<R: Wait, P: Reporter>(
+    fn run<R: Wait, P: Meets>(
         &self,
         rt: &R,
         number: usize,
@@ -216,7 +217,7 @@ impl<C: NsSource + Drop, W: Program> AnyProgram<Ready<C>> for Gated<'_, W> {
         (Ended { result, left }, reporter)
     }
 
-    fn lead<R: Wait, P: Reporter, F: Frames>(
+    fn lead<R: Wait, P: Meets, F: Gathers>(
         &self,
         rt: &R,
         thread: Ready<C>,

@@ -1,21 +1,25 @@
 //! Programs whose threads work in rounds.
 
 ghost use Rattle.std.specs.Prelude.{◌≡◌, ◌∷◌, IfOk, vec_len, length, map};
-ghost use Rattle.puffin.specs.Code.{AreRounds, OrNothing};
+ghost use Rattle.puffin.specs.Code.{OrNothing};
 ghost use Rattle.puffin.specs.Places.{details_in};
-ghost use Rattle.puffin.specs.Shown.{Shows, leader_first};
+ghost use Rattle.puffin.specs.Rounds.{RoundsShow};
 
 use crate::global_profiler::Emitted;
+use crate::light::gate::Gate;
 use crate::light::guard::Records;
+use crate::light::meeting::{Gathers, Meeting, Meets};
 use crate::light::outcome::Outcome;
-use crate::light::program::{Frames, Program, profiled};
+use crate::light::program::{Frames, run_named};
+use crate::light::ready::{AnyProgram, Ended, Left, Ready, end};
 use crate::light::scopes::Scopes;
 use crate::light::settings::Settings;
+use crate::thread_profiler::NsSource;
 use puffin_data::Result;
 use std::io;
 use std::rt::Clock;
+use std::sync::Wait;
 use std::sync::atomic::{AtomicBool, Ordering};
-use std::sync::{Barrier, Wait};
 use std::thread::Threads;
 
 /// A program whose threads each do a part of every round. All threads share it by `&`, and each keeps a state of its own from
@@ -73,71 +77,109 @@ pub trait Rounds {
         _rt: &R,
         _round: usize,
         _taken: &Result<Emitted>,
-        _frames: &mut F,
+        _frames: &F,
     ) -> bool {
         true
     }
 }
 
-/// A number of rounds of a program. All threads meet at the beginning and at the end of each, and once more if the leader ends
-/// them before the last.
+/// A number of rounds of a program. All threads meet at the end of each.
 struct InRounds<'p, W> {
     program: &'p W,
     rounds: usize,
     /// Whether a thread has failed.
     failed: AtomicBool,
     over: AtomicBool,
-    meeting: Barrier,
+    gate: Gate,
+    meeting: Meeting,
 }
 
-impl<W: Rounds> Program for InRounds<'_, W> {
-    ghost use Rattle.puffin.specs.Code.{AreRounds, OrNothing};
+impl<C: NsSource + Drop, W: Rounds> AnyProgram<Ready<C>> for InRounds<'_, W> {
+    ghost use Rattle.std.specs.Prelude.{◌≡◌, [], string_bytes};
+    ghost use Rattle.puffin.specs.Code.{OrNothing};
+    ghost use Rattle.puffin.specs.Places.{num_known};
+    ghost use Rattle.puffin.specs.Rounds.{HasRunRoundsAs, HasLedRoundsAs, TakesTurns};
 
-    ghost states = { λ rounds. W.states rounds.program.now };
+    ghost tells = { λ ready rounds number ended before after. before ≡ [] →
+        HasRunRoundsAs (W.states rounds.program.now) (W.runs rounds.program.now number)
+        rounds.rounds (string_bytes ready.name) (num_known ready.scopes) ended.result after
+        ended.left.unreported };
 
-    ghost runs = { λ rounds number. AreRounds rounds.rounds (W.runs rounds.program.now number) };
+    ghost leads = { λ ready rounds unreported before after. before ≡ [] →
+        HasLedRoundsAs (W.states rounds.program.now)
+        (λ round. OrNothing (W.leads rounds.program.now round)) rounds.rounds
+        (string_bytes ready.name) (num_known ready.scopes) after unreported };
 
-    ghost leads = { λ rounds.
-        AreRounds rounds.rounds (λ round. OrNothing (W.leads rounds.program.now round)) };
+    ghost takes = { λ ready rounds told. TakesTurns rounds.meeting.parts rounds.rounds told };
 
-    fn work<R: Wait, T: Records>(&self, rt: &R, number: usize, thread: &mut T) -> io::Result<()> {
-        let mut state = self.program.state(rt, number);
-        for round in 0..self.rounds {
-            self.meeting.wait(rt);
-            if self.over.load(Ordering::SeqCst) {
-                break;
-            }
-            state = match state {
-                Ok(mut values) => match self.program.part(rt, number, round, &mut values, thread) {
-                    Ok(()) => Ok(values),
-                    Err(e) => Err(e),
-                },
-                Err(e) => Err(e),
-            };
-            if state.is_err() {
-                self.failed.store(true, Ordering::SeqCst);
-            }
-            self.meeting.wait(rt);
-        }
-        let _state = state?;
-        Ok(())
+    fn gate(&self) -> &Gate {
+        &self.gate
     }
 
-    fn lead<R: Wait, T: Records, F: Frames>(&self, rt: &R, thread: &mut T, frames: &mut F) {
-        for round in 0..self.rounds {
-            self.meeting.wait(rt);
-            self.program.lead(rt, round, thread);
-            self.meeting.wait(rt);
-            let taken = frames.new_frame();
-            let goes_on = self.program.goes_on(rt, round, &taken, frames);
-            if !goes_on || self.failed.load(Ordering::SeqCst) {
-                if round + 1 < self.rounds {
-                    self.over.store(true, Ordering::SeqCst);
-                    self.meeting.wait(rt);
+    fn run<R: Wait, P: Meets>(
+        &self,
+        rt: &R,
+        number: usize,
+        thread: Ready<C>,
+        reporter: P,
+    ) -> (Ended, P) {
+        let mut thread = thread.start(reporter);
+        let mut state = Err(io::Error::from(io::ErrorKind::Interrupted));
+        if self.gate.may_begin(rt) {
+            state = self.program.state(rt, number);
+            for round in 0..self.meeting.most(self.rounds) {
+                state = match state {
+                    Ok(mut values) => match self
+                        .program
+                        .part(rt, number, round, &mut values, &mut thread)
+                    {
+                        Ok(()) => Ok(values),
+                        Err(e) => Err(e),
+                    },
+                    Err(e) => Err(e),
+                };
+                if state.is_err() {
+                    self.failed.store(true, Ordering::SeqCst);
                 }
+                thread.arrive(&self.meeting);
+                thread.wait_released(&self.meeting, round as u64 + 1);
+                if self.over.load(Ordering::SeqCst) {
+                    break;
+                }
+            }
+        }
+        let (left, reporter, _scopes) = end(thread);
+        let result = match state {
+            Ok(_) => Ok(()),
+            Err(e) => Err(e),
+        };
+        (Ended { result, left }, reporter)
+    }
+
+    fn lead<R: Wait, P: Meets, F: Gathers>(
+        &self,
+        rt: &R,
+        thread: Ready<C>,
+        reporter: P,
+        frames: &mut F,
+    ) -> (Left, P) {
+        let mut thread = thread.start(reporter);
+        for round in 0..self.meeting.most(self.rounds) {
+            self.program.lead(rt, round, &mut thread);
+            thread.arrive(&self.meeting);
+            frames.wait_arrived(&self.meeting, self.meeting.parts * (round as u64 + 1));
+            let taken = frames.take();
+            let goes_on = self.program.goes_on(rt, round, &taken, &*frames)
+                && !self.failed.load(Ordering::SeqCst);
+            self.over.store(!goes_on, Ordering::SeqCst);
+            frames.release(&self.meeting);
+            thread.wait_released(&self.meeting, round as u64 + 1);
+            if !goes_on {
                 break;
             }
         }
+        let (left, reporter, _scopes) = end(thread);
+        (left, reporter)
     }
 }
 
@@ -145,8 +187,9 @@ impl<W: Rounds> Program for InRounds<'_, W> {
 /// [`Rounds::goes_on`] may end the program before; pass `usize::MAX` if it alone is to end it. A thread that fails ends it after
 /// its round. If taking a frame fails, its scopes are in the next one; after the last round they are counted as pending.
 ///
-/// Fails as [`profiled`] does; no round has begun then. If the program states its code, the frames show it as those of
-/// [`profiled`] do: the code of each thread is that of its rounds, one after the other.
+/// Fails as [`profiled`](crate::light::profiled) does; no round has begun then. If the program states its code, the frames show it
+/// as those of `profiled` do: the code of each thread is that of its rounds, one after the other. If each round had a frame, its
+/// scopes are in that frame alone, but for those whose report was refused, which are in a later one.
 ///
 /// ```
 /// let names = ["north", "east", "south", "west"];
@@ -163,25 +206,26 @@ pub fn in_rounds<R: AllocGlobal + Threads + Wait + Clock + Copy + Send + Sync, W
 ) -> io::Result<Outcome>
     ensures threads { IfOk result (λ outcome. vec_len outcome.threads ≡ length names.now) }
     ensures shows { IfOk result (λ outcome.
-        Shows (W.states program.now) (λ frames. Unit {0}) (length (details_in scopes.now))
-        (leader_first (AreRounds rounds (λ round. OrNothing (W.leads program.now round)))
-        (λ number. AreRounds rounds (W.runs program.now number)))
+        RoundsShow (W.states program.now) (length (details_in scopes.now)) rounds
+        (λ round. OrNothing (W.leads program.now round)) (W.runs program.now)
         (settings.now.leader.now ∷ map (λ name. name.now) names.now) outcome) }
 {
-    let meeting = Barrier::new(names.len().saturating_add(1));
+    let parts = names.len() as u64 + 1;
     let program = InRounds {
         program,
         rounds,
         failed: AtomicBool::new(false),
         over: AtomicBool::new(false),
-        meeting,
+        gate: Gate::new(names.len()),
+        meeting: Meeting::new(parts),
     };
-    let outcome = profiled(rt, names, scopes, settings, &program);
+    let outcome = run_named(rt, names, scopes, settings, &program);
     let InRounds {
         program: _,
         rounds: _,
         failed: _,
         over: _,
+        gate: _,
         meeting: _,
     } = program;
     outcome

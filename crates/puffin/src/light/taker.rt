@@ -4,6 +4,7 @@ ghost use Rattle.puffin.specs.Taking.{CountsTaken, TookAll};
 
 use crate::global_profiler::{Emitted, Share, SharedProfiler};
 use crate::light::gate::Gate;
+use crate::light::meeting::{Gathers, Meeting};
 use crate::light::program::Frames;
 use history::History;
 use puffin_data::Result;
@@ -102,9 +103,7 @@ impl<L: Ledger + History, M: Ledger, R: Wait + Clock> Frames for Taker<'_, L, M,
         Ok(emitted)
     }
 
-    fn emit_scope_snapshot(&mut self)
-        ensures { self.new.taken ≡ self.old.taken }
-    {
+    fn emit_scope_snapshot(&self) {
         self.profiler.emit_scope_snapshot(&self.rt);
     }
 
@@ -115,4 +114,26 @@ impl<L: Ledger + History, M: Ledger, R: Wait + Clock> Frames for Taker<'_, L, M,
     fn wait(&self, limit: Duration) -> bool {
         self.gate.wait(&self.rt, limit)
     }
+}
+
+impl<L: Ledger + History, M: Ledger, R: Wait + Clock> Gathers for Taker<'_, L, M, R> {
+    ghost use Rattle.std.proofs.Common.{refl};
+
+    ghost told = { λ taker. taker.taken.share.own };
+
+    fn wait_arrived(&mut self, meeting: &Meeting, parts: u64) {
+        self.profiler
+            .wait_arrived(&self.rt, &mut self.taken.share, &meeting.arrived, parts);
+    }
+
+    fn take(&mut self) -> Result<Emitted> {
+        self.new_frame()
+    }
+
+    fn release(&mut self, meeting: &Meeting) {
+        self.profiler.release(&self.rt, &mut self.taken.share);
+        meeting.released.notify_all();
+    }
+
+    ghost taken_is = { λ frames. refl };
 }

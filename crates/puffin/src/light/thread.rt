@@ -14,6 +14,7 @@ ghost use Rattle.puffin.specs.Profiler.Calls.{HandsOutFrame};
 use crate::Switch;
 use crate::global_profiler::{Emitted, FrameSink, GlobalProfiler};
 use crate::light::guard::{GuardState, Records};
+use crate::light::meeting::{Meeting, Meets};
 use crate::light::place::Place;
 use crate::light::scopes::{Scopes, ThreadScopes};
 use crate::thread_profiler::{NsSource, Reporter, SystemClock, ThreadProfiler};
@@ -255,6 +256,25 @@ impl<C: NsSource, P: Reporter> Records for Thread<C, P> {
         } else {
             self.end_and_report(offset);
         }
+    }
+}
+
+impl<C, P: Meets> Thread<C, P> {
+    ghost use Rattle.puffin.specs.Happenings.{arrived, saw_released};
+    ghost use Rattle.puffin.specs.Lent.{MarksThere};
+
+    /// Says that the thread has done its part of a round.
+    pub(crate) fn arrive(&mut self, meeting: &Meeting)
+        ensures { MarksThere P.told self.old arrived self.new }
+    {
+        self.reporter.arrive(meeting);
+    }
+
+    /// Waits until this number of rounds is closed.
+    pub(crate) fn wait_released(&mut self, meeting: &Meeting, rounds: u64)
+        ensures { MarksThere P.told self.old (saw_released rounds) self.new }
+    {
+        self.reporter.wait_released(meeting, rounds);
     }
 }
 

@@ -1,6 +1,6 @@
 -- What the leader's thread told is all that happened through its share.
 use Rattle.std.proofs.Common.{◌≡◌, ℕ, List, [], ap, sym, subst, ◌∙◌}
-use Rattle.puffin.specs.Happenings.{Happening, frames_in}
+use Rattle.puffin.specs.Happenings.{Happening}
 use Rattle.puffin.specs.Members.{Member}
 use Rattle.puffin.proofs.TellingShares.{nothing_told}
 use Rattle.puffin.proofs.light.leader.lead.Goals as goal
@@ -12,9 +12,9 @@ returns-clause-tells g c =
     subst (λ (n : ℕ). tells n [] c.into_share.result.share.own) (sym c.into_share.ensures.counts.0)
     (subst (λ (own : List Happening). tells c.lead-reporter.result.0.unreported [] own) (sym (ap (λ (m : Member). m.own) c.into_share.ensures.share))
     (subst (λ (before : List Happening). tells c.lead-reporter.result.0.unreported before c.lead-reporter.result.1.reporter.share.own) first
-    (c.lead-reporter.ensures.tells (λ r. r.reporter.share.own) (record { accepted = λ old i ds r new h. (h.1.1.own, h.2); refused = λ old i ds r e new h. ap (λ (m : Member). m.own) h.0 }))))
+    c.lead-reporter.ensures.tells))
 
 pub returns-clause-takes : goal.returns-clause-takes
 returns-clause-takes g c =
-    let first : frames_in c.new.result.share.own ≡ [] = ap (λ (m : Member). frames_in m.own) c.new.ensures ∙ ap frames_in (nothing_told c.args.seat.taking c.args.seat.taking_new) in
+    let first : c.new.result.share.own ≡ [] = ap (λ (m : Member). m.own) c.new.ensures ∙ nothing_told c.args.seat.taking c.args.seat.taking_new in
     c.lead-reporter.ensures.takes first

@@ -10,4 +10,4 @@ returns-clause-tells g c =
     let first : c.new-reporter.result.reporter.share.own ≡ [] = ap (λ r. r.share.own) c.new-reporter.ensures ∙ ap (λ (m : Member). m.own) c.new.ensures ∙ nothing_told c.args.share c.requires in
     subst (λ (own : List Happening). g.W.AnyProgram.tells c.args.thread c.args.program.now c.args.number c.run-reporter.result.0 [] own) (sym (ap (λ (m : Member). m.own) c.into_share.ensures.share))
     (subst (λ (before : List Happening). g.W.AnyProgram.tells c.args.thread c.args.program.now c.args.number c.run-reporter.result.0 before c.run-reporter.result.1.reporter.share.own) first
-    (c.run-reporter.ensures (λ r. r.reporter.share.own) (record { accepted = λ old i ds r new h. (h.1.1.own, h.2); refused = λ old i ds r e new h. ap (λ (m : Member). m.own) h.0 })))
+    c.run-reporter.ensures)

@@ -17,4 +17,6 @@ invariant_of-self g c =
       handed_is = old.handed_is ∙ sym keeps.1;
       authors_are = old.authors_are;
       stands = same_stands a.streams b.streams old.log.entries keeps.2 old.stands;
+      met = old.met;
+      seen = old.seen;
     }

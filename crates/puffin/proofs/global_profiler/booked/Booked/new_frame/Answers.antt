@@ -7,7 +7,7 @@ use Rattle.puffin_collector.specs.Collector.Collecting.{Collects}
 use Rattle.puffin.specs.Profiler.{collected_of}
 use Rattle.puffin.specs.Happenings.{framed}
 use Rattle.puffin.specs.Members.{unpacked_in}
-use Rattle.puffin.proofs.Growing.{grows_by, pending_there}
+use Rattle.puffin.proofs.Growing.{grows_by, still_met, still_seen, pending_there}
 use Rattle.puffin.proofs.TellingShares.{frame_due, unpacked_is, none_pending, told_frame}
 use Rattle.puffin.proofs.global_profiler.booked.Booked.new_frame.Goals as goal
 
@@ -23,6 +23,8 @@ invariant_of-self-2 g c =
       authors_are = c.add-2.ensures.log.0 ∙ old.authors_are;
       stands = grows_by a.streams b.streams old.log.entries c.add-2.new.self.entries _ (framed (unpacked_in (arc_value f))) old.stands c.add-2.ensures.log.1
           (none_pending f a b collects) (ap (λ (s : Streams). s ∷ []) (unpacked_is f a b collects)) tt;
+      met = still_met _ _ _ (framed (unpacked_in (arc_value f))) old.log.entries c.add-2.new.self.entries c.add-2.ensures.log.1 old.met;
+      seen = still_seen _ (framed (unpacked_in (arc_value f))) old.log.entries c.add-2.new.self.entries c.add-2.ensures.log.1 tt old.seen;
     }
 
 pub returns-clause-taken : goal.returns-clause-taken

@@ -7,7 +7,7 @@ use Rattle.puffin_frames.specs.Frame.Contents.{Streams, stream_under, reported_t
 use Rattle.puffin_collector.specs.Collector.State.{Collected}
 use Rattle.puffin.specs.Profiler.{collected_of}
 use Rattle.puffin.specs.Happenings.{reported}
-use Rattle.puffin.proofs.Growing.{grows_by}
+use Rattle.puffin.proofs.Growing.{grows_by, still_met, still_seen}
 use Rattle.puffin.proofs.global_profiler.booked.Booked.report.Goals as goal
 
 pub invariant_of-self-2 : goal.invariant_of-self-2
@@ -24,4 +24,6 @@ invariant_of-self-2 g c =
       stands = grows_by pending (collected_of c.report.new.self).streams old.log.entries c.add-2.new.self.entries _ (reported (key_of info) r) old.stands c.add-2.ensures.log.1
           (ap (λ (x : Collected). x.streams) ok.0 ∙ ap (λ (t : ThreadInfo). reported_to pending (key_of t) r) (sym same)) refl
           (merely c.requires, subst (λ (t : ThreadInfo). ¬ AreUnlike (stream_under pending (key_of t)) r) (sym same) ok.2);
+      met = still_met _ _ _ (reported (key_of info) r) old.log.entries c.add-2.new.self.entries c.add-2.ensures.log.1 old.met;
+      seen = still_seen _ (reported (key_of info) r) old.log.entries c.add-2.new.self.entries c.add-2.ensures.log.1 tt old.seen;
     }

@@ -3,10 +3,10 @@ use Rattle.std.proofs.lemmas.List.{length-map}
 use Rattle.history.specs.Entries.{events, HasAuthors}
 use Rattle.puffin_frames.specs.Frame.Contents.{Streams}
 use Rattle.puffin.specs.Profiler.{collected_of}
-use Rattle.puffin.specs.Happenings.{Happening, History, Stands}
+use Rattle.puffin.specs.Happenings.{Happening, History, Stands, HasMet, AreSeen}
 use Rattle.puffin.specs.Members.{Member, account_of}
 use Rattle.puffin.specs.Leaving.{accounts_of, AreAuthors}
-use Rattle.puffin.proofs.Growing.{left_stands}
+use Rattle.puffin.proofs.Growing.{left_stands, left_met}
 use Rattle.puffin.proofs.LeavingShares.{all_authors}
 use Rattle.puffin.proofs.SpelledThreads.{recounted}
 use Rattle.puffin.proofs.global_profiler.booked.Booked.settle.Goals as goal
@@ -16,11 +16,14 @@ invariant_of-self g c =
     let old = c.args.self.now in let l = c.leave_all-all_reported.ensures.log in
     let accounts : List (ℕ × List Happening) = accounts_of (c.pop.new.self.items ++ c.in-Some.last ∷ []) in
     let pending : Streams = (collected_of old.profiler).streams in
+    let met = left_met old.arrived old.released old.log.entries accounts (old.met, old.seen) in
     record {
       reported_is = c.audit.ensures.total ∙ old.reported_is;
       handed_is = c.audit-2.ensures.total ∙ old.handed_is;
       authors_are = l.0 ∙ old.authors_are;
       stands = subst (λ (log : History). ∥ Stands pending (events log) ∥₁) (sym l.1) (left_stands pending old.log.entries accounts old.stands);
+      met = subst (λ (log : History). HasMet old.arrived old.released (events log)) (sym l.1) met.0;
+      seen = subst (λ (log : History). AreSeen 0 0 (events log)) (sym l.1) met.1;
     }
 
 pub returns-clause-history : goal.returns-clause-history
@@ -31,5 +34,5 @@ returns-clause-history g c =
     let split : c.args.shares.items ≡ c.pop.new.self.items ++ c.in-Some.last ∷ [] = search rules in
     let are : AreAuthors n (accounts_of items) old.log.entries =
     subst (λ (ms : List Member). AreAuthors n (accounts_of ms) old.log.entries) (sym split) (subst (λ (k : ℕ). AreAuthors k (accounts_of (c.pop.new.self.items ++ c.in-Some.last ∷ [])) old.log.entries) many e.authors) in
-    recounted n (accounts_of items) old.log.entries (collected_of old.profiler).streams old.stands
+    recounted n (accounts_of items) old.log.entries (collected_of old.profiler).streams old.stands old.seen
     (all_authors n (accounts_of items) old.log.entries (length-map items account_of ∙ sym c.args.shares.ok.0) are (subst (λ (k : ℕ). HasAuthors k old.log.entries) many e.has))

@@ -1,0 +1,5 @@
+use Rattle.std.specs.Prelude.{◌≡◌}
+use Rattle.puffin.proofs.global_profiler.shared_profiler.SharedProfiler.wait_released.Given as goal
+
+abbrev pub invariant-loop : goal.invariant-loop
+invariant-loop g l = l.share ≡ l.fn.share
