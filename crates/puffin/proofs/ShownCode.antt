@@ -23,6 +23,7 @@ use Rattle.puffin.specs.Members.{Member, account_of}
 use Rattle.puffin.specs.Recounted.{SpellInTurn}
 use Rattle.puffin.specs.Telling.{AllFit, HasRun}
 use Rattle.puffin.specs.Shown.{ShowsCode, IsAlone, FramesShow}
+use Rattle.puffin.proofs.TellingShares.{none_in}
 
 -- ---- reports under one key
 
@@ -90,10 +91,6 @@ every P (x ∷ ms) h = All-cons P (account_of x) (accounts_of ms) (h 0 x refl) (
 -- the name at each place where there is a share
 named_at : (names : List (List ℕ)) (shares : List Member) (j : ℕ) (m : Member) → length shares ≡ length names → slice_get shares j ≡ Some m → (name : List ℕ) × (slice_get names j ≡ Some name)
 named_at names shares j m same e = (get_or names j [], slice_get-get_or names j [] (subst (λ (n : ℕ). j < n) same (slice_get_within shares j m e)))
-
-pub none_in : {A : Type 0} (xs : List A) → length xs ≡ 0 → xs ≡ []
-none_in [] none = refl
-none_in (x ∷ xs) none = absurd (omega arith)
 
 abbrev pub here : List ℕ → List ℕ → ℕ
 here name x = cond (bytes_eq name x) 1 0

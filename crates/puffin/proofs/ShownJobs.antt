@@ -19,7 +19,8 @@ use Rattle.puffin.specs.Members.{Member, account_of}
 use Rattle.puffin.specs.Recounted.{SpellInTurn}
 use Rattle.puffin.specs.Telling.{HasRun, Job, HaveRun}
 use Rattle.puffin.specs.Shown.{ShowsCode, IsAlone, names_in, FramesShowJobs}
-use Rattle.puffin.proofs.ShownCode.{under_itself, under_others, no_frames, more_under, more_frames, spelled_once, at_most_one, contained, every, none_in, here, is_here}
+use Rattle.puffin.proofs.ShownCode.{under_itself, under_others, no_frames, more_under, more_frames, spelled_once, at_most_one, contained, every, here, is_here}
+use Rattle.puffin.proofs.TellingShares.{none_in}
 
 abbrev names_of : List Job → List (List ℕ)
 names_of jobs = map (λ job. job.name) jobs

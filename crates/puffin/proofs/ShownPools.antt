@@ -33,7 +33,7 @@ chosen {A} P (suc n) f = put (f 0 (omega arith)) (chosen (λ k. P (suc k)) n (λ
         at first rest later (suc k) x e = later k x e
 
 -- what is so of what didn't fail
-well_so : {X E : Type 0} (P : Type 0) (result : Result X E) → IsOk result → OnOk result P → P
+pub well_so : {X E : Type 0} (P : Type 0) (result : Result X E) → IsOk result → OnOk result P → P
 well_so P (Ok x) well so = so
 well_so P (Err e) well so = absurd cc
 

@@ -1,7 +1,7 @@
 -- What the frames of a program in rounds show, by what its threads told.
 use Rattle.std.proofs.Common.{◌≡◌, ◌≢◌, ℕ, zero, suc, ◌+◌, ◌*◌, ◌<◌, ◌≤◌, Bool, true, false, List, [], ◌∷◌, ◌++◌, Option, Some, None, Result, Ok, Err, length, map, take, string_bytes, refl, ap, sym, subst, ◌∙◌, append_assoc, length-append, arith}
 use mathlib.Core.Logic.{∥∥₁_map}
-use Rattle.std.specs.Prelude.{slice_get, IsOk, IfOk, OnOk, sum_by}
+use Rattle.std.specs.Prelude.{slice_get, IfOk, sum_by}
 use Rattle.std.specs.FinMap as fin_map
 use Rattle.std.specs.List.{flat_map}
 use Rattle.std.proofs.lemmas.List.Elements.{All-contains}
@@ -31,9 +31,9 @@ use Rattle.puffin.proofs.CutHistory.{Split, FrameAt, cut, cut_authors, split_at,
 use Rattle.puffin.proofs.CutHistory as history
 use Rattle.puffin.proofs.Growing.{released-both, arrived-both}
 use Rattle.puffin.proofs.KeptSteps.{AllSeen, all_seen, seen_by, seen_front, steps_front, closes_none, few_parts, cut_there, few_frames, Gathered, gathered, each_full}
-use Rattle.puffin.proofs.ShownCode.{frames_show, contained, every}
-use Rattle.puffin.proofs.ShownPools.{chosen}
-use Rattle.puffin.proofs.ShownRuns.{there, only_one_of}
+use Rattle.puffin.proofs.ShownCode.{frames_show, at_most_one, contained, every}
+use Rattle.puffin.proofs.ShownPools.{chosen, well_so}
+use Rattle.puffin.proofs.ShownRuns.{there}
 use Rattle.puffin.proofs.SpelledThreads.{recounted}
 
 -- each thread ran its rounds under its name, through its share
@@ -108,7 +108,7 @@ module _ (known rounds n : ℕ) (is : ℕ → ℕ → Code → Type 0) (names : 
   step_of : (j : ℕ) (m : Member) → slice_get shares j ≡ Some m → KeepsStep 0 0 m.own
   step_of j m e =
       let its = named j m e in let d = did j its.0 its.1 in
-      subst (λ (x : Member). KeepsStep 0 0 x.own) (only_one_of (slice_get shares j) d.0 m d.2 e) d.3.step
+      subst (λ (x : Member). KeepsStep 0 0 x.own) (at_most_one (slice_get shares j) d.0 m d.2 e) d.3.step
 
   step_then : (j : ℕ) (m : Member) → slice_get shares j ≡ Some m → KeepsStep 0 0 (entries_by m.number now)
   step_then j m e = steps_front 0 0 (entries_by m.number now) (entries_by m.number s.later) (subst (KeepsStep 0 0) (own_then (suc j) m e) (step_of j m e))
@@ -120,7 +120,7 @@ module _ (known rounds n : ℕ) (is : ℕ → ℕ → Code → Type 0) (names : 
   unclosed zero m e = λ other. let same : cut now taker ≡ m = cc in absurd (other (ap (λ (x : Member). x.number) (sym same)))
   unclosed (suc j) m e = λ other.
       let c = there shares j (subst (λ (k : ℕ). j < k) (long_cut now shares) (slice_get_within (map (cut now) shares) j m e)) in
-      let same : cut now c.0 ≡ m = only_one_of (slice_get (map (cut now) shares) j) (cut now c.0) m (cut_in now shares j c.0 c.1) e in
+      let same : cut now c.0 ≡ m = at_most_one (slice_get (map (cut now) shares) j) (cut now c.0) m (cut_in now shares j c.0 c.1) e in
       subst (λ (x : Member). flat_map (if_marked releases_of) x.own ≡ []) same (closes_none 0 0 (entries_by c.0.number now) (step_then j c.0 c.1))
 
   closed_then_are : num_released (events now) ≡ num_released f.before
@@ -197,7 +197,7 @@ module _ (known rounds n : ℕ) (is : ℕ → ℕ → Code → Type 0) (names : 
           cut_in now shares k d.0 d.2,
           e.2,
           subst (λ (hs : List Happening). HasRun name Short known e.0 [] hs e.1) (sym cut_is)
-              (subst (λ (x : List ℕ). HasRun x Short known e.0 [] (until (suc round) d.0.own) e.1) (only_one_of (slice_get names k) its_name.0 name its_name.1 at) e.3),
+              (subst (λ (x : List ℕ). HasRun x Short known e.0 [] (until (suc round) d.0.own) e.1) (at_most_one (slice_get names k) its_name.0 name its_name.1 at) e.3),
         ),
       )
 
@@ -219,10 +219,6 @@ module _ (known rounds n : ℕ) (is : ℕ → ℕ → Code → Type 0) (names : 
       )
 
 -- ---- what a run shows
-
-well_so : {X E : Type 0} (P : Type 0) (result : Result X E) → IsOk result → OnOk result P → P
-well_so P (Ok x) well so = so
-well_so P (Err e) well so = absurd cc
 
 module _ (C : Type 0) {W : Type 0} (states : W → Bool) (runs : W → ℕ → ℕ → Code → Type 0) (leads : W → ℕ → Code → Type 0) (rounds threads : W → ℕ) where
   abbrev tells : Ready C → W → ℕ → Ended → List Happening → List Happening → Type 0
@@ -268,7 +264,7 @@ module _ (C : Type 0) {W : Type 0} (states : W → Bool) (runs : W → ℕ → �
         let thread = there told.threads k (subst (λ (n : ℕ). k < n) (sym told.as_many) (slice_get_within names k name at)) in
         let it = a.each k thread.0 thread.1 in
         let named = told.named k thread.0 thread.1 in
-        let its_name : string_bytes thread.0.name ≡ name = only_one_of (slice_get names k) (string_bytes thread.0.name) name named.0 at in
+        let its_name : string_bytes thread.0.name ≡ name = at_most_one (slice_get names k) (string_bytes thread.0.name) name named.0 at in
         let so = well_so (HasLedRoundsAs (states program) (runs program k) (rounds program) (string_bytes thread.0.name) (num_known thread.0.scopes) it.share.own it.ended.left.unreported) it.ended.result (it.went_well none) (it.told refl) in
         let l = subst (λ (b : Bool). HasLedRoundsAs b (runs program k) (rounds program) (string_bytes thread.0.name) (num_known thread.0.scopes) it.share.own it.ended.left.unreported) stated so in (
           it.share,

@@ -18,15 +18,12 @@ use Rattle.puffin.specs.Telling.{HasRun, HasRunAs, HasLedAs}
 use Rattle.puffin.specs.Joined.{EachTells, HasTold}
 use Rattle.puffin_frames.specs.Frame.Contents.{Streams}
 use Rattle.puffin.specs.Shown.{AreNamed, NamedTold, RanEach, ShowsProgram, Shows, leader_first}
-use Rattle.puffin.proofs.ShownCode.{frames_show}
+use Rattle.puffin.proofs.ShownCode.{frames_show, at_most_one}
 
 pub there : {A : Type 0} (xs : List A) (k : ℕ) → k < length xs → (x : A) × (slice_get xs k ≡ Some x)
 there [] k below = absurd (omega arith)
 there (x ∷ xs) zero below = (x, refl)
 there (x ∷ xs) (suc k) below = there xs k (omega arith)
-
-pub only_one_of : {A : Type 0} (o : Option A) (x y : A) → o ≡ Some x → o ≡ Some y → x ≡ y
-only_one_of o x y p q = let same = sym p ∙ q in cc
 
 -- what a thread ran that didn't fail
 ran_well : {X E : Type 0} (is : Code → Type 0) (name : List ℕ) (known : ℕ) (result : Result X E) (after : List Happening) (waiting : ℕ) → IsOk result → HasRunAs true is name Short known result [] after waiting → (code : Code) × is code × HasRun name Short known code [] after waiting
@@ -49,7 +46,7 @@ module _ (C : Type 0) {W : Type 0} (states : W → Bool) (runs : W → ℕ → C
       let t = there threads k (subst (λ (n : ℕ). k < n) (sym same) (slice_get_within names k name at)) in
       let told = each k t.0 t.1 in
       let its = named k t.0 t.1 in
-      let its_name : string_bytes t.0.name ≡ name = only_one_of (slice_get names k) (string_bytes t.0.name) name its.0 at in
+      let its_name : string_bytes t.0.name ≡ name = at_most_one (slice_get names k) (string_bytes t.0.name) name its.0 at in
       let ran = ran_well (runs program k) (string_bytes t.0.name) (num_known t.0.scopes) told.ended.result told.share.own told.ended.left.unreported (told.went_well none)
       (subst (λ (b : Bool). HasRunAs b (runs program k) (string_bytes t.0.name) Short (num_known t.0.scopes) told.ended.result [] told.share.own told.ended.left.unreported) stated told.told) in (
         told.share,

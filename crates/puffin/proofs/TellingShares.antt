@@ -25,7 +25,7 @@ told_frame m new a b before told is = subst (λ (s : Streams). Tells m (framed s
 
 -- ---- the reports of a share
 
-none_in : {A : Type 0} (xs : List A) → length xs ≡ 0 → xs ≡ []
+pub none_in : {A : Type 0} (xs : List A) → length xs ≡ 0 → xs ≡ []
 none_in [] none = refl
 none_in (x ∷ xs) none = absurd (omega arith)
 

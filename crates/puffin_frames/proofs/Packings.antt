@@ -27,7 +27,7 @@ use Rattle.puffin_frames.specs.Packet.Tries.{DecidedInMemory}
 use Rattle.puffin_threads.specs.Thread.ThreadKey.{ThreadKey, key_cmp}
 use Rattle.puffin_frames.specs.Frame.Streams.{Streams}
 use Rattle.puffin_frames.specs.Packet.Structs.{form_of_all, AreStreams, streams_layout, streams_at}
-use Rattle.puffin_frames.specs.Frame.Holding.{Packing, HoldsStreams, AreReadAgain, or_bad, unpacking, unpacked_from, Holding, streams_in, if_packed, either_content, holding_streams, Agree, IsHolding, packing, plainly_packed, as_packed, as_unpacked}
+use Rattle.puffin_frames.specs.Frame.Holding.{Packing, HoldsStreams, AreReadAgain, or_bad, unpacking, unpacked_of, unpacked_from, Holding, streams_in, if_packed, either_content, holding_streams, Agree, IsHolding, packing, packing_of, plainly_packed, as_packed, as_unpacked}
 use Rattle.puffin_frames.proofs.Structs.{streams_reader}
 use Rattle.puffin_frames.proofs.Listed.{holds}
 use Rattle.puffin_frames.proofs.lemmas.PackedAgain.{packed_again}
@@ -123,6 +123,21 @@ bad_so : (b : Bool) (kind : ℕ) (o : Option Streams) (streams : Streams) → co
 bad_so true kind None streams e some = absurd cc
 bad_so true kind (Some x) streams e some = absurd cc
 bad_so false kind o streams e some = absurd cc
+
+one_answer : (b : Bool) (o : Option Streams) (cause : FileError) (streams : Streams) → cond b o None ≡ Some streams → Ok streams ≡ cond b (or_bad o) (Err cause)
+one_answer true o cause streams e = ap or_bad (sym e)
+one_answer false o cause streams e = absurd cc
+
+-- a frame that is held unpacked has the streams in its packet
+unpacks : (p : Option Packing) (u : Option Streams) → Agree p u → unpacked_of p u ≡ unpacking (packing p u)
+unpacks None None agree = absurd agree
+unpacks (Some p) None agree = refl
+unpacks None (Some streams) agree = ap or_bad (sym agree)
+unpacks (Some p) (Some streams) agree =
+    one_answer (is_uncompressed p.kind) (option_map from_sorted (whole (streams_at p.form) p.bytes)) (file.Compressed (to_byte p.kind)) streams agree
+
+pub unpacks_packing : (h : Holding) → IsHolding h → unpacked_from h ≡ unpacking (packing_of h)
+unpacks_packing h agree = unpacks h.packed h.unpacked agree
 
 -- the streams that are handed out are those whose layout the packed bytes are
 layout_of : (h : Held) (streams : Streams) → unpacked_from (held_as h) ≡ Ok streams → IfSome (held_as h).packed (λ p. HoldsStreams p streams)

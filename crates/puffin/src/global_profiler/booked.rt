@@ -1,5 +1,5 @@
 //! The value that a shared profiler's lock protects.
-ghost use Rattle.std.specs.Prelude.{◌≡◌, ◌+◌, ◌≤◌, [], vec_len, Some, OnOk, OnErr, IfOk, IfErr, IsTrue, IsFalse, ⊤};
+ghost use Rattle.std.specs.Prelude.{◌≡◌, ◌+◌, ◌≤◌, ◌↔◌, [], vec_len, Some, OnOk, OnErr, IfOk, IfErr, IsTrue, IsFalse, ⊤};
 ghost use Rattle.std.specs.FinMap as map;
 ghost use Rattle.std.specs.Arc.{arc_value};
 ghost use Rattle.history.specs.Entries.{events};
@@ -16,6 +16,7 @@ ghost use Rattle.puffin.specs.Happenings.{reported, Stands, HasMet, AreSeen, Are
 ghost use Rattle.puffin.specs.Members.{Tells, TakesFrame, Marks, all_reported, all_handed};
 ghost use Rattle.puffin.specs.Leaving.{accounts_of};
 ghost use Rattle.puffin.specs.Recounted.{Recounts};
+ghost use Rattle.puffin.specs.Taking.{one_more};
 
 use crate::global_profiler::event::{
     Arrives, Event, Frames, Releases, Report, Reports, SeesArrived, SeesReleased,
@@ -73,7 +74,7 @@ pub struct Settled {
 }
 
 impl<L: Ledger + History, M: Ledger> Booked<L, M> {
-    ghost use Rattle.puffin.specs.Booked.{profiler_of, collected_in, entries_of};
+    ghost use Rattle.puffin.specs.Booked.{profiler_of, collected_in, entries_of, parts_done, rounds_closed};
 
     /// Combines a profiler to which no scopes were reported with its books and a log without entries.
     pub(crate) fn new(
@@ -272,7 +273,10 @@ impl<L: Ledger + History, M: Ledger> Booked<L, M> {
     /// Counts a thread's part of a round, and returns how many parts were done so far.
     pub(crate) fn arrive(&mut self, share: &mut Share<L, M>) -> u64
         requires boxed_sinks { ⊤ }
-        ensures { Marks share.old arrived share.new }
+        ensures marks { Marks share.old arrived share.new }
+        ensures counted { (result ≡ one_more (parts_done self.old))
+            × (parts_done self.new ≡ result)
+            × (rounds_closed self.new ≡ rounds_closed self.old) }
     {
         self.arrived = self.arrived.saturating_add(1);
         self.log.add::<(), Arrives>(&mut share.author, &());
@@ -282,7 +286,9 @@ impl<L: Ledger + History, M: Ledger> Booked<L, M> {
     /// Counts a round as closed.
     pub(crate) fn release(&mut self, share: &mut Share<L, M>)
         requires boxed_sinks { ⊤ }
-        ensures { Marks share.old released share.new }
+        ensures marks { Marks share.old released share.new }
+        ensures counted { (rounds_closed self.new ≡ one_more (rounds_closed self.old))
+            × (parts_done self.new ≡ parts_done self.old) }
     {
         self.released = self.released.saturating_add(1);
         self.log.add::<(), Releases>(&mut share.author, &());
@@ -291,8 +297,11 @@ impl<L: Ledger + History, M: Ledger> Booked<L, M> {
     /// Returns whether at least this many parts were done. If so, the share has seen it.
     pub(crate) fn have_arrived(&mut self, share: &mut Share<L, M>, parts: u64) -> bool
         requires boxed_sinks { ⊤ }
+        ensures result { IsTrue result ↔ (parts ≤ parts_done self.old) }
         ensures so { IsTrue result → Marks share.old (saw_arrived parts) share.new }
         ensures otherwise { IsFalse result → share.new ≡ share.old }
+        ensures same { (parts_done self.new ≡ parts_done self.old)
+            × (rounds_closed self.new ≡ rounds_closed self.old) }
     {
         let have = self.arrived >= parts;
         if have {
@@ -304,8 +313,11 @@ impl<L: Ledger + History, M: Ledger> Booked<L, M> {
     /// Returns whether at least this many rounds were closed. If so, the share has seen it.
     pub(crate) fn have_released(&mut self, share: &mut Share<L, M>, rounds: u64) -> bool
         requires boxed_sinks { ⊤ }
+        ensures result { IsTrue result ↔ (rounds ≤ rounds_closed self.old) }
         ensures so { IsTrue result → Marks share.old (saw_released rounds) share.new }
         ensures otherwise { IsFalse result → share.new ≡ share.old }
+        ensures same { (parts_done self.new ≡ parts_done self.old)
+            × (rounds_closed self.new ≡ rounds_closed self.old) }
     {
         let have = self.released >= rounds;
         if have {

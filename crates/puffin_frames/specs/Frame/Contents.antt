@@ -1,9 +1,10 @@
 -- A frame's number, details and streams, which are the same whether it is packed or not.
-use Rattle.std.specs.Prelude.{Bool, List, Option}
+use Rattle.std.specs.Prelude.{Bool, List, Option, Result}
+use Rattle.puffin_data.specs.declared.file_error.FileError.{FileError}
 use Rattle.puffin_frames.specs.declared.frame_data.frame.FrameData.{FrameData}
 use Rattle.puffin_frames.specs.declared.frame_data.meta.FrameMeta.{FrameMeta}
 use Rattle.puffin_threads.specs.Details.{Details, shared_details}
-use Rattle.puffin_frames.specs.Frame.Holding.{Packing, Holding, packing_of, holding_streams}
+use Rattle.puffin_frames.specs.Frame.Holding.{Packing, Holding, packing_of, holding_streams, unpacking}
 use Rattle.puffin_frames.specs.Packet.Stored.{PacketFields}
 pub use Rattle.puffin_frames.specs.Frame.Streams.{Streams, facts_code, streams_code, records, all_facts, streams_of, without_sharing, shared_streams, no_scopes, stream_under, reported_to, AreHonest}
 pub use Rattle.puffin_frames.specs.Frame.Unpacked.{streams_held}
@@ -31,6 +32,10 @@ fields_from meta p details =
 -- the fields of a frame's packet, however it is held
 abbrev pub packet_fields : FrameData → PacketFields
 packet_fields frame = fields_from (frame_meta frame) (packing_of (holding_of frame)) (frame_details frame)
+
+-- the streams in a packet, or why they can't be unpacked
+abbrev pub streams_in_fields : PacketFields → Result Streams FileError
+streams_in_fields c = unpacking (record { form = c.form; kind = c.kind; bytes = c.streams })
 
 -- whether a frame is held unpacked, and shares its data with no other
 abbrev pub is_alone : FrameData → Bool

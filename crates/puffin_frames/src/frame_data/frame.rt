@@ -57,8 +57,8 @@ impl FrameData {
     ghost use Rattle.std.specs.Arc.{arc_value};
     ghost use Rattle.puffin_data.specs.declared.file_error.FileError.{FileError};
     ghost use Rattle.puffin_frames.specs.Frame.Sums.{MakeFrame, meta_of, RefusesFrame};
-    ghost use Rattle.puffin_frames.specs.Frame.Contents.{streams_of, all_facts, streams_held, holding_of, frame_streams, frame_meta, is_alone, Streams, packet_fields};
-    ghost use Rattle.puffin_frames.specs.Frame.Holding.{as_packed, as_unpacked, unpacked_from, HoldsStreams};
+    ghost use Rattle.puffin_frames.specs.Frame.Contents.{streams_of, all_facts, streams_held, holding_of, frame_streams, frame_meta, is_alone, Streams, packet_fields, streams_in_fields};
+    ghost use Rattle.puffin_frames.specs.Frame.Holding.{as_packed, as_unpacked, HoldsStreams};
     ghost use Rattle.puffin_frames.specs.Packet.Tries.{DecidedInMemory};
 
     /// Makes frame `frame_index` from these streams. Fails as [`UnpackedFrameData::new`] does, and then drops the streams and
@@ -226,7 +226,7 @@ impl FrameData {
     /// layout of streams, and with `Memory`; the frame is then held as before.
     pub fn unpacked(&mut self) -> std::result::Result<Arc<UnpackedFrameData>, FileError>
         ensures unpacked { DecidedInMemory (λ frame. streams_held (arc_value frame)) result (
-            unpacked_from (holding_of self.old)) }
+            streams_in_fields (packet_fields self.old)) }
         // Unpacking gives the streams whose layout the packed bytes are.
         ensures layout { IfOk result (λ frame.
             IfSome (holding_of self.old).packed (λ p.
