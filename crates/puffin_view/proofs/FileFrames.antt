@@ -6,18 +6,12 @@ use Rattle.std.specs.Arc.{arc_value}
 use Rattle.std.specs.declared.sync.Arc.{Arc}
 use Rattle.std.proofs.lemmas.List.{map-append, flat_map_more}
 use Rattle.std.proofs.lemmas.List.Sums.{fold-append}
-use Rattle.puffin_data.specs.declared.data.form.Form.{Form}
 use Rattle.puffin_data.specs.declared.error.Error.{Error}
 use Rattle.puffin_data.specs.declared.error.Error.TheVariants.{MissingId}
 use Rattle.puffin_data.specs.declared.file_error.FileError.{FileError}
 use Rattle.puffin_data.specs.declared.file_error.FileError.TheVariants as file
-use Rattle.puffin_frames.specs.declared.frame_data.kind.Kind.TheVariants.{Uncompressed}
 use Rattle.puffin_data.specs.Device.{FromDevice}
 use Rattle.puffin_frames.specs.declared.frame_data.frame.FrameData.{FrameData}
-use Rattle.puffin_frames.specs.declared.frame_data.meta.FrameMeta.{FrameMeta}
-use Rattle.puffin_frames.specs.declared.frame_data.held.Held.{Held}
-use Rattle.puffin_frames.specs.declared.frame_data.held.Held.TheVariants.{Own, Shared, Packed, Both}
-use Rattle.puffin_frames.specs.Frame.Variants.{HasMeta}
 use Rattle.puffin_threads.specs.declared.scope_details.details.ScopeDetails.{ScopeDetails}
 use Rattle.puffin_threads.specs.Details.{Details, details_of, shared_details, lacks_id}
 use Rattle.puffin_threads.specs.Details.Collection.{Collection, no_details, with_details, with_all_details}
@@ -33,26 +27,7 @@ use Rattle.puffin_view.specs.View.File.{frame_stored, details_stored, read_view,
 use Rattle.puffin_view.specs.View.FrameFile.{HasGiven}
 use Rattle.puffin_view.proofs.Taking.{Took-all, Took-none}
 use Rattle.puffin_view.proofs.lemmas.FilesRead.{checked, refused, given_more, fault_given}
-
--- ---- a frame that was read, as a view sees it
-
-abbrev frame_said : FrameMeta → Form → List ℕ → List Details → Frame
-frame_said m form streams ds = record { fields = record { meta = m; form = form; kind = Uncompressed; streams = streams; details = ds }; is_unpacked = true; is_packed = false }
-
-true_is_not_false : true ≡ false → ⊥
-true_is_not_false e = cc
-
-no_details_said : (m : FrameMeta) (form : Form) (streams : List ℕ) (ds : List Details) → ds ≡ [] → frame_said m form streams ds ≡ frame_said m form streams []
-no_details_said m form streams ds e = ap (frame_said m form streams) e
-
-fresh_by : (frame : FrameData) (h : Held) (same : HasMeta h frame.meta) → IsFresh (record frame { held = h; same_meta = same }) → frame_of (record frame { held = h; same_meta = same }) ≡ frame_stored (stored_of (record frame { held = h; same_meta = same }))
-fresh_by frame (Own u) same fresh = no_details_said _ _ _ _ (fresh.no_details refl)
-fresh_by frame (Shared u) same fresh = no_details_said _ _ _ _ (fresh.no_details refl)
-fresh_by frame (Packed p) same fresh = refl
-fresh_by frame (Both b) same fresh = absurd (true_is_not_false fresh.one_way)
-
-pub fresh_frame : (frame : FrameData) → IsFresh frame → frame_of frame ≡ frame_stored (stored_of frame)
-fresh_frame frame fresh = fresh_by frame frame.held frame.same_meta fresh
+use Rattle.puffin_view.proofs.lemmas.FrameStreams.{fresh_frame}
 
 -- ---- one frame more
 

@@ -22,3 +22,4 @@ mod Searching
 mod FileGrammar
 mod ReadingsCut
 mod FilesCut
+mod ThreadsTotaled

@@ -5,3 +5,4 @@ pub mod FramesHeld
 pub mod ReadingViews
 pub mod FilesAgain
 pub mod Sending
+pub mod FrameStreams

@@ -9,7 +9,9 @@
 //! | read a file one frame at a time, or what a crash left of it | [`profile_view::FrameReader`]; from a borrowed source [`profile_view::read_magic`], [`profile_view::next_frame`] |
 //! | write a file one frame at a time | [`profile_view::FrameWriter`] |
 //! | select the slowest of any frames | [`profile_view::select_slowest`] |
+//! | count what frames have of each thread | [`thread_totals::AllTotals::add`] |
 //! | cite a law about definitions in a proof | [`profile_view::laws`] |
 #![tactic(auto)]
 
 pub mod profile_view;
+pub mod thread_totals;

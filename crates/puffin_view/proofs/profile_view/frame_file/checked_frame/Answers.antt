@@ -4,7 +4,8 @@ use Rattle.puffin_frames.specs.Frame.Contents.{frame_details}
 use Rattle.puffin_view.specs.View.ViewedFrames.{Frame, fields_of}
 use Rattle.puffin_view.specs.View.Known.{lacks_ids}
 use Rattle.puffin_view.proofs.lemmas.FilesRead.{checked, refused}
-use Rattle.puffin_view.proofs.FileFrames.{fresh_frame, tested}
+use Rattle.puffin_view.proofs.lemmas.FrameStreams.{fresh_frame}
+use Rattle.puffin_view.proofs.FileFrames.{tested}
 use Rattle.puffin_view.proofs.profile_view.frame_file.checked_frame.Goals as goal
 
 pub returns-then-any_lacks_id-clause-next : goal.returns-then-any_lacks_id-clause-next

@@ -6,7 +6,8 @@ use Rattle.puffin_view.specs.View.FrameOf.{frame_of}
 use Rattle.puffin_view.specs.View.Known.{view_of, collection_of}
 use Rattle.puffin_view.specs.View.{View}
 use Rattle.puffin_view.proofs.lemmas.FilesRead.{spent, none_left, failed, all_given, fault_given}
-use Rattle.puffin_view.proofs.FileFrames.{fresh_frame, view_of_frames, view_of_more, refused_frame, given_frame}
+use Rattle.puffin_view.proofs.lemmas.FrameStreams.{fresh_frame}
+use Rattle.puffin_view.proofs.FileFrames.{view_of_frames, view_of_more, refused_frame, given_frame}
 use Rattle.puffin_view.proofs.profile_view.frame_view.FrameView.read.Goals as goal
 
 pub packets-init : goal.packets-init
