@@ -13,7 +13,7 @@ use Rattle.puffin_data.specs.declared.error.Error.TheVariants.{PrematureEnd, Inv
 use Rattle.puffin_data.specs.declared.file_error.FileError.{FileError}
 use Rattle.puffin_data.specs.declared.file_error.FileError.TheVariants as file
 use Rattle.puffin_threads.specs.Thread.ThreadKey.{ThreadKey}
-use Rattle.puffin_frames.specs.Frame.Contents.{packet_fields}
+use Rattle.puffin_frames.specs.Frame.Contents.{packet_fields, streams_in_fields}
 use Rattle.puffin_frames.specs.Packet.Front.{next_at}
 use Rattle.puffin_frames.specs.Packet.Letters.{from_letter}
 use Rattle.puffin_frames.specs.Packet.Parts.{kind_from, meta_part_at, streams_part_at, details_part_at, legacy_part_at}
@@ -22,7 +22,7 @@ use Rattle.puffin_frames.specs.Packet.Versions.{packet_at, packet_if_read, as_st
 use Rattle.puffin_merge.specs.Merge.FrameBytes.{FrameBytes}
 use Rattle.puffin_merge.specs.Merge.Occurrences.{Occurrence}
 use Rattle.puffin_merge.specs.Merge.Refusals.{IsFrameRefusal, faulty, refused, in_frame, at_end, IsMergeRefusal}
-use Rattle.puffin_report.specs.Summary.{streams_in_fields, all_bytes_in}
+use Rattle.puffin_report.specs.Summary.{all_bytes_in}
 use Rattle.puffin_view.specs.View.File.{frame_stored, with_ids, frames_from, frames_at, most_packets, begins_file, file_at, FramesReading, FailsToRead}
 use Rattle.puffin_view.specs.View.ViewedFrames.{fields_of}
 use Rattle.puffin_view.specs.View.FrameFile.{frame_with_ids, frame_at}

@@ -1,45 +1,23 @@
 -- The streams of a frame are listed one after the other.
 use Rattle.std.specs.Prelude.{Option, Some, Err}
-use Rattle.std.proofs.Common.{◌≡◌, ◌⊎◌, inl, inr, ℕ, ◌+◌, List, [], ◌∷◌, ◌++◌, length, refl, ap, subst, sym, ◌∙◌, append_assoc, append-nil, length-append, map}
-use Rattle.std.proofs.lemmas.Map.Made.{keys_of-map_values}
+use Rattle.std.proofs.Common.{◌≡◌, ◌⊎◌, inl, inr, ℕ, ◌+◌, List, [], ◌∷◌, ◌++◌, length, ap, subst, sym, ◌∙◌, append_assoc, append-nil, length-append, map}
 use Rattle.std.specs.FinMap as tree
-use Rattle.std.specs.Arc.{arc_value}
 use Rattle.std.specs.Map.{keys_of}
 use Rattle.std.specs.List.Sorted.{IsStrictlySortedBy}
-use Rattle.std.specs.declared.sync.Arc.{Arc}
-use Rattle.std.specs.declared.alloc.Global.{Global}
 use Rattle.puffin_data.specs.declared.error.Error.TheVariants as error
 use Rattle.puffin_data.specs.declared.file_error.FileError.{FileError}
 use Rattle.puffin_data.specs.declared.file_error.FileError.TheVariants as file
-use Rattle.puffin_data.specs.Honesty.{StreamFacts, facts_of}
-use Rattle.puffin_data.specs.declared.data.info.StreamInfo.{StreamInfo}
-use Rattle.puffin_threads.specs.declared.thread_profiler.thread_info.ThreadInfo.{ThreadInfo}
-use Rattle.puffin_threads.specs.Thread.ThreadKey.{ThreadKey, key_of, thread_cmp, key_entries}
-use Rattle.puffin_frames.specs.Frame.Contents.{without_sharing, shared_streams, records}
-use Rattle.puffin_frames.proofs.lemmas.Keyed.{entries-streams_of}
+use Rattle.puffin_threads.specs.Thread.ThreadKey.{thread_cmp}
+use Rattle.puffin_frames.specs.Frame.Contents.{shared_streams}
 use Rattle.puffin_frames.specs.declared.frame_data.frame.FrameData.{FrameData}
-use Rattle.puffin_frames.specs.Frame.Contents.{packet_fields}
+use Rattle.puffin_frames.specs.Frame.Contents.{packet_fields, streams_in_fields}
 use Rattle.puffin_view.specs.View.File.{file_at, FailsToRead}
+use Rattle.puffin_view.proofs.lemmas.FrameStreams.{Held, entry_of, entries_held}
 use Rattle.puffin_c.specs.declared.fault.Fault.{Fault}
 use Rattle.puffin_c.specs.declared.fault.Fault.TheVariants as fault
 use Rattle.puffin_c.specs.declared.streams.PuffinStream.{PuffinStream}
 use Rattle.puffin_c.specs.Faults.{file_fault}
-use Rattle.puffin_c.specs.Lists.{stream_row, stream_bytes, stream_rows, streams_bytes, streams_in_fields, IsFrameAt, LacksFrame, LacksStreams}
-
-abbrev pub Held : Type 0
-Held = ThreadInfo × Arc StreamInfo Global
-
--- an entry as contracts see it
-abbrev pub entry_of : Held → ThreadKey × StreamFacts
-entry_of e = (key_of e.0, facts_of (arc_value e.1))
-
-each_held : (es : List Held) → key_entries (records (without_sharing es)) ≡ map entry_of es
-each_held [] = refl
-each_held (e ∷ es) = ap (λ xs. entry_of e ∷ xs) (each_held es)
-
-pub entries_held : (es : List Held) → IsStrictlySortedBy thread_cmp (keys_of es) → tree.entries (shared_streams es) ≡ map entry_of es
-entries_held es sorted =
-    entries-streams_of (without_sharing es) (subst (IsStrictlySortedBy thread_cmp) (sym (keys_of-map_values arc_value es)) sorted) ∙ each_held es
+use Rattle.puffin_c.specs.Lists.{stream_row, stream_bytes, stream_rows, streams_bytes, IsFrameAt, LacksFrame, LacksStreams}
 
 -- the rows so far, and those of the streams that are left
 abbrev pub AllRows : List PuffinStream → List ℕ → List Held → List PuffinStream → Type 0

@@ -1,5 +1,4 @@
 -- Lists that a program gets: rows, and the bytes of their texts, one behind the other.
-pub use Rattle.puffin_report.specs.Summary.{streams_in_fields}
 use Rattle.std.specs.Prelude.{◌≡◌, ◌≢◌, ◌⊎◌, ℕ, ◌+◌, ◌<◌, ◌≤◌, ℤ, pos, Bool, true, false, List, [], ◌∷◌, ◌++◌, length, drop, Option, Some, None, Result, Ok, Err, is_some}
 use Rattle.std.specs.List.{flat_map}
 use Rattle.std.specs.Borrow.{MutBor}
@@ -18,7 +17,7 @@ use Rattle.puffin_data.specs.Walk.{IsFault}
 use Rattle.puffin_data.specs.Walk.PlacedScopes.{ScopeInContext, nested_in}
 use Rattle.puffin_threads.specs.Thread.ThreadKey.{ThreadKey}
 use Rattle.puffin_frames.specs.declared.frame_data.frame.FrameData.{FrameData}
-use Rattle.puffin_frames.specs.Frame.Contents.{packet_fields, frame_meta}
+use Rattle.puffin_frames.specs.Frame.Contents.{packet_fields, frame_meta, streams_in_fields}
 use Rattle.puffin_frames.specs.Frame.Streams.{Streams}
 use Rattle.puffin_view.specs.View.File.{file_at, FailsToRead}
 use Rattle.puffin_view.specs.View.FrameFile.{GivesNext, HasGiven, frame_at}

@@ -72,18 +72,6 @@ pub extern "C" fn puffin_merge_file(
     answer_code(answer)
 }
 
-/// Returns the unpacked data of a frame.
-#[tactic(auto, using(puffin_frames::proofs::lemmas::FramesAgain::frame_again))]
-fn opened(frame: &mut FrameData) -> Result<Arc<UnpackedFrameData>, FileError>
-    ensures ok { IfOk result (λ unpacked. (info : ThreadKey) →
-        bytes_in info (packet_fields frame.old) ≡ Ok (frame_bytes info (arc_value unpacked))) }
-    ensures err { IfErr result (λ e.
-        (e ≡ file_error.Memory)
-        ⊎ ((info : ThreadKey) → bytes_in info (packet_fields frame.old) ≡ Err e)) }
-{
-    frame.unpacked()
-}
-
 /// Returns the unpacked data of a frame of a view, in which it stays as it is.
 fn opened_copy(frame: &FrameData) -> Result<Arc<UnpackedFrameData>, FileError>
     ensures ok { IfOk result (λ unpacked. (info : ThreadKey) →
@@ -93,7 +81,7 @@ fn opened_copy(frame: &FrameData) -> Result<Arc<UnpackedFrameData>, FileError>
         ⊎ ((info : ThreadKey) → bytes_in info (packet_fields frame.now) ≡ Err e)) }
 {
     let mut copy = frame.clone()?;
-    opened(&mut copy)
+    copy.unpacked()
 }
 
 /// Returns the unpacked data of the last `number` recent frames of a view, oldest first.

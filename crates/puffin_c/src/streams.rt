@@ -1,17 +1,16 @@
 //! Lists the streams of a frame in a file, by thread.
 
 ghost use Rattle.std.specs.Prelude.{◌≡◌, ◌⊎◌, ◌++◌, ◌∷◌, [], Some, Ok, Err, OnOk, OnErr, IfOk, IfErr, length};
-ghost use Rattle.std.specs.Arc.{arc_value};
 ghost use Rattle.std.specs.FinMap as map;
 ghost use Rattle.puffin_data.specs.declared.error.Error.TheVariants as error;
 ghost use Rattle.puffin_data.specs.declared.file_error.FileError.{FileError};
 ghost use Rattle.puffin_data.specs.declared.file_error.FileError.TheVariants as file_error;
 ghost use Rattle.puffin_data.specs.Honesty.{facts_of};
 ghost use Rattle.puffin_threads.specs.Thread.ThreadKey.{key_of};
-ghost use Rattle.puffin_frames.specs.Frame.Contents.{packet_fields, frame_meta, streams_held};
+ghost use Rattle.puffin_frames.specs.Frame.Contents.{packet_fields, streams_held, streams_in_fields};
 ghost use Rattle.puffin_c.specs.declared.fault.Fault.TheVariants as fault;
 ghost use Rattle.puffin_c.specs.Faults.{Returns, file_fault};
-ghost use Rattle.puffin_c.specs.Lists.{stream_row, stream_bytes, stream_rows, streams_bytes, streams_in_fields, IsFrom, IsFrameAt, LacksFrame, TellsStreams, ListsStreams};
+ghost use Rattle.puffin_c.specs.Lists.{stream_row, stream_bytes, stream_rows, streams_bytes, IsFrom, IsFrameAt, LacksFrame, TellsStreams, ListsStreams};
 
 use crate::fault::{Fault, answer_code};
 use crate::frame::PuffinFrame;
@@ -23,7 +22,6 @@ use puffin_frames::frame_data::{FrameData, UnpackedFrameData};
 use puffin_threads::thread_profiler::ThreadInfo;
 use puffin_view::profile_view::{next_frame, read_magic};
 use std::alloc::{AllocError, Global};
-use std::sync::Arc;
 
 /// A thread's scopes in a frame.
 #[repr(C)]
@@ -154,19 +152,8 @@ fn frame_read(
     Ok(frame)
 }
 
-/// Returns the unpacked data of a frame.
-#[tactic(auto, using(puffin_frames::proofs::lemmas::FramesAgain::frame_again))]
-pub(crate) fn unpacked(frame: &mut FrameData) -> Result<Arc<UnpackedFrameData>, FileError>
-    ensures ok { IfOk result (λ unpacked.
-        streams_in_fields (packet_fields frame.old) ≡ Ok (streams_held (arc_value unpacked))) }
-    ensures err { IfErr result (λ e.
-        (e ≡ file_error.Memory) ⊎ (streams_in_fields (packet_fields frame.old) ≡ Err e)) }
-    ensures meta { frame_meta frame.new ≡ frame_meta frame.old }
-{
-    frame.unpacked()
-}
-
 /// Describes a frame, and lists its streams. Fails with `Compressed` or `BadStreams` if they can't be unpacked, and with `Memory`.
+#[tactic(auto, using(puffin_view::proofs::lemmas::FrameStreams::not_decided))]
 fn told(alloc: Global, frame: FrameData, list: &mut PuffinStreamList<'_>) -> Result<(), Fault>
     ensures ok { OnOk result (TellsStreams (Some frame) list.old list.new) }
     ensures err { IfErr result (λ f.
@@ -176,7 +163,7 @@ fn told(alloc: Global, frame: FrameData, list: &mut PuffinStreamList<'_>) -> Res
     ensures unchanged { OnErr result (list.new ≡ list.old) }
 {
     let mut frame = frame;
-    let data = unpacked(&mut frame)?;
+    let data = frame.unpacked()?;
     let made = list_of(alloc, &data)?;
     (list.num_rows, list.num_bytes) = give(&made.rows, &made.bytes, list.rows, list.bytes);
     list.frame = PuffinFrame::of(*frame.meta());

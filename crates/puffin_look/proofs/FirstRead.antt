@@ -14,7 +14,7 @@ use Rattle.puffin_look.specs.FirstReading.{no_overview, with_fields, with_stored
 use Rattle.puffin_look.specs.declared.overview.Overview.{Overview}
 use Rattle.puffin_look.specs.inner.FirstReadings.{ReadsFrames}
 use Rattle.puffin_look.specs.inner.Taken.{fails_outside}
-use Rattle.puffin_look.proofs.Listed.{said_fresh}
+use Rattle.puffin_view.proofs.lemmas.FrameStreams.{said_fresh}
 use Rattle.puffin_look.proofs.ThreadsPrinted.{not_outside}
 
 -- one frame more

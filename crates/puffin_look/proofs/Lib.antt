@@ -1,7 +1,6 @@
 mod Listed
 mod FirstRead
-mod HeldStreams
-mod ThreadsTotaled
+mod ThreadsLined
 mod ThreadsPrinted
 mod ThreadsNamed
 mod Quotes

@@ -1,30 +1,24 @@
 -- Frames that were listed, one after the other.
-use Rattle.std.proofs.Common.{◌≡◌, ℕ, ◌-◌, ◌^◌, ◌≤◌, true, false, List, [], ◌∷◌, ◌++◌, length, Option, Some, None, ◌⊎◌, Result, Ok, Err, inl, inr, refl, sym, ap, subst, ◌∙◌, append_assoc}
+use Rattle.std.proofs.Common.{◌≡◌, ℕ, ◌-◌, ◌^◌, ◌≤◌, true, false, List, [], ◌∷◌, ◌++◌, length, Option, Some, None, ◌⊎◌, Result, Ok, Err, inl, inr, refl, sym, ap, subst, ◌∙◌, append_assoc, true≢false}
 use Rattle.std.specs.Prelude.{IfErr, Bool, if◌then◌else◌}
 use Rattle.std.specs.Io.KnownBytes.{Appends}
 use Rattle.std.proofs.KnownBytes.{Appends-nil, Appends-trans}
 use Rattle.std.proofs.lemmas.List.{append-nil}
 use Rattle.std.proofs.lemmas.List.Elements.{filter-append}
-use Rattle.puffin_data.specs.declared.data.form.Form.{Form}
 use Rattle.puffin_data.specs.declared.error.Error.{Error}
 use Rattle.puffin_data.specs.declared.file_error.FileError.{FileError}
 use Rattle.puffin_data.specs.declared.file_error.FileError.TheVariants as file
 use Rattle.puffin_data.specs.Device.{FailsAt, IsOutside, WritesBeginning}
-use Rattle.puffin_threads.specs.Details.{Details}
-use Rattle.puffin_frames.specs.declared.frame_data.kind.Kind.TheVariants.{Uncompressed}
 use Rattle.puffin_frames.specs.declared.frame_data.frame.FrameData.{FrameData}
-use Rattle.puffin_frames.specs.declared.frame_data.held.Held.{Held}
-use Rattle.puffin_frames.specs.declared.frame_data.held.Held.TheVariants.{Own, Shared, Packed, Both}
-use Rattle.puffin_frames.specs.Frame.Variants.{HasMeta}
 use Rattle.puffin_frames.specs.declared.frame_data.meta.FrameMeta.{FrameMeta}
-use Rattle.puffin_frames.specs.Frame.Contents.{packet_fields}
-use Rattle.puffin_frames.specs.Packet.Stored.{Stored}
+use Rattle.puffin_frames.specs.declared.frame_data.unpacked.UnpackedFrameData.{UnpackedFrameData}
+use Rattle.puffin_frames.specs.Frame.Contents.{packet_fields, streams_held, streams_in_fields}
+use Rattle.puffin_frames.specs.Packet.Stored.{PacketFields, Stored}
 use Rattle.puffin_frames.specs.Packet.Next.{stored_of, IsFresh}
-use Rattle.puffin_view.specs.View.ViewedFrames.{Frame, fields_of}
-use Rattle.puffin_view.specs.View.FrameOf.{frame_of}
-use Rattle.puffin_view.specs.View.File.{frame_stored, file_at, FailsToRead}
+use Rattle.puffin_view.specs.View.File.{file_at, FailsToRead}
 use Rattle.puffin_view.specs.View.FrameFile.{frame_at, HasGiven}
-use Rattle.puffin_look.specs.OpenFrame.{OpenFrame, opened, opened_fields, AreOpened}
+use Rattle.puffin_view.proofs.lemmas.FrameStreams.{said_fresh}
+use Rattle.puffin_look.specs.OpenFrame.{OpenFrame, open_of, opened, opened_with, opened_fields, AreOpened}
 use Rattle.puffin_look.specs.Wanted.{is_within, frames_within}
 use Rattle.puffin_look.specs.declared.wanted.Indices.{Indices}
 use Rattle.puffin_look.specs.Printed.{IsRefused, HasFaultBehind, IsStopped}
@@ -34,23 +28,10 @@ pub if_err_so : {T E : Type 0} {P Q : E → Type 0} (r : Result T E) → ((e : E
 if_err_so (Ok x) step h = tt
 if_err_so (Err e) step h = step e h
 
--- ---- a frame that was read, as a view sees it
+-- ---- a frame that was read
 
-abbrev first_said : FrameMeta → Form → List ℕ → List Details → Frame
-first_said m form streams ds = record { fields = record { meta = m; form = form; kind = Uncompressed; streams = streams; details = ds }; is_unpacked = true; is_packed = false }
-
-true_is_not_false : true ≡ false → ⊥
-true_is_not_false e = cc
-
-fresh_by : (frame : FrameData) (h : Held) (same : HasMeta h frame.meta) → IsFresh (record frame { held = h; same_meta = same }) → frame_of (record frame { held = h; same_meta = same }) ≡ frame_stored (stored_of (record frame { held = h; same_meta = same }))
-fresh_by frame (Own u) same fresh = ap (first_said _ _ _) (fresh.no_details refl)
-fresh_by frame (Shared u) same fresh = ap (first_said _ _ _) (fresh.no_details refl)
-fresh_by frame (Packed p) same fresh = refl
-fresh_by frame (Both b) same fresh = absurd (true_is_not_false fresh.one_way)
-
--- what it says
-pub said_fresh : (frame : FrameData) → IsFresh frame → packet_fields frame ≡ fields_of (frame_stored (stored_of frame))
-said_fresh frame fresh = ap fields_of (fresh_by frame frame.held frame.same_meta fresh)
+pub opened_so : (c : PacketFields) (u : UnpackedFrameData) → streams_in_fields c ≡ Ok (streams_held u) → u.meta ≡ c.meta → opened_fields c ≡ Ok (open_of u)
+opened_so c u is meta = ap (opened_with c) is ∙ ap (λ (m : FrameMeta). Ok (record { meta = m; streams = streams_held u })) (sym meta)
 
 -- what it is opened as
 pub opened_fresh : (frame : FrameData) → IsFresh frame → opened_fields (packet_fields frame) ≡ opened (stored_of frame)
@@ -76,7 +57,7 @@ within_more (Some i) xs ys = filter-append (λ f. is_within (Some i) f.meta.fram
 
 -- one that has another index
 pub none_left_in : (i : Option Indices) (f : OpenFrame) → is_within i f.meta.frame_index ≡ false → [] ≡ frames_within i (f ∷ [])
-none_left_in None f other = absurd (true_is_not_false other)
+none_left_in None f other = absurd (true≢false other)
 none_left_in (Some i) f other = sym (ap (λ (b : Bool). if b then f ∷ [] else []) other)
 
 pub one_left_in : (i : Option Indices) (f : OpenFrame) → is_within i f.meta.frame_index ≡ true → f ∷ [] ≡ frames_within i (f ∷ [])

@@ -20,7 +20,7 @@ use Rattle.puffin_look.specs.inner.Taken.{fails_outside}
 use Rattle.puffin_look.specs.declared.page_choice.PageLimits.{PageLimits}
 use Rattle.puffin_look.specs.declared.page_choice.Row.{Row}
 use Rattle.puffin_look.specs.declared.page_choice.Rows.{Rows}
-use Rattle.puffin_look.proofs.Listed.{said_fresh}
+use Rattle.puffin_view.proofs.lemmas.FrameStreams.{said_fresh}
 use Rattle.puffin_look.proofs.ThreadsPrinted.{not_outside}
 
 -- ---- one frame more

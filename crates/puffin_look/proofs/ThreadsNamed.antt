@@ -7,9 +7,9 @@ use Rattle.puffin_data.specs.declared.file_error.FileError.{FileError}
 use Rattle.puffin_threads.specs.declared.thread_profiler.thread_info.ThreadInfo.{ThreadInfo}
 use Rattle.puffin_threads.specs.Thread.ThreadKey.{ThreadKey, key_of, thread_cmp, by_key, key_entries}
 use Rattle.puffin_frames.proofs.lemmas.Keyed.{entries-by_key}
-use Rattle.puffin_look.specs.declared.threads.ThreadTotals.{ThreadTotals}
-use Rattle.puffin_look.specs.declared.threads.Threads.{Threads}
-use Rattle.puffin_look.specs.ThreadLines.{Totals}
+use Rattle.puffin_view.specs.declared.thread_totals.ThreadTotals.{ThreadTotals}
+use Rattle.puffin_view.specs.declared.thread_totals.AllTotals.{AllTotals}
+use Rattle.puffin_view.specs.ThreadTotals.{Totals}
 use Rattle.puffin_look.specs.ThreadNames.{or_else, threads_named, AreNamed}
 use Rattle.puffin_look.specs.inner.Taken.{fails_outside}
 use Rattle.puffin_look.proofs.ThreadsPrinted.{Ends, read_to_end}
@@ -26,7 +26,7 @@ found_all f found all it none so_far sorted =
     sym (append-nil found) ∙ sym (ap (λ (es : List Entry). found ++ filter f (keys_in es)) none) ∙ so_far
     ∙ ap (λ (es : List (ThreadKey × ThreadTotals)). filter f (map (λ e. e.0) es)) (sym (entries-by_key all sorted))
 
-module _ (old new : Threads) (unread left before mid : Option (List ℕ)) (empty : by_key old.totals.entries ≡ tree.empty) (word : List ℕ) (found : List ThreadKey) (is : found ≡ threads_named word (map (λ e. e.0) (tree.entries (by_key new.totals.entries)))) where
+module _ (old new : AllTotals) (unread left before mid : Option (List ℕ)) (empty : by_key old.totals.entries ≡ tree.empty) (word : List ℕ) (found : List ThreadKey) (is : found ≡ threads_named word (map (λ e. e.0) (tree.entries (by_key new.totals.entries)))) where
   named_in : (totals : Totals) → by_key new.totals.entries ≡ totals → found ≡ threads_named word (map (λ e. e.0) (tree.entries totals))
   named_in totals same = is ∙ ap (λ (m : Totals). threads_named word (map (λ e. e.0) (tree.entries m))) same
 

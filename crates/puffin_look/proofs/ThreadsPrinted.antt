@@ -13,23 +13,24 @@ use Rattle.puffin_threads.specs.Thread.ThreadKey.{by_key}
 use Rattle.puffin_view.specs.View.File.{file_at, TookFrames, FailsToRead}
 use Rattle.puffin_look.specs.OpenFrame.{OpenFrame, AreOpened}
 use Rattle.puffin_look.specs.Printed.{Begins, HasFaultBehind, IsRefused, IsPrinted, IsStopped, RefusesNone}
-use Rattle.puffin_look.specs.ThreadLines.{Totals, totals_of, thread_list, IsThreadList}
+use Rattle.puffin_look.specs.ThreadLines.{totals_of, thread_list, IsThreadList}
 use Rattle.puffin_look.specs.declared.lines.Form.{Form}
 use Rattle.puffin_look.specs.inner.Taken.{TakesTotals, fails_outside}
 use Rattle.puffin_look.specs.inner.Listings.{ListsAll, StopsBehind, StopsListing}
-use Rattle.puffin_look.specs.declared.threads.Threads.{Threads}
+use Rattle.puffin_view.specs.declared.thread_totals.AllTotals.{AllTotals}
+use Rattle.puffin_view.specs.ThreadTotals.{Totals}
 
-abbrev pub none : Threads → List ℕ
+abbrev pub none : AllTotals → List ℕ
 none v = []
 
-abbrev pub refused : Threads → OpenFrame → Error → Type 0
+abbrev pub refused : AllTotals → OpenFrame → Error → Type 0
 refused v frame cause = ⊥
 
 nothing_joined : (xs ys : List ℕ) → xs ++ ys ≡ [] → xs ≡ []
 nothing_joined [] ys e = refl
 nothing_joined (x ∷ xs) ys e = absurd (cc)
 
-module _ (old new : Threads) (unread left before mid : Option (List ℕ)) where
+module _ (old new : AllTotals) (unread left before mid : Option (List ℕ)) where
   -- the totals are those of the frames that were read, and nothing was written
   pub record AreRead : Type 0 where
     pub stored : List Stored
@@ -64,7 +65,7 @@ module _ (old new : Threads) (unread left before mid : Option (List ℕ)) where
       h.took,
     )
 
-    moved : (state : Threads) (frames : List OpenFrame) (more : List ℕ) → state ≡ new → TakesTotals old frames more state → TakesTotals old frames more new
+    moved : (state : AllTotals) (frames : List OpenFrame) (more : List ℕ) → state ≡ new → TakesTotals old frames more state → TakesTotals old frames more new
     moved state frames more same t = subst (TakesTotals old frames more) same t
 
     module _ (e : FileError) (h : StopsBehind none TakesTotals refused None old new unread left before mid e) where
@@ -114,7 +115,7 @@ module _ (old new : Threads) (unread left before mid : Option (List ℕ)) where
           begins = inl refl;
           frames = [];
           opens = tt;
-          totals = ap (λ (v : Threads). by_key v.totals.entries) h.same ∙ empty;
+          totals = ap (λ (v : AllTotals). by_key v.totals.entries) h.same ∙ empty;
           written = h.written;
         },
         inr (h.fails, refl),
@@ -195,7 +196,7 @@ pub not_outside : (e : FileError) → fails_outside {X = Unit {0}} (Err e) ≡ f
 not_outside e h (inl io) = not_io (Err e) h (ap Err io)
 not_outside e h (inr memory) = not_memory e h memory
 
-module _ (old new : Threads) (unread left before mid : Option (List ℕ)) (empty : by_key old.totals.entries ≡ tree.empty) where
+module _ (old new : AllTotals) (unread left before mid : Option (List ℕ)) (empty : by_key old.totals.entries ≡ tree.empty) where
   -- what a listing of threads ends with
   pub Ends : Result (Unit {0}) FileError → Type 0
   Ends r = OnOk r (ListsAll none TakesTotals None old new unread left before mid) × IfErr r (StopsListing none TakesTotals refused None old new unread left before mid)

@@ -4,11 +4,10 @@ use Rattle.puffin_data.specs.declared.file_error.FileError.{FileError}
 use Rattle.puffin_frames.specs.declared.frame_data.meta.FrameMeta.{FrameMeta}
 use Rattle.puffin_frames.specs.declared.frame_data.unpacked.UnpackedFrameData.{UnpackedFrameData}
 use Rattle.puffin_frames.specs.Frame.Streams.{Streams}
-use Rattle.puffin_frames.specs.Frame.Contents.{streams_held}
+use Rattle.puffin_frames.specs.Frame.Contents.{streams_held, streams_in_fields}
 use Rattle.puffin_frames.specs.Packet.Stored.{PacketFields, Stored}
 use Rattle.puffin_view.specs.View.ViewedFrames.{fields_of}
 use Rattle.puffin_view.specs.View.File.{frame_stored}
-use Rattle.puffin_frames.specs.Frame.Holding.{unpacking}
 
 -- a frame's totals, and its streams by thread
 pub record OpenFrame : Type 0 where
@@ -25,8 +24,7 @@ opened_with c (Err fault) = Err fault
 
 -- a frame with these fields, or why its streams can't be unpacked
 abbrev pub opened_fields : PacketFields → Result OpenFrame FileError
-opened_fields c =
-    opened_with c (unpacking (record { form = c.form; kind = c.kind; bytes = c.streams }))
+opened_fields c = opened_with c (streams_in_fields c)
 
 -- the same of a frame that was read
 abbrev pub opened : Stored → Result OpenFrame FileError

@@ -1,7 +1,6 @@
 //! Reads a file one frame at a time, and prints each frame.
 
-ghost use Rattle.std.specs.Prelude.{◌≡◌, ◌⊎◌, ◌+◌, ◌++◌, ◌∷◌, [], List, ℕ, Option, true, ◌≢◌, Ok, Err, IfOk, IfErr, OnOk};
-ghost use Rattle.std.specs.Arc.{arc_value};
+ghost use Rattle.std.specs.Prelude.{◌≡◌, ◌⊎◌, ◌+◌, ◌++◌, ◌∷◌, [], List, ℕ, Option, true, ◌≢◌, Ok, Err, IfErr, OnOk};
 ghost use Rattle.puffin_data.specs.declared.error.Error.{Error};
 ghost use Rattle.puffin_data.specs.Device.{CanFail, TookNothing};
 ghost use Rattle.puffin_view.specs.View.FrameFile.{HasGiven};
@@ -16,7 +15,6 @@ use puffin_data::{Error, FileError, Result as Answer};
 use puffin_frames::frame_data::{FrameData, UnpackedFrameData};
 use puffin_view::profile_view::{next_frame, read_magic};
 use std::alloc::Global;
-use std::sync::Arc;
 
 /// Makes the text of frames, one after the other.
 pub(crate) trait Listing {
@@ -57,17 +55,6 @@ pub(crate) trait Listing {
         takes u xs s v → takes v ys t w → takes u (xs ++ ys) (s ++ t) w };
 }
 
-/// Returns the unpacked data of a frame. Packed bytes are decoded where they are, and not copied.
-#[tactic(auto, using(puffin_frames::proofs::lemmas::FramesAgain::frame_again))]
-fn unpacked(frame: &mut FrameData) -> Result<Arc<UnpackedFrameData>, FileError>
-    ensures ok { IfOk result (λ unpacked. opened_fields (packet_fields frame.old)
-        ≡ Ok (open_of (arc_value unpacked))) }
-    ensures err { IfErr result (λ e.
-        (e ≡ FileError.Memory) ⊎ (opened_fields (packet_fields frame.old) ≡ Err e)) }
-{
-    frame.unpacked()
-}
-
 /// Adds a frame to a listing, if its index is one of these.
 fn add_wanted<L: Listing>(
     listing: &mut L,
@@ -93,6 +80,7 @@ fn add_wanted<L: Listing>(
 /// Adds a frame that was read to a listing, unpacked, if its index is one of these.
 ///
 /// Fails with `Compressed` or `BadStreams` if it can't be unpacked, with `Refused` if the listing refuses it, and with `Memory`.
+#[tactic(auto, using(puffin_view::proofs::lemmas::FrameStreams::not_decided))]
 fn add_frame<L: Listing>(
     listing: &mut L,
     frame: FrameData,
@@ -107,7 +95,7 @@ fn add_frame<L: Listing>(
     ensures cause { IfErr result (λ e. e ≢ FileError.Io) }
 {
     let mut frame = frame;
-    let unpacked = unpacked(&mut frame)?;
+    let unpacked = frame.unpacked()?;
     Ok(add_wanted(listing, &unpacked, indices)?)
 }
 

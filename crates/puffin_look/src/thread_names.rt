@@ -8,12 +8,12 @@ ghost use Rattle.puffin_threads.specs.Thread.ThreadKey.{by_key, key_of};
 ghost use Rattle.puffin_look.specs.ThreadNames.{is_named, threads_named, AreNamed};
 
 use crate::listing::list_frames;
-use crate::threads::{Threads, fails_outside, push_thread};
+use crate::threads::{fails_outside, push_thread};
 use puffin_data::data::{Drain, Source};
 use puffin_data::{FileError, Result as Answer};
 use puffin_threads::thread_profiler::ThreadInfo;
+use puffin_view::thread_totals::AllTotals;
 use std::alloc::{AllocError, Global};
-use std::collections::BTreeMap;
 use std::io;
 
 /// A writer to which nothing is written.
@@ -86,7 +86,7 @@ fn threads_with(
     alloc: Global,
     naming: Naming,
     word: &str,
-    threads: &Threads,
+    threads: &AllTotals,
 ) -> Answer<Vec<ThreadInfo>>
     ensures ok { IfOk result (λ found. map key_of found.items
         ≡ filter (is_named naming word.now) (
@@ -103,7 +103,7 @@ fn threads_with(
 }
 
 /// Returns the threads that a word names in the first way in which it names one. Fails only with `Memory`.
-fn threads_under(alloc: Global, word: &str, threads: &Threads) -> Answer<Vec<ThreadInfo>>
+fn threads_under(alloc: Global, word: &str, threads: &AllTotals) -> Answer<Vec<ThreadInfo>>
     ensures ok { IfOk result (λ found. map key_of found.items
         ≡ threads_named word.now (
         map (λ e. e.0) (tree.entries (by_key threads.now.totals.entries)))) }
@@ -137,9 +137,7 @@ pub fn threads_named<S: Source>(
     ensures outside { IfErr result IsOutside }
     ensures io { (result ≡ Err FileError.Io) → S.failures source.new ≡ S.failures source.old + 1 }
 {
-    let mut threads = Threads {
-        totals: BTreeMap::new(alloc),
-    };
+    let mut threads = AllTotals::new(alloc);
     let answer = list_frames(alloc, source, &mut Nowhere, None, &mut threads);
     if fails_outside(&answer) {
         answer?;

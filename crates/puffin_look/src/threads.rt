@@ -1,13 +1,12 @@
 //! Lists the threads of a file.
 
-ghost use Rattle.std.specs.Prelude.{◌≡◌, ◌++◌, ◌+◌, ◌⊎◌, map, unwrap_or, OnOk, IfOk, IfErr, IsOkUnless};
+ghost use Rattle.std.specs.Prelude.{◌≡◌, ◌++◌, ◌+◌, ◌⊎◌, map, OnOk, IfOk, IfErr};
 ghost use Rattle.std.specs.FinMap as tree;
-ghost use Rattle.puffin_data.specs.Honesty.{facts_of};
 ghost use Rattle.puffin_data.specs.Device.{CanFail, TookNothing};
 ghost use Rattle.puffin_threads.specs.Thread.ThreadKey.{by_key, key_of};
 ghost use Rattle.puffin_look.specs.Printed.{IsPrinted, IsStopped, RefusesNone};
 ghost use Rattle.puffin_look.specs.inner.Taken.{fails_outside};
-ghost use Rattle.puffin_look.specs.ThreadLines.{no_totals, totals_with, with_stream, start_text, thread_word, thread_text, thread_cells, thread_line, thread_list, IsThreadList};
+ghost use Rattle.puffin_look.specs.ThreadLines.{start_text, thread_word, thread_text, thread_cells, thread_line, thread_list, IsThreadList};
 ghost use Rattle.puffin_look.specs.inner.Lining.{Adds};
 ghost use Rattle.puffin_look.specs.inner.Rows.{cell_of};
 
@@ -17,86 +16,15 @@ use crate::listing::{Listing, list_behind};
 use crate::rows::{Cell, Value, add_row};
 use crate::text::push_time;
 use crate::top::length_of;
-use puffin_data::data::{Drain, Source, StreamInfo, write_all};
-use puffin_data::{Error, FileError, NanoSecond, Result as Answer};
+use puffin_data::data::{Drain, Source, write_all};
+use puffin_data::{FileError, Result as Answer};
 use puffin_frames::frame_data::UnpackedFrameData;
 use puffin_threads::thread_profiler::ThreadInfo;
 use puffin_view::profile_view::read_magic;
+use puffin_view::thread_totals::{AllTotals, ThreadTotals};
 use std::alloc::{AllocError, Global};
-use std::collections::BTreeMap;
 
-/// What the frames of a file have of one thread. A sum that doesn't fit `u64` is `u64::MAX`.
-#[derive(Clone, Copy, Debug)]
-pub struct ThreadTotals {
-    /// The number of frames with a stream of the thread.
-    pub frames: u64,
-    /// The number of its scopes.
-    pub scopes: u64,
-    /// The size of its streams, in bytes.
-    pub bytes: u64,
-    /// The least start and the greatest stop of its scopes, in nanoseconds.
-    pub range_ns: (NanoSecond, NanoSecond),
-}
-
-impl ThreadTotals {
-    /// Returns the totals of a thread without frames.
-    fn none() -> ThreadTotals
-        ensures { result ≡ no_totals }
-    {
-        ThreadTotals {
-            frames: 0,
-            scopes: 0,
-            bytes: 0,
-            range_ns: (NanoSecond::MAX, NanoSecond::MIN),
-        }
-    }
-
-    /// Adds the stream of one more frame.
-    fn with(self, info: &StreamInfo) -> ThreadTotals
-        ensures { result ≡ totals_with self (facts_of info.now) }
-    {
-        let (start, stop) = self.range_ns;
-        ThreadTotals {
-            frames: self.frames.saturating_add(1),
-            scopes: self.scopes.saturating_add(info.num_scopes as u64),
-            bytes: self.bytes.saturating_add(info.stream.len() as u64),
-            range_ns: (start.min(info.range_ns.0), stop.max(info.range_ns.1)),
-        }
-    }
-}
-
-/// The totals of all threads.
-#[derive(Drop)]
-pub(crate) struct Threads {
-    pub totals: BTreeMap<ThreadInfo, ThreadTotals>,
-}
-
-impl Threads {
-    /// Returns the totals of a thread so far.
-    fn totals_under(&self, thread: &ThreadInfo) -> ThreadTotals
-        ensures { result ≡ unwrap_or
-            (tree.get (by_key self.now.totals.entries) (key_of thread.now)) no_totals }
-    {
-        match self.totals.get(thread) {
-            Some(totals) => *totals,
-            None => ThreadTotals::none(),
-        }
-    }
-
-    /// Adds a thread's stream of one more frame. Fails only with `Memory`.
-    fn add_stream(&mut self, thread: &ThreadInfo, info: &StreamInfo) -> Answer<()>
-        ensures ok { OnOk result (
-            by_key self.new.totals.entries
-            ≡ with_stream (by_key self.old.totals.entries) (key_of thread.now, facts_of info.now)) }
-        ensures memory { IsOkUnless result Error.Memory }
-    {
-        let totals = self.totals_under(thread).with(info);
-        self.totals.insert(thread.clone()?, totals)?;
-        Ok(())
-    }
-}
-
-impl Listing for Threads {
+impl Listing for AllTotals {
     ghost use Rattle.std.specs.Prelude.{[]};
     ghost use Rattle.puffin_look.specs.inner.Taken.{TakesTotals, totals_none, totals_more};
 
@@ -111,10 +39,7 @@ impl Listing for Threads {
     ghost takes_more = { totals_more };
 
     fn add(&mut self, frame: &UnpackedFrameData) -> Answer<()> {
-        'streams: for (thread, info) in frame.thread_streams.iter() {
-            self.add_stream(thread, info)?;
-        }
-        Ok(())
+        AllTotals::add(self, frame)
     }
 
     fn pending(&self) -> &[u8] {
@@ -188,7 +113,7 @@ fn push_row(
 }
 
 /// Returns the list of all threads.
-fn text_of(alloc: Global, form: Form, threads: &Threads) -> Result<Vec<u8>, AllocError>
+fn text_of(alloc: Global, form: Form, threads: &AllTotals) -> Result<Vec<u8>, AllocError>
     ensures { IfOk result (λ text. text.items
         ≡ thread_list form (tree.entries (by_key threads.now.totals.entries))) }
 {
@@ -234,9 +159,7 @@ pub fn print_threads<S: Source, D: Drain>(
         (S.failures source.new ≡ S.failures source.old)
         × (D.failures drain.new ≡ D.failures drain.old)) }
 {
-    let mut threads = Threads {
-        totals: BTreeMap::new(alloc),
-    };
+    let mut threads = AllTotals::new(alloc);
     read_magic(source)?;
     let answer = list_behind(alloc, source, drain, None, &mut threads);
     if fails_outside(&answer) {

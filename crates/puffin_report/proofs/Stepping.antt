@@ -10,20 +10,13 @@ use Rattle.puffin_data.specs.declared.error.Error.{Error}
 use Rattle.puffin_data.specs.declared.error.Error.TheVariants.{Memory}
 use Rattle.puffin_data.specs.declared.file_error.FileError.{FileError}
 use Rattle.puffin_data.specs.declared.file_error.FileError.TheVariants as file
-use Rattle.puffin_data.specs.declared.data.form.Form.{Form}
 use Rattle.puffin_threads.specs.Thread.ThreadKey.{ThreadKey}
 use Rattle.puffin_threads.specs.Details.{Details}
 use Rattle.puffin_threads.specs.Details.Collection.{Collection, no_details, with_details, with_all_details}
-use Rattle.puffin_frames.specs.declared.frame_data.kind.Kind.TheVariants.{Uncompressed}
 use Rattle.puffin_frames.specs.declared.frame_data.frame.FrameData.{FrameData}
-use Rattle.puffin_frames.specs.declared.frame_data.held.Held.{Held}
-use Rattle.puffin_frames.specs.declared.frame_data.held.Held.TheVariants.{Own, Shared, Packed, Both}
-use Rattle.puffin_frames.specs.Frame.Variants.{HasMeta}
-use Rattle.puffin_frames.specs.declared.frame_data.meta.FrameMeta.{FrameMeta}
 use Rattle.puffin_frames.specs.declared.frame_data.unpacked.UnpackedFrameData.{UnpackedFrameData}
 use Rattle.puffin_frames.specs.Frame.Contents.{packet_fields, frame_meta, frame_details}
 use Rattle.puffin_frames.specs.Packet.Stored.{PacketFields, Stored}
-use Rattle.puffin_frames.specs.Packet.Next.{stored_of, IsFresh}
 use Rattle.puffin_view.specs.View.{after_all, last_index, rises_behind}
 use Rattle.puffin_view.specs.View.ViewedFrames.{Frame, fields_of, frame_index, rising_end, is_rising}
 use Rattle.puffin_view.specs.View.Ranking.{last_from, last_in}
@@ -229,23 +222,6 @@ pub no_io_before : (info : ThreadKey) (stored : List Stored) (s : Summing) (faul
 no_io_before info stored s fault h is =
     let a : all_bytes_in info (kept_of stored) ≡ Err fault = subst (IsProgress info (kept_of stored)) is h.progress in
     never_io info (kept_of stored) fault a
-
--- ---- a frame that was read, as a view sees it
-
-abbrev first_said : FrameMeta → Form → List ℕ → List Details → Frame
-first_said m form streams ds = record { fields = record { meta = m; form = form; kind = Uncompressed; streams = streams; details = ds }; is_unpacked = true; is_packed = false }
-
-true_is_not_false : true ≡ false → ⊥
-true_is_not_false e = cc
-
-fresh_by : (frame : FrameData) (h : Held) (same : HasMeta h frame.meta) → IsFresh (record frame { held = h; same_meta = same }) → frame_of (record frame { held = h; same_meta = same }) ≡ frame_stored (stored_of (record frame { held = h; same_meta = same }))
-fresh_by frame (Own u) same fresh = ap (first_said _ _ _) (fresh.no_details refl)
-fresh_by frame (Shared u) same fresh = ap (first_said _ _ _) (fresh.no_details refl)
-fresh_by frame (Packed p) same fresh = refl
-fresh_by frame (Both b) same fresh = absurd (true_is_not_false fresh.one_way)
-
-pub fresh_frame : (frame : FrameData) → IsFresh frame → frame_of frame ≡ frame_stored (stored_of frame)
-fresh_frame frame fresh = fresh_by frame frame.held frame.same_meta fresh
 
 -- ---- a file is summed up
 

@@ -11,7 +11,7 @@ use Rattle.puffin_threads.specs.Thread.ThreadKey.{ThreadKey}
 use Rattle.puffin_frames.specs.Frame.Streams.{Streams}
 use Rattle.puffin_threads.specs.Details.{Details}
 use Rattle.puffin_threads.specs.Details.Collection.{no_details, with_all_details}
-use Rattle.puffin_frames.specs.Frame.Holding.{unpacking}
+use Rattle.puffin_frames.specs.Frame.Contents.{streams_in_fields}
 use Rattle.puffin_frames.specs.Packet.Stored.{PacketFields, Stored}
 use Rattle.puffin_view.specs.View.File.{fields_in, frame_stored, details_stored, file_at, read_view, TookFrames, FailsToRead}
 use Rattle.puffin_merge.specs.Merge.FrameBytes.{FrameBytes}
@@ -30,10 +30,6 @@ bytes_under info c (Ok streams) =
       stream = option_map stream_in (tree.get streams info);
     })
 bytes_under info c (Err cause) = Err cause
-
--- the streams in a frame's packed bytes, or why they can't be unpacked
-abbrev pub streams_in_fields : PacketFields → Result Streams FileError
-streams_in_fields c = unpacking (record { form = c.form; kind = c.kind; bytes = c.streams })
 
 -- what merging reads of a frame that is packed, or why it can't be unpacked
 abbrev pub bytes_in : ThreadKey → PacketFields → Result FrameBytes FileError

@@ -7,14 +7,14 @@ ghost use Rattle.puffin_data.specs.declared.file_error.FileError.{FileError};
 ghost use Rattle.puffin_data.specs.Device.{IsOutside};
 ghost use Rattle.puffin_frames.specs.declared.frame_data.frame.FrameData.{FrameData};
 ghost use Rattle.puffin_threads.specs.Thread.ThreadKey.{ThreadKey};
-ghost use Rattle.puffin_frames.specs.Frame.Contents.{Streams, holding_of, frame_streams, packet_fields};
+ghost use Rattle.puffin_frames.specs.Frame.Contents.{Streams, holding_of, frame_streams, packet_fields, streams_in_fields};
 ghost use Rattle.puffin_frames.specs.Frame.Holding.{as_packed};
 ghost use Rattle.puffin_frames.specs.Packet.Stored.{Stored};
 ghost use Rattle.puffin_frames.specs.Packet.Grammar.{IsPacked};
 ghost use Rattle.puffin_view.specs.View.{View};
 ghost use Rattle.puffin_view.specs.View.File.{file_of, fields_in, file_at, TookFrames};
 ghost use Rattle.puffin_report.specs.declared.summary.Summary.{Summary};
-ghost use Rattle.puffin_report.specs.Summary.{NoneLacksIds, streams_in_fields, details_said, SumsUp, IsSummary, IsHindered, FailsToSumUp};
+ghost use Rattle.puffin_report.specs.Summary.{NoneLacksIds, details_said, SumsUp, IsSummary, IsHindered, FailsToSumUp};
 ghost use Rattle.puffin_report.specs.ReportLines.{report_lines};
 
 use puffin_frames::frame_data::laws::each_frame_is_read_again;

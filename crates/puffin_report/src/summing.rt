@@ -2,7 +2,6 @@
 
 ghost use Rattle.std.specs.Prelude.{◌≡◌, ◌≢◌, ◌⊎◌, ◌<◌, ◌-◌, ◌^◌, [], ◌∷◌, ◌++◌, List, Ok, Err, IfOk, IfErr, OnOk, length, nat_lt, true, IsOkUnless};
 ghost use Rattle.std.specs.Option.{option_map_or};
-ghost use Rattle.std.specs.Arc.{arc_value};
 ghost use Rattle.puffin_threads.specs.Thread.ThreadKey.{ThreadKey, key_of};
 ghost use Rattle.puffin_threads.specs.Details.Collection.{with_all_details};
 ghost use Rattle.puffin_frames.specs.Packet.Stored.{PacketFields, Stored};
@@ -22,7 +21,6 @@ use puffin_merge::merge::Merger;
 use puffin_threads::scope_details::ScopeCollection;
 use puffin_threads::thread_profiler::ThreadInfo;
 use std::alloc::Global;
-use std::sync::Arc;
 
 /// The merge of the kept frames so far, or what stopped it.
 #[derive(Drop)]
@@ -43,19 +41,6 @@ pub(crate) struct Summing<'i> {
     scopes: ScopeCollection,
     last_index: Option<FrameIndex>,
     progress: Progress<'i>,
-}
-
-/// Returns the unpacked data of a frame. Packed bytes are decoded where they are, and not copied.
-#[tactic(auto, using(puffin_frames::proofs::lemmas::FramesAgain::frame_again))]
-fn unpacked(frame: &mut FrameData) -> Result<Arc<UnpackedFrameData>, FileError>
-    ensures ok { IfOk result (λ unpacked.
-        (info : ThreadKey) →
-        bytes_in info (packet_fields frame.old) ≡ Ok (frame_bytes info (arc_value unpacked))) }
-    ensures err { IfErr result (λ e.
-        (e ≡ FileError.Memory)
-        ⊎ ((info : ThreadKey) → bytes_in info (packet_fields frame.old) ≡ Err e)) }
-{
-    frame.unpacked()
 }
 
 /// Stores the fault of the first frame that can't be unpacked, to be returned at the end of the file. `Memory` isn't a fault of
@@ -99,7 +84,7 @@ impl<'i> Progress<'i> {
         if let Progress::NotUnpacked(fault) = self {
             return Ok(Progress::NotUnpacked(fault));
         }
-        match unpacked(frame) {
+        match frame.unpacked() {
             Ok(unpacked) => self.with_unpacked(&unpacked),
             Err(fault) => not_unpacked(fault),
         }

@@ -3,6 +3,7 @@ use puffin_data::{Error, NanoSecond, Result};
 use puffin_frames::frame_data::{FrameData, FrameIndex};
 use puffin_threads::scope_details::ScopeDetails;
 use puffin_view::profile_view::{FrameStats, FrameView, select_slowest};
+use puffin_view::thread_totals::AllTotals;
 use std::borrow::CowStr;
 use std::process::Abort;
 use std::sync::Arc;
@@ -380,4 +381,35 @@ fn details_without_an_id_change_nothing(rt: HostRuntime) {
     is_refused(&rt, &mut frames, 0, two_details(&rt));
     is_refused(&rt, &mut frames, 1, two_details(&rt));
     is_taken(&rt, &mut frames);
+}
+
+/// Adds frames, which are unpacked.
+fn add_all(rt: &(impl AllocGlobal + Abort), all: &mut AllTotals, frames: &[Arc<FrameData>]) {
+    for frame in frames {
+        let streams = frame.as_unpacked().expect(rt, "streams");
+        all.add(streams).expect(rt, "memory");
+    }
+}
+
+/// The thread `main` with this start has so many frames, scopes and bytes, in this range.
+fn has_totals(
+    rt: &(impl AllocGlobal + Abort),
+    all: &AllTotals,
+    start_ns: Option<NanoSecond>,
+    expected: (u64, u64, u64, (NanoSecond, NanoSecond)),
+) {
+    let thread = thread_info(rt.alloc(), start_ns, "main").expect(rt, "memory");
+    let totals = all.totals.get(&thread).expect(rt, "totals");
+    let found = (totals.frames, totals.scopes, totals.bytes, totals.range_ns);
+    assert!(rt; found == expected);
+}
+
+#[test]
+fn totals_are_by_thread(rt: HostRuntime) {
+    let mut all = AllTotals::new(rt.alloc());
+    add_all(&rt, &mut all, &frames_of(&rt, &[5, 9, 7]));
+    add_all(&rt, &mut all, &[known_frame(&rt, 3), known_frame(&rt, 4)]);
+    assert!(rt; all.totals.len() == 2);
+    has_totals(&rt, &all, None, (3, 3, 93, (0, 9)));
+    has_totals(&rt, &all, Some(100), (2, 2, 70, (100, 300)));
 }

@@ -10,19 +10,19 @@ use Rattle.puffin_look.specs.ThreadLines.{with_frame}
 use Rattle.puffin_look.specs.FrameLines.{frame_row}
 use Rattle.puffin_look.specs.Slowest.{with_row}
 use Rattle.puffin_look.specs.declared.slowest.Slowest.{Slowest}
-use Rattle.puffin_look.specs.declared.threads.Threads.{Threads}
+use Rattle.puffin_view.specs.declared.thread_totals.AllTotals.{AllTotals}
 
 -- ---- threads
 
 -- the totals are those with these frames, and nothing was printed
-pub record TakesTotals (v : Threads) (frames : List OpenFrame) (text : List ℕ) (u : Threads) : Type 0 where
+pub record TakesTotals (v : AllTotals) (frames : List OpenFrame) (text : List ℕ) (u : AllTotals) : Type 0 where
   pub none : text ≡ []
   pub totals : by_key u.totals.entries ≡ fold with_frame (by_key v.totals.entries) frames
 
-pub totals_none : (v : Threads) → TakesTotals v [] [] v
+pub totals_none : (v : AllTotals) → TakesTotals v [] [] v
 totals_none v = record { none = refl; totals = refl }
 
-pub totals_more : (u v w : Threads) (xs ys : List OpenFrame) (s t : List ℕ) → TakesTotals u xs s v →
+pub totals_more : (u v w : AllTotals) (xs ys : List OpenFrame) (s t : List ℕ) → TakesTotals u xs s v →
     TakesTotals v ys t w → TakesTotals u (xs ++ ys) (s ++ t) w
 totals_more u v w xs ys s t a b = record {
   none = ap (λ (r : List ℕ). r ++ t) a.none ∙ b.none;

@@ -1,5 +1,5 @@
 use Rattle.std.proofs.Common.{sym, ◌∙◌}
-use Rattle.puffin_look.proofs.HeldStreams.{len_held}
+use Rattle.puffin_view.proofs.lemmas.FrameStreams.{len_held}
 use Rattle.puffin_look.proofs.frames.thread_count.Goals as goal
 
 pub returns : goal.returns

@@ -6,8 +6,10 @@ use Rattle.puffin_data.specs.declared.error.Error.{Error}
 use Rattle.puffin_data.specs.declared.error.Error.TheVariants.{Memory}
 use Rattle.puffin_data.specs.declared.file_error.FileError.TheVariants as file
 use Rattle.puffin_data.specs.Cause.{file_error_of}
+use Rattle.puffin_frames.specs.Frame.Contents.{packet_fields}
 use Rattle.puffin_look.specs.OpenFrame.{OpenFrame, open_of}
 use Rattle.puffin_look.specs.Wanted.{is_within, frames_within}
+use Rattle.puffin_look.proofs.Listed.{opened_so}
 use Rattle.puffin_look.proofs.listing.add_frame.Goals as goal
 
 -- an error becomes `Memory`, or is told as it is
@@ -21,7 +23,7 @@ returns-clause-ok g c =
     let same = ap open_of c.deref.ensures in
     record {
       frame = open_of (arc_value c.in_ok-unpacked.unpacked);
-      opens = c.in_ok-unpacked.ensures.ok;
+      opens = opened_so (packet_fields c.args.frame) (arc_value c.in_ok-unpacked.unpacked) c.in_ok-unpacked.ensures.unpacked c.in_ok-unpacked.ensures.meta;
       more = added.0;
       pending = added.1;
       taken = subst (λ (f : OpenFrame). g.L.Listing.takes c.args.listing.now (frames_within c.args.indices (f ∷ [])) added.0 c.add_wanted.new.listing) same added.2;
@@ -38,6 +40,6 @@ returns-in_err-add_wanted-clause-err g c =
         | inl memory ↦ inl memory
         | inr is ↦
             let h = subst (λ (f : OpenFrame). (is_within c.args.indices f.meta.frame_index ≡ true) × g.L.Listing.refuses c.args.listing.now f cause) same refused in
-            inr (inr (open_of (arc_value c.in_ok-unpacked.unpacked), cause, c.in_ok-unpacked.ensures.ok, is, h.0, h.1))
+            inr (inr (open_of (arc_value c.in_ok-unpacked.unpacked), cause, opened_so (packet_fields c.args.frame) (arc_value c.in_ok-unpacked.unpacked) c.in_ok-unpacked.ensures.unpacked c.in_ok-unpacked.ensures.meta, is, h.0, h.1))
       ]
     ])

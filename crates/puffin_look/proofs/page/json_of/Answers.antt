@@ -14,7 +14,7 @@ use Rattle.puffin_threads.specs.Thread.ThreadKey.{key_of, thread_cmp}
 use Rattle.puffin_look.specs.Trees.{Entry, AreUnread}
 use Rattle.puffin_look.specs.Page.{head_json, thread_json}
 use Rattle.puffin_look.specs.inner.Pages.{HasMoreRows}
-use Rattle.puffin_look.proofs.HeldStreams.{entry_of, entries_held}
+use Rattle.puffin_view.proofs.lemmas.FrameStreams.{entry_of, entries_held}
 use Rattle.puffin_look.proofs.PagesMade.{making_at, making_more, making_unread, frame_made}
 use Rattle.puffin_look.proofs.page.json_of.Goals as goal
 

@@ -1,6 +1,6 @@
 -- The streams so far were made.
 use Rattle.std.proofs.Common.{map}
-use Rattle.puffin_look.proofs.HeldStreams.{entry_of}
+use Rattle.puffin_view.proofs.lemmas.FrameStreams.{entry_of}
 use Rattle.puffin_look.proofs.PagesMade.{IsMaking}
 use Rattle.puffin_look.proofs.page.json_of.Given as goal
 

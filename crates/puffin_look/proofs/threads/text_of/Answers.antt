@@ -5,7 +5,7 @@ use Rattle.std.specs.Map.{keys_of}
 use Rattle.std.specs.Map.Iter.{deref_pair}
 use Rattle.std.specs.List.Sorted.{IsStrictlySortedBy}
 use Rattle.puffin_threads.specs.Thread.ThreadKey.{thread_cmp}
-use Rattle.puffin_look.proofs.ThreadsTotaled.{line_more, lines_done}
+use Rattle.puffin_look.proofs.ThreadsLined.{line_more, lines_done}
 use Rattle.puffin_look.proofs.threads.text_of.Goals as goal
 
 pub threads-preserved : goal.threads-preserved

@@ -5,7 +5,8 @@ use Rattle.puffin_threads.specs.Thread.ThreadKey.{key_of}
 use Rattle.puffin_frames.specs.Packet.Stored.{Stored}
 use Rattle.puffin_frames.specs.Packet.Next.{stored_of}
 use Rattle.puffin_view.proofs.lemmas.FilesRead.{spent, most_frames}
-use Rattle.puffin_report.proofs.Stepping.{fresh_frame, room_left, none_left, ends_so, if_ok_so, if_err_so}
+use Rattle.puffin_view.proofs.lemmas.FrameStreams.{fresh_frame}
+use Rattle.puffin_report.proofs.Stepping.{room_left, none_left, ends_so, if_ok_so, if_err_so}
 use Rattle.puffin_report.proofs.summary.summarize.Goals as goal
 
 pub returns-in_err-frame-clause-err : goal.returns-in_err-frame-clause-err

@@ -10,7 +10,7 @@ use Rattle.puffin_data.specs.Walk.{IsFault}
 use Rattle.puffin_threads.specs.Thread.ThreadKey.{key_of, thread_cmp}
 use Rattle.puffin_look.specs.OpenFrame.{open_of}
 use Rattle.puffin_look.specs.inner.Foldings.{StepsStack}
-use Rattle.puffin_look.proofs.HeldStreams.{entry_of, entries_held}
+use Rattle.puffin_view.proofs.lemmas.FrameStreams.{entry_of, entries_held}
 use Rattle.puffin_look.proofs.StacksTaken.{folding_at, folding_more, folding_unread, frame_folded, frame_unread}
 use Rattle.puffin_look.proofs.folded.FoldingListing.add.Goals as goal
 

@@ -10,7 +10,7 @@ use Rattle.puffin_data.specs.Walk.{IsFault}
 use Rattle.puffin_threads.specs.Thread.ThreadKey.{key_of, thread_cmp}
 use Rattle.puffin_look.specs.OpenFrame.{open_of}
 use Rattle.puffin_look.specs.inner.FrameTrees.{StepsTree}
-use Rattle.puffin_look.proofs.HeldStreams.{entry_of, entries_held}
+use Rattle.puffin_view.proofs.lemmas.FrameStreams.{entry_of, entries_held}
 use Rattle.puffin_look.proofs.TreesShown.{showing_at, showing_more, showing_unread, frame_shown, frame_unread}
 use Rattle.puffin_look.proofs.frame_tree.TreesListing.add.Goals as goal
 

@@ -1,6 +1,6 @@
 -- The streams so far were shown.
 use Rattle.std.proofs.Common.{map}
-use Rattle.puffin_look.proofs.HeldStreams.{entry_of}
+use Rattle.puffin_view.proofs.lemmas.FrameStreams.{entry_of}
 use Rattle.puffin_look.proofs.TreesShown.{IsShowing}
 use Rattle.puffin_look.proofs.frame_tree.TreesListing.add.Given as goal
 

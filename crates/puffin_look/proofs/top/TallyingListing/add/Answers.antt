@@ -10,7 +10,7 @@ use Rattle.puffin_data.specs.Walk.{IsFault}
 use Rattle.puffin_threads.specs.Thread.ThreadKey.{key_of, thread_cmp}
 use Rattle.puffin_look.specs.OpenFrame.{open_of}
 use Rattle.puffin_look.specs.inner.Tops.{StepsTally}
-use Rattle.puffin_look.proofs.HeldStreams.{entry_of, entries_held}
+use Rattle.puffin_view.proofs.lemmas.FrameStreams.{entry_of, entries_held}
 use Rattle.puffin_look.proofs.TalliesTaken.{tallying_at, tallying_more, tallying_unread, frame_tallied, frame_unread}
 use Rattle.puffin_look.proofs.top.TallyingListing.add.Goals as goal
 

@@ -1,6 +1,6 @@
 -- The streams so far were added.
 use Rattle.std.proofs.Common.{map}
-use Rattle.puffin_look.proofs.HeldStreams.{entry_of}
+use Rattle.puffin_view.proofs.lemmas.FrameStreams.{entry_of}
 use Rattle.puffin_look.proofs.TalliesTaken.{IsTallying}
 use Rattle.puffin_look.proofs.top.TallyingListing.add.Given as goal
 

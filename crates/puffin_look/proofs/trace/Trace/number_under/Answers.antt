@@ -1,6 +1,10 @@
 use Rattle.std.proofs.Common.{sym, ◌∙◌}
-use Rattle.puffin_look.proofs.ThreadsTotaled.{got}
+use Rattle.std.proofs.lemmas.Iterator.Adapters.{option_map_id}
+use Rattle.puffin_threads.specs.Thread.ThreadKey.{key_of, key_cmp}
+use Rattle.puffin_threads.proofs.lemmas.ThreadKeys.{key_cmp_total}
+use Rattle.puffin_threads.proofs.lemmas.EntriesSeen.{get-seen}
 use Rattle.puffin_look.proofs.trace.Trace.number_under.Goals as goal
 
 pub returns : goal.returns
-returns c = c.copied.ensures ∙ sym (got c.args.self.now.numbers.entries c.args.thread.now _ c.get.ensures.value)
+returns c =
+    c.copied.ensures ∙ c.get.ensures.value ∙ sym (option_map_id _) ∙ sym (get-seen key_of (λ x. x) key_cmp key_cmp_total c.args.self.now.numbers.entries (key_of c.args.thread.now))

@@ -12,7 +12,7 @@ use Rattle.puffin_threads.specs.Thread.ThreadKey.{key_of, thread_cmp}
 use Rattle.puffin_look.specs.OpenFrame.{open_of}
 use Rattle.puffin_look.specs.Trace.{frame_event}
 use Rattle.puffin_look.specs.inner.Tracings.{AddsStream}
-use Rattle.puffin_look.proofs.HeldStreams.{entry_of, entries_held}
+use Rattle.puffin_view.proofs.lemmas.FrameStreams.{entry_of, entries_held}
 use Rattle.puffin_look.proofs.Traced.{tracing_at, tracing_more, tracing_unread, frame_traced}
 use Rattle.puffin_look.proofs.trace.TraceListing.add.Goals as goal
 

@@ -1,6 +1,6 @@
 -- The streams so far were traced.
 use Rattle.std.proofs.Common.{map}
-use Rattle.puffin_look.proofs.HeldStreams.{entry_of}
+use Rattle.puffin_view.proofs.lemmas.FrameStreams.{entry_of}
 use Rattle.puffin_look.proofs.Traced.{IsTracing}
 use Rattle.puffin_look.proofs.trace.TraceListing.add.Given as goal
 
