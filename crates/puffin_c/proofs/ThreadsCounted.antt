@@ -1,30 +1,57 @@
--- The totals of threads, frame by frame, and their rows.
-use Rattle.std.proofs.Common.{◌≡◌, ◌⊎◌, inl, inr, ℕ, ◌+◌, List, [], ◌∷◌, ◌++◌, length, Option, Some, ap, sym, ◌∙◌, append_assoc, append-nil, length-append}
-use Rattle.std.specs.Prelude.{fold}
+-- The totals of threads, stream by stream and frame by frame, and their rows.
+use Rattle.std.proofs.Common.{◌≡◌, ◌⊎◌, inl, inr, ℕ, ◌+◌, List, [], ◌∷◌, ◌++◌, length, map, Option, Some, None, refl, ap, sym, ◌∙◌, append_assoc, append-nil, length-append}
+use Rattle.std.specs.Prelude.{fold, unwrap_or}
+use Rattle.std.specs.Option.{option_map}
 use Rattle.std.specs.FinMap as tree
-use Rattle.std.specs.Map.{keys_of}
+use Rattle.std.specs.Map.{keys_of, lookup}
+use Rattle.std.specs.BTreeMap.{is_at, insert_entry}
 use Rattle.std.specs.List.Sorted.{IsStrictlySortedBy}
 use Rattle.std.proofs.lemmas.List.Sums.{fold-append}
 use Rattle.puffin_data.specs.declared.error.Error.TheVariants as error
 use Rattle.puffin_data.specs.declared.file_error.FileError.{FileError}
+use Rattle.puffin_data.specs.Honesty.{StreamFacts}
 use Rattle.puffin_threads.specs.declared.thread_profiler.thread_info.ThreadInfo.{ThreadInfo}
-use Rattle.puffin_threads.specs.Thread.ThreadKey.{key_of, thread_cmp, by_key, key_entries}
+use Rattle.puffin_threads.specs.Thread.ThreadKey.{key_of, key_cmp, thread_cmp, by_key, key_entries}
+use Rattle.puffin_threads.proofs.lemmas.ThreadKeys.{key_cmp_total}
+use Rattle.puffin_threads.proofs.lemmas.EntriesSeen.{get-seen}
 use Rattle.puffin_frames.specs.declared.frame_data.frame.FrameData.{FrameData}
-use Rattle.puffin_frames.specs.Frame.Contents.{packet_fields, streams_in_fields}
+use Rattle.puffin_frames.specs.Frame.Contents.{shared_streams, packet_fields, streams_in_fields}
 use Rattle.puffin_frames.specs.Frame.Streams.{Streams}
 use Rattle.puffin_frames.specs.Packet.Stored.{Stored}
 use Rattle.puffin_frames.specs.Packet.Next.{stored_of, IsFresh}
-use Rattle.puffin_frames.proofs.lemmas.Keyed.{entries-by_key}
+use Rattle.puffin_frames.proofs.lemmas.Keyed.{by_key-insert, entries-by_key}
 use Rattle.puffin_view.specs.View.FrameFile.{HasGiven}
 use Rattle.puffin_c.specs.declared.fault.Fault.{Fault}
 use Rattle.puffin_c.specs.declared.fault.Fault.TheVariants as fault
 use Rattle.puffin_c.specs.Faults.{file_fault}
-use Rattle.puffin_view.specs.declared.thread_totals.ThreadTotals.{ThreadTotals}
+use Rattle.puffin_c.specs.declared.threads.ThreadTotals.{ThreadTotals}
 use Rattle.puffin_c.specs.declared.threads.PuffinFileThread.{PuffinFileThread}
-use Rattle.puffin_view.specs.ThreadTotals.{Totals, with_frame, totals_of}
-use Rattle.puffin_c.specs.Threads.{opened, AreOpened, LacksTotals, thread_row, thread_rows, thread_names}
-use Rattle.puffin_view.proofs.lemmas.FrameStreams.{said_fresh}
+use Rattle.puffin_c.specs.Threads.{Totals, no_totals, totals_with, with_stream, with_frame, totals_of, opened, AreOpened, LacksTotals, thread_row, thread_rows, thread_names}
+use Rattle.puffin_view.proofs.lemmas.FrameStreams.{Held, entry_of, entries_held, said_fresh}
 use Rattle.std.specs.Prelude.{Ok, Err}
+
+same_option : {X : Type 0} (o : Option X) → option_map (λ x. x) o ≡ o
+same_option None = refl
+same_option (Some x) = refl
+
+-- what a map of threads has under a thread
+pub got : {X : Type 0} (es : List (ThreadInfo × X)) (thread : ThreadInfo) (o : Option X) → o ≡ lookup (is_at (thread_cmp thread)) es → tree.get (by_key es) (key_of thread) ≡ o
+got es thread o is = get-seen key_of (λ x. x) key_cmp key_cmp_total es (key_of thread) ∙ same_option _ ∙ sym is
+
+-- one stream more
+pub stream_added : (old new : List (ThreadInfo × ThreadTotals)) (copy thread : ThreadInfo) (before after : ThreadTotals) (r : StreamFacts) → new ≡ insert_entry thread_cmp old copy after → key_of copy ≡ key_of thread
+    → before ≡ unwrap_or (tree.get (by_key old) (key_of thread)) no_totals → after ≡ totals_with before r → by_key new ≡ with_stream (by_key old) (key_of thread, r)
+stream_added old new copy thread before after r is same had with =
+    ap by_key is ∙ by_key-insert old copy after ∙ (λ i. tree.insert (by_key old) (same i) (with i))
+    ∙ ap (λ (t : ThreadTotals). tree.insert (by_key old) (key_of thread) (totals_with t r)) had
+
+pub add_more : (old new : Totals) (e : Held) (rest it : List Held) (total : Totals) → it ≡ e ∷ rest → new ≡ with_stream old (entry_of e) → fold with_stream old (map entry_of it) ≡ total → fold with_stream new (map entry_of rest) ≡ total
+add_more old new e rest it total left step before =
+    ap (λ (m : Totals). fold with_stream m (map entry_of rest)) step ∙ ap (λ (es : List Held). fold with_stream old (map entry_of es)) (sym left) ∙ before
+
+pub all_added : (old new : Totals) (all it : List Held) → it ≡ [] → fold with_stream new (map entry_of it) ≡ fold with_stream old (map entry_of all) → IsStrictlySortedBy thread_cmp (keys_of all) → new ≡ fold with_stream old (tree.entries (shared_streams all))
+all_added old new all it none so_far sorted =
+    sym (ap (λ (es : List Held). fold with_stream new (map entry_of es)) none) ∙ so_far ∙ ap (fold with_stream old) (sym (entries_held all sorted))
 
 -- what it is opened as
 pub opened_fresh : (frame : FrameData) → IsFresh frame → streams_in_fields (packet_fields frame) ≡ opened (stored_of frame)

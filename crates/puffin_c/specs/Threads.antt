@@ -1,25 +1,47 @@
 -- The threads of a file, and what its frames have of each.
-use Rattle.std.specs.Prelude.{◌≡◌, ◌≢◌, ◌⊎◌, ℕ, ◌+◌, List, [], ◌∷◌, ◌++◌, length, Option, Some, Result, Ok, Err, is_some}
+use Rattle.std.specs.Prelude.{◌≡◌, ◌≢◌, ◌⊎◌, ℕ, ◌+◌, List, [], ◌∷◌, ◌++◌, length, fold, Option, Some, Result, Ok, Err, is_some, unwrap_or}
 use Rattle.std.specs.List.{flat_map}
 use Rattle.std.specs.FinMap as map
 use Rattle.puffin_data.specs.declared.error.Error.TheVariants as error
 use Rattle.puffin_data.specs.declared.file_error.FileError.{FileError}
 use Rattle.puffin_data.specs.declared.file_error.FileError.TheVariants as file
-use Rattle.puffin_threads.specs.Thread.ThreadKey.{ThreadKey}
+use Rattle.puffin_data.specs.Honesty.{StreamFacts}
+use Rattle.puffin_threads.specs.Thread.ThreadKey.{ThreadKey, key_cmp}
 use Rattle.puffin_frames.specs.Frame.Streams.{Streams}
 use Rattle.puffin_frames.specs.Frame.Contents.{streams_in_fields}
 use Rattle.puffin_frames.specs.Packet.Stored.{Stored}
 use Rattle.puffin_view.specs.View.ViewedFrames.{fields_of}
 use Rattle.puffin_view.specs.View.File.{file_at, frame_stored, TookFrames, FailsToRead}
 use Rattle.puffin_view.specs.View.FrameFile.{HasGiven}
-use Rattle.puffin_view.specs.declared.thread_totals.ThreadTotals.{ThreadTotals}
-use Rattle.puffin_view.specs.ThreadTotals.{Totals, totals_of}
+use Rattle.puffin_view.specs.View.Stats.{cut}
 use Rattle.puffin_c.specs.declared.fault.Fault.{Fault}
 use Rattle.puffin_c.specs.declared.fault.Fault.TheVariants as fault
 use Rattle.puffin_c.specs.declared.threads.PuffinFileThread.{PuffinFileThread}
 use Rattle.puffin_c.specs.declared.threads.PuffinFileThreadList.{PuffinFileThreadList}
+use Rattle.puffin_c.specs.declared.threads.ThreadTotals.{ThreadTotals}
 use Rattle.puffin_c.specs.Faults.{file_fault}
 use Rattle.puffin_c.specs.Lists.{GetsList, start_given}
+
+abbrev pub no_totals : ThreadTotals
+no_totals = record { frames = 0; scopes = 0 }
+
+-- with the thread's stream of one more frame
+abbrev pub totals_with : ThreadTotals → StreamFacts → ThreadTotals
+totals_with t r = record { frames = cut (t.frames + 1); scopes = cut (t.scopes + r.num_scopes) }
+
+-- the totals of each thread
+abbrev pub Totals : Type 0
+Totals = map.FinMap key_cmp ThreadTotals
+
+abbrev pub with_stream : Totals → ThreadKey × StreamFacts → Totals
+with_stream totals e =
+    map.insert totals e.0 (totals_with (unwrap_or (map.get totals e.0) no_totals) e.1)
+
+abbrev pub with_frame : Totals → Streams → Totals
+with_frame totals streams = fold with_stream totals (map.entries streams)
+
+abbrev pub totals_of : List Streams → Totals
+totals_of frames = fold with_frame map.empty frames
 
 -- the streams of a frame that was read, or why they can't be unpacked
 abbrev pub opened : Stored → Result Streams FileError

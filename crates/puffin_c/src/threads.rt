@@ -1,26 +1,27 @@
 //! Lists the threads of a file.
 
-ghost use Rattle.std.specs.Prelude.{◌≡◌, ◌⊎◌, ◌++◌, ◌∷◌, [], Ok, Err, OnOk, IfOk, IfErr, unwrap_or, length};
+ghost use Rattle.std.specs.Prelude.{◌≡◌, ◌⊎◌, ◌++◌, ◌∷◌, [], Ok, Err, OnOk, IfOk, IfErr, IsOkUnless, unwrap_or, length};
 ghost use Rattle.std.specs.FinMap as map;
 ghost use Rattle.puffin_data.specs.declared.error.Error.TheVariants as error;
 ghost use Rattle.puffin_data.specs.declared.file_error.FileError.{FileError};
+ghost use Rattle.puffin_data.specs.Honesty.{facts_of};
 ghost use Rattle.puffin_threads.specs.Thread.ThreadKey.{by_key, key_of};
-ghost use Rattle.puffin_frames.specs.Frame.Contents.{packet_fields, streams_in_fields};
+ghost use Rattle.puffin_frames.specs.Frame.Contents.{packet_fields, streams_held, streams_in_fields};
 ghost use Rattle.puffin_frames.specs.Frame.Streams.{Streams};
 ghost use Rattle.puffin_c.specs.declared.fault.Fault.TheVariants as fault;
 ghost use Rattle.puffin_c.specs.Faults.{Returns, file_fault};
-ghost use Rattle.puffin_view.specs.ThreadTotals.{with_frame};
-ghost use Rattle.puffin_c.specs.Threads.{thread_row, thread_rows, thread_names, HasTotals, LacksTotals, ListsThreads};
+ghost use Rattle.puffin_c.specs.Threads.{no_totals, totals_with, with_stream, with_frame, thread_row, thread_rows, thread_names, HasTotals, LacksTotals, ListsThreads};
 
 use crate::fault::{Fault, answer_code};
 use crate::lists::give;
 use crate::memory_source::MemorySource;
-use puffin_data::FileError;
-use puffin_frames::frame_data::FrameData;
+use puffin_data::data::StreamInfo;
+use puffin_data::{Error, FileError, Result as Answer};
+use puffin_frames::frame_data::{FrameData, UnpackedFrameData};
 use puffin_threads::thread_profiler::ThreadInfo;
 use puffin_view::profile_view::{next_frame, read_magic};
-use puffin_view::thread_totals::{AllTotals, ThreadTotals};
 use std::alloc::{AllocError, Global};
+use std::collections::BTreeMap;
 
 /// What the frames of a file have of one thread. A sum that doesn't fit is the greatest number.
 #[repr(C)]
@@ -53,37 +54,114 @@ pub struct PuffinFileThreadList<'a> {
     pub num_bytes: u64,
 }
 
-/// Adds a frame that was read. Fails with `Compressed` or `BadStreams` if it can't be unpacked, and with `Memory`.
-#[tactic(auto, using(puffin_view::proofs::lemmas::FrameStreams::not_decided))]
-fn add_packed(threads: &mut AllTotals, frame: FrameData) -> Result<(), Fault>
-    ensures ok { OnOk result (
-        (streams : Streams) × (streams_in_fields (packet_fields frame) ≡ Ok streams)
-        × (by_key threads.new.totals.entries
-        ≡ with_frame (by_key threads.old.totals.entries) streams)) }
-    ensures err { IfErr result (λ f.
-        (f ≡ fault.Refused error.Memory)
-        ⊎ ((e : FileError) × (streams_in_fields (packet_fields frame) ≡ Err e)
-        × (f ≡ file_fault e))) }
-{
-    let mut frame = frame;
-    let data = frame.unpacked()?;
-    threads.add(&data)?;
-    Ok(())
+/// The numbers of a thread's frames and scopes.
+#[derive(Clone, Copy)]
+pub struct ThreadTotals {
+    /// The number of frames that the thread has a stream in.
+    pub frames: u64,
+    /// The number of scopes in all frames.
+    pub scopes: u64,
+}
+
+impl ThreadTotals {
+    /// Returns the totals of a thread without frames.
+    fn none() -> ThreadTotals
+        ensures { result ≡ no_totals }
+    {
+        ThreadTotals {
+            frames: 0,
+            scopes: 0,
+        }
+    }
+
+    /// Adds the stream of one more frame.
+    fn with(self, info: &StreamInfo) -> ThreadTotals
+        ensures { result ≡ totals_with self (facts_of info.now) }
+    {
+        ThreadTotals {
+            frames: self.frames.saturating_add(1),
+            scopes: self.scopes.saturating_add(info.num_scopes as u64),
+        }
+    }
+}
+
+/// The totals of all threads.
+#[derive(Drop)]
+struct Threads {
+    totals: BTreeMap<ThreadInfo, ThreadTotals>,
+}
+
+impl Threads {
+    /// Returns the totals of a thread so far.
+    fn totals_under(&self, thread: &ThreadInfo) -> ThreadTotals
+        ensures { result ≡ unwrap_or
+            (map.get (by_key self.now.totals.entries) (key_of thread.now)) no_totals }
+    {
+        match self.totals.get(thread) {
+            Some(totals) => *totals,
+            None => ThreadTotals::none(),
+        }
+    }
+
+    /// Adds a thread's stream of one more frame. Fails only with `Memory`.
+    fn add_stream(&mut self, thread: &ThreadInfo, info: &StreamInfo) -> Answer<()>
+        ensures ok { OnOk result (
+            by_key self.new.totals.entries
+            ≡ with_stream (by_key self.old.totals.entries) (key_of thread.now, facts_of info.now)) }
+        ensures memory { IsOkUnless result error.Memory }
+    {
+        let totals = self.totals_under(thread).with(info);
+        self.totals.insert(thread.clone()?, totals)?;
+        Ok(())
+    }
+
+    /// Adds all streams of a frame. Fails only with `Memory`.
+    fn add(&mut self, frame: &UnpackedFrameData) -> Answer<()>
+        ensures ok { OnOk result (
+            by_key self.new.totals.entries
+            ≡ with_frame (by_key self.old.totals.entries) (streams_held frame.now)) }
+        ensures memory { IsOkUnless result error.Memory }
+    {
+        'streams: for (thread, info) in frame.thread_streams.iter() {
+            self.add_stream(thread, info)?;
+        }
+        Ok(())
+    }
+
+    /// Adds a frame that was read. Fails with `Compressed` or `BadStreams` if it can't be unpacked, and with `Memory`.
+    #[tactic(auto, using(puffin_view::proofs::lemmas::FrameStreams::not_decided))]
+    fn add_packed(&mut self, frame: FrameData) -> Result<(), Fault>
+        ensures ok { OnOk result (
+            (streams : Streams) × (streams_in_fields (packet_fields frame) ≡ Ok streams)
+            × (by_key self.new.totals.entries
+            ≡ with_frame (by_key self.old.totals.entries) streams)) }
+        ensures err { IfErr result (λ f.
+            (f ≡ fault.Refused error.Memory)
+            ⊎ ((e : FileError) × (streams_in_fields (packet_fields frame) ≡ Err e)
+            × (f ≡ file_fault e))) }
+    {
+        let mut frame = frame;
+        let data = frame.unpacked()?;
+        self.add(&data)?;
+        Ok(())
+    }
 }
 
 /// Reads a file, and returns the totals of its threads.
-fn totals_in(alloc: Global, file: &[u8]) -> Result<AllTotals, Fault>
+fn totals_in(alloc: Global, file: &[u8]) -> Result<Threads, Fault>
     ensures ok { IfOk result (λ threads. HasTotals file.now (by_key threads.totals.entries)) }
     ensures err { IfErr result (LacksTotals file.now) }
 {
-    let mut threads = AllTotals::new(alloc);
+    let mut threads = Threads {
+        totals: BTreeMap::new(alloc),
+    };
     let mut source = MemorySource::new(file);
     read_magic(&mut source)?;
     'frames: for _ in 0..u64::MAX {
         let Some(frame) = next_frame(alloc, &mut source)? else {
             return Ok(threads);
         };
-        add_packed(&mut threads, frame)?;
+        threads.add_packed(frame)?;
     }
     // Not reached: a file has fewer frames than bytes.
     Err(Fault::from(FileError::Truncated))
@@ -122,7 +200,7 @@ impl ThreadList {
 }
 
 /// Lists all threads.
-fn list_of(alloc: Global, threads: &AllTotals) -> Result<ThreadList, AllocError>
+fn list_of(alloc: Global, threads: &Threads) -> Result<ThreadList, AllocError>
     ensures rows { IfOk result (λ list.
         list.rows.items ≡ thread_rows 0 (map.entries (by_key threads.now.totals.entries))) }
     ensures names { IfOk result (λ list.

@@ -5,8 +5,7 @@ use Rattle.puffin_frames.specs.Frame.Streams.{Streams}
 use Rattle.puffin_frames.specs.Packet.Stored.{Stored}
 use Rattle.puffin_threads.specs.Thread.ThreadKey.{by_key}
 use Rattle.puffin_view.specs.View.FrameFile.{HasGiven}
-use Rattle.puffin_view.specs.ThreadTotals.{totals_of}
-use Rattle.puffin_c.specs.Threads.{AreOpened}
+use Rattle.puffin_c.specs.Threads.{AreOpened, totals_of}
 use Rattle.puffin_c.proofs.threads.totals_in.Given as goal
 
 abbrev pub invariant-frames : goal.invariant-frames
