@@ -11,7 +11,7 @@ use std::alloc::Global;
 
 /// Reads a file frame by frame, counts the frames, and sets `offset` to where the last of them ends, and `read` to how far the file
 /// was read.
-fn checked(
+fn check(
     alloc: Global,
     file: &[u8],
     frames: &mut u64,
@@ -57,6 +57,6 @@ pub extern "C" fn puffin_check_file(
 ) -> u32
     ensures { Returns result (IsChecked file.now frames.new offset.new read.new) }
 {
-    let answer = checked(alloc, file, frames, offset, read);
+    let answer = check(alloc, file, frames, offset, read);
     answer_code(answer)
 }

@@ -38,7 +38,7 @@ impl PuffinIds {
 }
 
 /// Makes a set of ids. Fails only with `Memory`.
-fn made(alloc: Global) -> Result<Box<SharedIds>, Fault>
+fn new_ids(alloc: Global) -> Result<Box<SharedIds>, Fault>
     ensures { IsOkUnless result (fault.Refused error.Memory) }
 {
     let Ok(ids) = Arc::new(alloc, ScopeIds::new()) else {
@@ -50,13 +50,14 @@ fn made(alloc: Global) -> Result<Box<SharedIds>, Fault>
     }
 }
 
-fn opened(alloc: Global, ids: &mut PuffinIds) -> Result<(), Fault>
+/// Opens a handle with a new set of ids.
+fn open(alloc: Global, ids: &mut PuffinIds) -> Result<(), Fault>
     ensures { OpensIds (ids_in ids.old) (ids_in ids.new) result }
 {
     if ids.is_open {
         return Err(Fault::IsOpen);
     }
-    let held = made(alloc)?;
+    let held = new_ids(alloc)?;
     ids.put(held);
     Ok(())
 }
@@ -68,11 +69,12 @@ fn opened(alloc: Global, ids: &mut PuffinIds) -> Result<(), Fault>
 pub extern "C" fn puffin_ids_open(alloc: Global, ids: &mut PuffinIds) -> u32
     ensures { Returns result (OpensIds (ids_in ids.old) (ids_in ids.new)) }
 {
-    let answer = opened(alloc, ids);
+    let answer = open(alloc, ids);
     answer_code(answer)
 }
 
-fn closed(alloc: Global, ids: &mut PuffinIds) -> Result<(), Fault>
+/// Closes a handle.
+fn close(alloc: Global, ids: &mut PuffinIds) -> Result<(), Fault>
     ensures { Closes (ids_in ids.old) (ids_in ids.new) result }
 {
     if !ids.is_open {
@@ -89,6 +91,6 @@ fn closed(alloc: Global, ids: &mut PuffinIds) -> Result<(), Fault>
 pub extern "C" fn puffin_ids_close(alloc: Global, ids: &mut PuffinIds) -> u32
     ensures { Returns result (Closes (ids_in ids.old) (ids_in ids.new)) }
 {
-    let answer = closed(alloc, ids);
+    let answer = close(alloc, ids);
     answer_code(answer)
 }

@@ -37,7 +37,8 @@ fn summary_of(alloc: Global, file: &[u8], thread: &ThreadInfo) -> Result<Summary
     summarize(alloc, &mut MemorySource::new(file), thread)
 }
 
-fn file_merged(
+/// Lists the merge of a thread over a file.
+fn merge_file(
     alloc: Global,
     file: &[u8],
     thread: &PuffinThreadName<'_>,
@@ -68,12 +69,12 @@ pub extern "C" fn puffin_merge_file(
 ) -> u32
     ensures { Returns result (MergesFile file.now (key_given thread.now) list.old list.new) }
 {
-    let answer = file_merged(alloc, file, thread, list);
+    let answer = merge_file(alloc, file, thread, list);
     answer_code(answer)
 }
 
 /// Returns the unpacked data of a frame of a view, in which it stays as it is.
-fn opened_copy(frame: &FrameData) -> Result<Arc<UnpackedFrameData>, FileError>
+fn open_copy(frame: &FrameData) -> Result<Arc<UnpackedFrameData>, FileError>
     ensures ok { IfOk result (λ unpacked. (info : ThreadKey) →
         bytes_in info (packet_fields frame.now) ≡ Ok (frame_bytes info (arc_value unpacked))) }
     ensures err { IfErr result (λ e.
@@ -85,7 +86,7 @@ fn opened_copy(frame: &FrameData) -> Result<Arc<UnpackedFrameData>, FileError>
 }
 
 /// Returns the unpacked data of the last `number` recent frames of a view, oldest first.
-fn newest_opened(
+fn open_newest(
     alloc: Global,
     view: &FrameView,
     number: usize,
@@ -98,13 +99,13 @@ fn newest_opened(
 {
     let mut newest = Vec::new(alloc);
     'frames: for frame in view.latest_frames(number) {
-        newest.push(opened_copy(frame)?)?;
+        newest.push(open_copy(frame)?)?;
     }
     Ok(newest)
 }
 
 /// Merges the scopes of a thread over the last `number` recent frames of a view, and lists the merged scopes.
-fn newest_merged(
+fn merge_newest(
     alloc: Global,
     view: &FrameView,
     number: usize,
@@ -116,12 +117,13 @@ fn newest_merged(
     ensures err { IfErr result (
         LacksMerge (key_of thread.now) (newest_fields number view.now)) }
 {
-    let frames = newest_opened(alloc, view, number)?;
+    let frames = open_newest(alloc, view, number)?;
     let merged = merge_scopes_for_thread(alloc, view.scope_collection(), &frames, thread)?;
     Ok(list_of(alloc, &merged)?)
 }
 
-fn view_merged(
+/// Lists the merge of a thread over the newest frames of a profiler's view.
+fn merge_view(
     alloc: Global,
     profiler: &mut PuffinProfiler,
     frames: usize,
@@ -137,7 +139,7 @@ fn view_merged(
     }
     let info = thread.info(alloc)?;
     let whole = profiler.take(alloc);
-    let answer = newest_merged(alloc, &whole.view, frames, &info);
+    let answer = merge_newest(alloc, &whole.view, frames, &info);
     profiler.put(whole);
     answer?.give(list);
     Ok(())
@@ -164,6 +166,6 @@ pub extern "C" fn puffin_merge_view(
         (key_given thread.now) list.old list.new) }
     ensures same_profiler { profiler_in profiler.new ≡ profiler_in profiler.old }
 {
-    let answer = view_merged(alloc, profiler, frames, thread, list);
+    let answer = merge_view(alloc, profiler, frames, thread, list);
     answer_code(answer)
 }

@@ -13,7 +13,7 @@ ghost use Rattle.puffin_c.specs.Naming.{AreTexts, AreNoTexts, place_texts, place
 
 use crate::fault::{Fault, answer_code};
 use crate::handles::PuffinProfiler;
-use crate::texts::{copied, text};
+use crate::texts::{new_string, text};
 use puffin_threads::scope_details::ScopeDetails;
 use std::alloc::Global;
 use std::borrow::CowStr;
@@ -43,18 +43,18 @@ impl<'a> PuffinPlace<'a> {
         let function = text(self.function)?;
         let file = text(self.file)?;
         let mut details = ScopeDetails::default()
-            .with_function_name(CowStr::Owned(copied(alloc, function)?))
-            .with_file(CowStr::Owned(copied(alloc, file)?))
+            .with_function_name(CowStr::Owned(new_string(alloc, function)?))
+            .with_file(CowStr::Owned(new_string(alloc, file)?))
             .with_line_nr(self.line);
         if !name.is_empty() {
-            details.scope_name = Some(CowStr::Owned(copied(alloc, name)?));
+            details.scope_name = Some(CowStr::Owned(new_string(alloc, name)?));
         }
         Ok(details)
     }
 }
 
 /// Registers a scope with these details with an open profiler.
-fn registered(
+fn register(
     alloc: Global,
     profiler: &mut PuffinProfiler,
     details: ScopeDetails,
@@ -71,7 +71,8 @@ fn registered(
     Ok(())
 }
 
-fn place_registered(
+/// Registers a place's details with an open profiler.
+fn register_place(
     alloc: Global,
     profiler: &mut PuffinProfiler,
     place: &PuffinPlace<'_>,
@@ -84,7 +85,7 @@ fn place_registered(
         return Err(Fault::NotOpen);
     }
     let details = place.details(alloc)?;
-    registered(alloc, profiler, details, id)
+    register(alloc, profiler, details, id)
 }
 
 /// Registers a place, where any thread may begin scopes, and sets `id` to its id, which [`puffin_begin`] takes. The next frame lists
@@ -104,7 +105,7 @@ pub extern "C" fn puffin_register(
     ensures { Returns result (RegistersPlace (profiler_in profiler.old) place.now
         (profiler_in profiler.new) id.old id.new) }
 {
-    let answer = place_registered(alloc, profiler, place, id);
+    let answer = register_place(alloc, profiler, place, id);
     answer_code(answer)
 }
 

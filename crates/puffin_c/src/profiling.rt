@@ -15,7 +15,8 @@ use puffin_data::Error;
 use puffin_frames::frame_data::FrameMeta;
 use std::alloc::Global;
 
-fn opened(alloc: Global, profiler: &mut PuffinProfiler, ids: &mut PuffinIds) -> Result<(), Fault>
+/// Opens a handle with a new profiler, which shares these ids.
+fn open(alloc: Global, profiler: &mut PuffinProfiler, ids: &mut PuffinIds) -> Result<(), Fault>
     ensures opens { OpensProfiler (profiler_in profiler.old) (is_some (ids_in ids.old))
         (profiler_in profiler.new) result }
     ensures same_ids { ids_in ids.new ≡ ids_in ids.old }
@@ -47,11 +48,12 @@ pub extern "C" fn puffin_profiler_open(
         (is_some (ids_in ids.old)) (profiler_in profiler.new)) }
     ensures same_ids { ids_in ids.new ≡ ids_in ids.old }
 {
-    let answer = opened(alloc, profiler, ids);
+    let answer = open(alloc, profiler, ids);
     answer_code(answer)
 }
 
-fn closed(alloc: Global, profiler: &mut PuffinProfiler) -> Result<(), Fault>
+/// Closes a handle.
+fn close(alloc: Global, profiler: &mut PuffinProfiler) -> Result<(), Fault>
     ensures { Closes (profiler_in profiler.old) (profiler_in profiler.new) result }
 {
     if !profiler.is_open {
@@ -68,11 +70,12 @@ fn closed(alloc: Global, profiler: &mut PuffinProfiler) -> Result<(), Fault>
 pub extern "C" fn puffin_profiler_close(alloc: Global, profiler: &mut PuffinProfiler) -> u32
     ensures { Returns result (Closes (profiler_in profiler.old) (profiler_in profiler.new)) }
 {
-    let answer = closed(alloc, profiler);
+    let answer = close(alloc, profiler);
     answer_code(answer)
 }
 
-fn reported(
+/// Hands an open thread's closed scopes over to an open profiler.
+fn report(
     alloc: Global,
     thread: &mut PuffinThread,
     profiler: &mut PuffinProfiler,
@@ -114,7 +117,7 @@ pub extern "C" fn puffin_report(
         (thread_in thread.new) (profiler_in profiler.new)) }
     ensures same_switch { scopes_on thread.new ≡ scopes_on thread.old }
 {
-    let answer = reported(alloc, thread, profiler);
+    let answer = report(alloc, thread, profiler);
     answer_code(answer)
 }
 
@@ -128,7 +131,12 @@ fn tell(meta: Option<FrameMeta>, frame: &mut PuffinFrame)
     }
 }
 
-fn taken(alloc: Global, profiler: &mut PuffinProfiler, frame: &mut PuffinFrame) -> Result<(), Fault>
+/// Makes a frame, and describes it.
+fn take_frame(
+    alloc: Global,
+    profiler: &mut PuffinProfiler,
+    frame: &mut PuffinFrame,
+) -> Result<(), Fault>
     ensures { TakesFrame (profiler_in profiler.old) (profiler_in profiler.new) frame.old frame.new
         result }
 {
@@ -161,11 +169,12 @@ pub extern "C" fn puffin_new_frame(
     ensures { Returns result (TakesFrame (profiler_in profiler.old) (profiler_in profiler.new)
         frame.old frame.new) }
 {
-    let answer = taken(alloc, profiler, frame);
+    let answer = take_frame(alloc, profiler, frame);
     answer_code(answer)
 }
 
-fn wanted(alloc: Global, profiler: &mut PuffinProfiler) -> Result<(), Fault>
+/// Makes the next frame list every known scope.
+fn want_snapshot(alloc: Global, profiler: &mut PuffinProfiler) -> Result<(), Fault>
     ensures { Changes (λ q. with_collected q (after_wanting q.collector))
         (profiler_in profiler.old) (profiler_in profiler.new) result }
 {
@@ -186,6 +195,6 @@ pub extern "C" fn puffin_snapshot(alloc: Global, profiler: &mut PuffinProfiler) 
     ensures { Returns result (Changes (λ q. with_collected q (after_wanting q.collector))
         (profiler_in profiler.old) (profiler_in profiler.new)) }
 {
-    let answer = wanted(alloc, profiler);
+    let answer = want_snapshot(alloc, profiler);
     answer_code(answer)
 }

@@ -106,7 +106,8 @@ fn list_of(alloc: Global, form: Form, bytes: &[u8]) -> Answer<ScopeList>
     Ok(list)
 }
 
-fn listed(
+/// Lists the scopes of a stream.
+fn list_scopes(
     alloc: Global,
     bytes: &[u8],
     form: Form,
@@ -136,6 +137,6 @@ pub extern "C" fn puffin_scopes(
 ) -> u32
     ensures { Returns result (ListsScopes (form_given long_texts) bytes.now list.old list.new) }
 {
-    let answer = listed(alloc, bytes, form_of(long_texts), list);
+    let answer = list_scopes(alloc, bytes, form_of(long_texts), list);
     answer_code(answer)
 }

@@ -17,7 +17,12 @@ pub(crate) fn form_of(long_texts: bool) -> Form
 }
 
 /// Walks over the bytes, and sets the counts.
-fn counted(alloc: Global, bytes: &[u8], form: Form, count: &mut PuffinCount) -> Result<(), Fault>
+fn count_scopes(
+    alloc: Global,
+    bytes: &[u8],
+    form: Form,
+    count: &mut PuffinCount,
+) -> Result<(), Fault>
     ensures { IsCounted form bytes.now count.old count.new result }
 {
     let mut tries = 0;
@@ -42,6 +47,6 @@ pub extern "C" fn puffin_count(
 ) -> u32
     ensures { Returns result (IsCounted (form_given long_texts) bytes.now count.old count.new) }
 {
-    let answer = counted(alloc, bytes, form_of(long_texts), count);
+    let answer = count_scopes(alloc, bytes, form_of(long_texts), count);
     answer_code(answer)
 }

@@ -136,7 +136,7 @@ fn source_at(file: &[u8], offset: u64) -> Result<MemorySource<'_>, Fault>
 }
 
 /// Reads the frame at an offset of a file, and sets `next` to where it ends. Returns `None` at the file's end.
-fn frame_read(
+fn read_frame(
     alloc: Global,
     file: &[u8],
     offset: u64,
@@ -154,7 +154,7 @@ fn frame_read(
 
 /// Describes a frame, and lists its streams. Fails with `Compressed` or `BadStreams` if they can't be unpacked, and with `Memory`.
 #[tactic(auto, using(puffin_view::proofs::lemmas::FrameStreams::not_decided))]
-fn told(alloc: Global, frame: FrameData, list: &mut PuffinStreamList<'_>) -> Result<(), Fault>
+fn describe(alloc: Global, frame: FrameData, list: &mut PuffinStreamList<'_>) -> Result<(), Fault>
     ensures ok { OnOk result (TellsStreams (Some frame) list.old list.new) }
     ensures err { IfErr result (λ f.
         (f ≡ fault.Refused error.Memory)
@@ -171,7 +171,7 @@ fn told(alloc: Global, frame: FrameData, list: &mut PuffinStreamList<'_>) -> Res
 }
 
 /// Reads the frame at an offset, describes it, and lists its streams. At the file's end it tells that there is none.
-fn listed(
+fn list_streams(
     alloc: Global,
     file: &[u8],
     offset: u64,
@@ -180,9 +180,9 @@ fn listed(
     ensures { ListsStreams file.now offset list.old list.new result }
 {
     let mut end = 0;
-    match frame_read(alloc, file, offset, &mut end)? {
+    match read_frame(alloc, file, offset, &mut end)? {
         Some(data) => {
-            told(alloc, data, list)?;
+            describe(alloc, data, list)?;
             list.next = end;
             Ok(())
         }
@@ -211,6 +211,6 @@ pub extern "C" fn puffin_frame_streams(
 ) -> u32
     ensures { Returns result (ListsStreams file.now offset list.old list.new) }
 {
-    let answer = listed(alloc, file, offset, list);
+    let answer = list_streams(alloc, file, offset, list);
     answer_code(answer)
 }

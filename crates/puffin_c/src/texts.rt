@@ -38,7 +38,7 @@ fn other_text(bytes: &[u8]) -> Result<&str, Fault>
 }
 
 /// Copies a text. Fails only with `Memory`.
-pub(crate) fn copied(alloc: Global, text: &str) -> Result<String, Fault>
+pub(crate) fn new_string(alloc: Global, text: &str) -> Result<String, Fault>
     ensures ok { IfOk result (λ copy. string_bytes copy ≡ text.now) }
     ensures err { IsOkUnless result (fault.Refused error.Memory) }
 {

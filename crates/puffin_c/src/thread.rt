@@ -13,13 +13,14 @@ use crate::raw_box::RawBox;
 use crate::recorder::Recorder;
 use crate::slot::Slot;
 use crate::stream::form_of;
-use crate::texts::{copied, text};
+use crate::texts::{new_string, text};
 use puffin_data::Error;
 use puffin_data::data::{Form, ScopeId};
 use std::alloc::Global;
 use std::mem;
 
-fn opened(
+/// Opens a handle with a profiler for a new thread, whose scopes are on.
+fn open(
     alloc: Global,
     thread: &mut PuffinThread,
     ids: &mut PuffinIds,
@@ -39,7 +40,7 @@ fn opened(
         return Err(Fault::NotOpen);
     }
     let name = text(name)?;
-    let name = copied(alloc, name)?;
+    let name = new_string(alloc, name)?;
     match Box::new(alloc, Recorder::new(alloc, name, form)) {
         Ok(held) => {
             thread.put(held, true);
@@ -69,11 +70,12 @@ pub extern "C" fn puffin_thread_open(
         × OnErr answer (scopes_on thread.new ≡ scopes_on thread.old)) }
     ensures same_ids { ids_in ids.new ≡ ids_in ids.old }
 {
-    let answer = opened(alloc, thread, ids, name, form_of(long_texts));
+    let answer = open(alloc, thread, ids, name, form_of(long_texts));
     answer_code(answer)
 }
 
-fn closed(alloc: Global, thread: &mut PuffinThread) -> Result<(), Fault>
+/// Closes a handle.
+fn close(alloc: Global, thread: &mut PuffinThread) -> Result<(), Fault>
     ensures { Closes (thread_in thread.old) (thread_in thread.new) result }
 {
     if !thread.is_open {
@@ -90,11 +92,12 @@ fn closed(alloc: Global, thread: &mut PuffinThread) -> Result<(), Fault>
 pub extern "C" fn puffin_thread_close(alloc: Global, thread: &mut PuffinThread) -> u32
     ensures { Returns result (Closes (thread_in thread.old) (thread_in thread.new)) }
 {
-    let answer = closed(alloc, thread);
+    let answer = close(alloc, thread);
     answer_code(answer)
 }
 
-fn discarded(alloc: Global, thread: &mut PuffinThread, scopes: &mut u64) -> Result<(), Fault>
+/// Gives up an open thread's waiting scopes, and tells how many there were.
+fn discard(alloc: Global, thread: &mut PuffinThread, scopes: &mut u64) -> Result<(), Fault>
     ensures discards { Discards (thread_in thread.old) (thread_in thread.new) scopes.old scopes.new
         result }
     ensures same_switch { scopes_on thread.new ≡ scopes_on thread.old }
@@ -124,11 +127,12 @@ pub extern "C" fn puffin_thread_discard(
         scopes.old scopes.new) }
     ensures same_switch { scopes_on thread.new ≡ scopes_on thread.old }
 {
-    let answer = discarded(alloc, thread, scopes);
+    let answer = discard(alloc, thread, scopes);
     answer_code(answer)
 }
 
-fn switched(thread: &mut PuffinThread, is_on: bool) -> Result<(), Fault>
+/// Turns an open thread's scopes on or off.
+fn switch(thread: &mut PuffinThread, is_on: bool) -> Result<(), Fault>
     ensures keeps { Keeps (thread_in thread.old) (thread_in thread.new) result }
     ensures on { OnOk result (scopes_on thread.new ≡ is_on) }
     ensures err { OnErr result (scopes_on thread.new ≡ scopes_on thread.old) }
@@ -151,11 +155,12 @@ pub extern "C" fn puffin_set_scopes_on(thread: &mut PuffinThread, is_on: bool) -
         × OnOk answer (scopes_on thread.new ≡ is_on)
         × OnErr answer (scopes_on thread.new ≡ scopes_on thread.old)) }
 {
-    let answer = switched(thread, is_on);
+    let answer = switch(thread, is_on);
     answer_code(answer)
 }
 
-fn limited(alloc: Global, thread: &mut PuffinThread, bytes: u64) -> Result<(), Fault>
+/// Limits the bytes of an open thread's scopes.
+fn limit(alloc: Global, thread: &mut PuffinThread, bytes: u64) -> Result<(), Fault>
     ensures keeps { Keeps (thread_in thread.old) (thread_in thread.new) result }
     ensures same_switch { scopes_on thread.new ≡ scopes_on thread.old }
 {
@@ -179,7 +184,7 @@ pub extern "C" fn puffin_set_max_bytes(alloc: Global, thread: &mut PuffinThread,
     ensures keeps { Returns result (Keeps (thread_in thread.old) (thread_in thread.new)) }
     ensures same_switch { scopes_on thread.new ≡ scopes_on thread.old }
 {
-    let answer = limited(alloc, thread, bytes);
+    let answer = limit(alloc, thread, bytes);
     answer_code(answer)
 }
 
@@ -189,7 +194,7 @@ const NO_SCOPE: u64 = 0;
 /// Begins no scope, because scopes are off.
 #[cold]
 #[inline(never)]
-fn skipped(thread: &PuffinThread, scope: &mut u64) -> Result<(), Fault>
+fn skip(thread: &PuffinThread, scope: &mut u64) -> Result<(), Fault>
     ensures { Skips (thread_in thread.now) (thread_in thread.now) scope.old scope.new result }
 {
     if !thread.is_open {
@@ -199,8 +204,9 @@ fn skipped(thread: &PuffinThread, scope: &mut u64) -> Result<(), Fault>
     Ok(())
 }
 
+/// Begins a scope, if scopes are on.
 #[inline(always)]
-fn begun(
+fn begin(
     alloc: Global,
     thread: &mut PuffinThread,
     now_ns: i64,
@@ -213,7 +219,7 @@ fn begun(
     ensures same_switch { scopes_on thread.new ≡ scopes_on thread.old }
 {
     if !thread.is_on {
-        return skipped(thread, scope);
+        return skip(thread, scope);
     }
     let Some(id) = ScopeId::new(id) else {
         return Err(Fault::NoId);
@@ -245,13 +251,13 @@ pub extern "C" fn puffin_begin(
         id bytes.now (thread_in thread.new) scope.old scope.new) }
     ensures same_switch { scopes_on thread.new ≡ scopes_on thread.old }
 {
-    let answer = begun(alloc, thread, now_ns, id, bytes, scope);
+    let answer = begin(alloc, thread, now_ns, id, bytes, scope);
     answer_code(answer)
 }
 
 /// Returns the outcome of an end that was refused with this error: none, if the offset is that of no scope.
 #[inline(always)]
-fn unended(scope: u64, cause: Error) -> Result<(), Fault>
+fn refused_end(scope: u64, cause: Error) -> Result<(), Fault>
     ensures ok { OnOk result (scope ≡ no_scope) }
     ensures err { IfErr result (λ f. (f ≡ fault.Refused cause) × (scope ≢ no_scope)) }
 {
@@ -261,8 +267,9 @@ fn unended(scope: u64, cause: Error) -> Result<(), Fault>
     Err(Fault::Refused(cause))
 }
 
+/// Ends the scope at this offset, if it is that of a scope.
 #[inline(always)]
-fn ended(alloc: Global, thread: &mut PuffinThread, now_ns: i64, scope: u64) -> Result<(), Fault>
+fn end(alloc: Global, thread: &mut PuffinThread, now_ns: i64, scope: u64) -> Result<(), Fault>
     ensures ends { Ends (thread_in thread.old) now_ns scope (thread_in thread.new) result }
     ensures same_switch { scopes_on thread.new ≡ scopes_on thread.old }
 {
@@ -275,7 +282,7 @@ fn ended(alloc: Global, thread: &mut PuffinThread, now_ns: i64, scope: u64) -> R
     thread.slot = Slot::of_thread(RawBox::take(recorder));
     match answer {
         Ok(()) => Ok(()),
-        Err(cause) => unended(scope, cause),
+        Err(cause) => refused_end(scope, cause),
     }
 }
 
@@ -296,6 +303,6 @@ pub extern "C" fn puffin_end(
         (thread_in thread.new)) }
     ensures same_switch { scopes_on thread.new ≡ scopes_on thread.old }
 {
-    let answer = ended(alloc, thread, now_ns, scope);
+    let answer = end(alloc, thread, now_ns, scope);
     answer_code(answer)
 }

@@ -7,7 +7,7 @@ ghost use Rattle.puffin_c.specs.Recording.{IsNoText};
 ghost use Rattle.puffin_c.specs.Reporting.{key_given};
 
 use crate::fault::Fault;
-use crate::texts::{copied, text};
+use crate::texts::{new_string, text};
 use puffin_threads::thread_profiler::ThreadInfo;
 use std::alloc::Global;
 
@@ -34,7 +34,7 @@ impl<'a> PuffinThreadName<'a> {
         let name = text(self.name)?;
         Ok(ThreadInfo {
             start_time_ns: self.has_start.then_some(self.start_ns),
-            name: copied(alloc, name)?,
+            name: new_string(alloc, name)?,
         })
     }
 }

@@ -216,7 +216,12 @@ fn list_of(alloc: Global, threads: &Threads) -> Result<ThreadList, AllocError>
     Ok(list)
 }
 
-fn listed(alloc: Global, file: &[u8], list: &mut PuffinFileThreadList<'_>) -> Result<(), Fault>
+/// Lists the threads of a file.
+fn list_threads(
+    alloc: Global,
+    file: &[u8],
+    list: &mut PuffinFileThreadList<'_>,
+) -> Result<(), Fault>
     ensures { ListsThreads file.now list.old list.new result }
 {
     let totals = totals_in(alloc, file)?;
@@ -240,6 +245,6 @@ pub extern "C" fn puffin_file_threads(
 ) -> u32
     ensures { Returns result (ListsThreads file.now list.old list.new) }
 {
-    let answer = listed(alloc, file, list);
+    let answer = list_threads(alloc, file, list);
     answer_code(answer)
 }

@@ -18,7 +18,7 @@ use puffin_data::data::{Form, StreamInfoRef, walk_forest};
 use std::alloc::Global;
 
 /// Counts the scopes of a stream of any origin. Fails with the first fault in the bytes, or with `Memory`.
-fn counted(alloc: Global, form: Form, bytes: &[u8]) -> puffin_data::Result<StreamInfoRef<'_>>
+fn count_scopes(alloc: Global, form: Form, bytes: &[u8]) -> puffin_data::Result<StreamInfoRef<'_>>
     ensures form { IfOk result (λ times. times.form ≡ form) }
     ensures bytes { IfOk result (λ times. times.stream.now ≡ bytes.now) }
     ensures honest { IfOk result (λ times. IsHonestReport times) }
@@ -35,7 +35,8 @@ fn counted(alloc: Global, form: Form, bytes: &[u8]) -> puffin_data::Result<Strea
     })
 }
 
-fn taken(
+/// Hands the scopes of a stream over to an open profiler.
+fn take(
     alloc: Global,
     profiler: &mut PuffinProfiler,
     thread: &PuffinThreadName<'_>,
@@ -49,7 +50,7 @@ fn taken(
         return Err(Fault::NotOpen);
     }
     let info = thread.info(alloc)?;
-    let times = counted(alloc, form, bytes)?;
+    let times = count_scopes(alloc, form, bytes)?;
     let mut whole = profiler.take(alloc);
     let answer = whole.collector.report_user_scopes(info, &times);
     profiler.put(whole);
@@ -80,6 +81,6 @@ pub extern "C" fn puffin_user_scopes(
     ensures { Returns result (TakesOwn (profiler_in profiler.old) (key_given thread.now)
         (form_given long_texts) bytes.now (profiler_in profiler.new)) }
 {
-    let answer = taken(alloc, profiler, thread, bytes, form_of(long_texts));
+    let answer = take(alloc, profiler, thread, bytes, form_of(long_texts));
     answer_code(answer)
 }

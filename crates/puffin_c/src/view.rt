@@ -9,7 +9,8 @@ use crate::fault::{Fault, answer_code};
 use crate::handles::PuffinProfiler;
 use std::alloc::Global;
 
-fn limited(
+/// Limits the frames that an open profiler's view keeps.
+fn limit(
     alloc: Global,
     profiler: &mut PuffinProfiler,
     recent: usize,
@@ -40,11 +41,12 @@ pub extern "C" fn puffin_set_limits(
     ensures { Returns result (Changes (λ q. with_limits q recent slow) (profiler_in profiler.old)
         (profiler_in profiler.new)) }
 {
-    let answer = limited(alloc, profiler, recent, slow);
+    let answer = limit(alloc, profiler, recent, slow);
     answer_code(answer)
 }
 
-fn pending_limited(alloc: Global, profiler: &mut PuffinProfiler, bytes: u64) -> Result<(), Fault>
+/// Limits the bytes that wait for an open profiler's next frame.
+fn limit_pending(alloc: Global, profiler: &mut PuffinProfiler, bytes: u64) -> Result<(), Fault>
     ensures { Keeps (profiler_in profiler.old) (profiler_in profiler.new) result }
 {
     if !profiler.is_open {
@@ -72,11 +74,12 @@ pub extern "C" fn puffin_set_max_pending(
 ) -> u32
     ensures { Returns result (Keeps (profiler_in profiler.old) (profiler_in profiler.new)) }
 {
-    let answer = pending_limited(alloc, profiler, bytes);
+    let answer = limit_pending(alloc, profiler, bytes);
     answer_code(answer)
 }
 
-fn cleared(alloc: Global, profiler: &mut PuffinProfiler) -> Result<(), Fault>
+/// Drops the frames of an open profiler's view.
+fn clear(alloc: Global, profiler: &mut PuffinProfiler) -> Result<(), Fault>
     ensures { Changes without_view (profiler_in profiler.old) (profiler_in profiler.new) result }
 {
     if !profiler.is_open {
@@ -96,6 +99,6 @@ pub extern "C" fn puffin_view_clear(alloc: Global, profiler: &mut PuffinProfiler
     ensures { Returns result (Changes without_view (profiler_in profiler.old)
         (profiler_in profiler.new)) }
 {
-    let answer = cleared(alloc, profiler);
+    let answer = clear(alloc, profiler);
     answer_code(answer)
 }

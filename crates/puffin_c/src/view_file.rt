@@ -10,7 +10,8 @@ use crate::handles::PuffinProfiler;
 use crate::unread::Piece;
 use std::alloc::Global;
 
-fn begun(
+/// Makes a piece of an open profiler anew, and tells its size.
+fn begin(
     alloc: Global,
     profiler: &mut PuffinProfiler,
     piece: Piece,
@@ -34,6 +35,7 @@ fn begun(
     }
 }
 
+/// Copies the next bytes of a piece, as many as fit, and tells how many these are.
 fn read(
     alloc: Global,
     profiler: &mut PuffinProfiler,
@@ -67,7 +69,7 @@ pub extern "C" fn puffin_file_begin(
     ensures { Returns result (Makes piece.File (profiler_in profiler.old) (profiler_in profiler.new)
         size.old size.new) }
 {
-    let answer = begun(alloc, profiler, Piece::File, size);
+    let answer = begin(alloc, profiler, Piece::File, size);
     answer_code(answer)
 }
 
@@ -104,7 +106,7 @@ pub extern "C" fn puffin_frame_begin(
     ensures { Returns result (Makes piece.Packet (profiler_in profiler.old)
         (profiler_in profiler.new) size.old size.new) }
 {
-    let answer = begun(alloc, profiler, Piece::Packet, size);
+    let answer = begin(alloc, profiler, Piece::Packet, size);
     answer_code(answer)
 }
 

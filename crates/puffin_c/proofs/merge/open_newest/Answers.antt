@@ -1,0 +1,33 @@
+-- One frame after the other is unpacked.
+use Rattle.std.proofs.Common.{◌≡◌, [], ◌∷◌, ◌++◌, ap}
+use Rattle.std.proofs.lemmas.Result.{err_from_is_err_and}
+use Rattle.std.proofs.lemmas.Map.Iter.{rest_more}
+use Rattle.puffin_frames.specs.Packet.Stored.{PacketFields}
+use Rattle.puffin_frames.specs.Frame.Contents.{packet_fields}
+use Rattle.puffin_view.specs.View.FrameOf.{shared_frame}
+use Rattle.puffin_view.specs.View.Listings.{recent_left}
+use Rattle.puffin_c.proofs.MergesMade.{opened_next, frames_next, not_opened, all_opened}
+use Rattle.puffin_c.proofs.merge.open_newest.Goals as goal
+
+pub returns-in_err-opened_copy-clause-err : goal.returns-in_err-opened_copy-clause-err
+returns-in_err-opened_copy-clause-err c =
+    let p = err_from_is_err_and c.from_residual.result c.from_residual.ensures.1 in
+    let before = c.frames.invariant in
+    let said : PacketFields = packet_fields c.deref.result.now in
+    let left : recent_left c.frames.frame-iterator ≡ shared_frame c.in-Some.frame.now ∷ recent_left c.next.new.self = rest_more (λ a. shared_frame a.now) _ _ _ _ c.in-Some.is c.next.ensures.steps in
+    rw (p.1, p.2) (not_opened before.0 _ _ before.1 c.frames.newest.items said (shared_frame c.in-Some.frame.now) _ _ left (ap packet_fields c.deref.ensures) before.2 c.in_err-opened_copy.ensures.err)
+
+pub frames-preserved : goal.frames-preserved
+frames-preserved c =
+    let before = c.frames.invariant in
+    let said : PacketFields = packet_fields c.deref.result.now in
+    let left : recent_left c.frames.frame-iterator ≡ shared_frame c.in-Some.frame.now ∷ recent_left c.next.new.self = rest_more (λ a. shared_frame a.now) _ _ _ _ c.in-Some.is c.next.ensures.steps in (
+      before.0 ++ said ∷ [],
+      frames_next before.0 _ _ before.1 said (shared_frame c.in-Some.frame.now) _ left (ap packet_fields c.deref.ensures),
+      opened_next before.0 said c.frames.newest.items _ _ c.in_ok-push.ensures.items before.2 c.in_ok-opened_copy.ensures.ok,
+    )
+
+pub returns-clause-ok : goal.returns-clause-ok
+returns-clause-ok c =
+    let before = c.frames.invariant in
+    all_opened before.0 _ _ before.1 c.frames.newest.items c.in-None.ensures.steps.0 before.2
