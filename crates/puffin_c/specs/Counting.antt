@@ -29,9 +29,9 @@ walk_in count = record {
 -- their first fault, and nothing is changed.
 abbrev pub IsCounted : Form → List ℕ → PuffinCount → PuffinCount → Result (Unit {0}) Fault → Type 0
 IsCounted form bytes old new (Ok _) =
-    (f : Forest) × Spells form bytes f × Counts (walk_in new) f
-IsCounted form bytes old new (Err f) =
+    (forest : Forest) × Spells form bytes forest × Counts (walk_in new) forest
+IsCounted form bytes old new (Err cause) =
     (new ≡ old)
-    × (e : Error)
-    × (f ≡ fault.Refused e)
-    × ((e ≡ error.Memory) ⊎ IsFault form bytes e)
+    × (refusal : Error)
+    × (cause ≡ fault.Refused refusal)
+    × ((refusal ≡ error.Memory) ⊎ IsFault form bytes refusal)

@@ -67,9 +67,12 @@ fault_name (File BadStreams) = codes "PUFFIN_FILE_BAD_STREAMS"
 fault_name (File BadScopes) = codes "PUFFIN_FILE_BAD_SCOPES"
 fault_name (File BadRange) = codes "PUFFIN_FILE_BAD_RANGE"
 fault_name (File PartTooLong) = codes "PUFFIN_FILE_PART_TOO_LONG"
-fault_name (File (file.Refused PrematureEnd)) = codes "PUFFIN_FILE_REFUSED + 256 * PUFFIN_PREMATURE_END"
-fault_name (File (file.Refused InvalidStream)) = codes "PUFFIN_FILE_REFUSED + 256 * PUFFIN_INVALID_STREAM"
-fault_name (File (file.Refused ScopeNeverEnded)) = codes "PUFFIN_FILE_REFUSED + 256 * PUFFIN_SCOPE_NEVER_ENDED"
+fault_name (File (file.Refused PrematureEnd)) =
+    codes "PUFFIN_FILE_REFUSED + 256 * PUFFIN_PREMATURE_END"
+fault_name (File (file.Refused InvalidStream)) =
+    codes "PUFFIN_FILE_REFUSED + 256 * PUFFIN_INVALID_STREAM"
+fault_name (File (file.Refused ScopeNeverEnded)) =
+    codes "PUFFIN_FILE_REFUSED + 256 * PUFFIN_SCOPE_NEVER_ENDED"
 fault_name (File (file.Refused TooLarge)) = codes "PUFFIN_FILE_REFUSED + 256 * PUFFIN_TOO_LARGE"
 fault_name (File (file.Refused MissingId)) = codes "PUFFIN_FILE_REFUSED + 256 * PUFFIN_MISSING_ID"
 fault_name (File (file.Refused TooDeep)) = codes "PUFFIN_FILE_REFUSED + 256 * PUFFIN_TOO_DEEP"

@@ -69,15 +69,15 @@ pub record GetsList {X : Type 0} (rows : List X) (bytes : List ℕ) (old_rows ne
 abbrev pub ListsScopes : Form → List ℕ → PuffinScopeList → PuffinScopeList →
     Result (Unit {0}) Fault → Type 0
 ListsScopes form bytes old new (Ok _) =
-    (f : Forest)
-    × Spells form bytes f
-    × GetsList (scope_rows 0 (nested_in [] f)) (scope_texts (nested_in [] f)) old.rows new.rows
+    (forest : Forest)
+    × Spells form bytes forest
+    × GetsList (scope_rows 0 (nested_in [] forest)) (scope_texts (nested_in [] forest)) old.rows new.rows
     old.bytes new.bytes new.num_rows new.num_bytes
-ListsScopes form bytes old new (Err f) =
+ListsScopes form bytes old new (Err cause) =
     (new ≡ old)
-    × (e : Error)
-    × (f ≡ fault.Refused e)
-    × ((e ≡ error.Memory) ⊎ IsFault form bytes e)
+    × (refusal : Error)
+    × (cause ≡ fault.Refused refusal)
+    × ((refusal ≡ error.Memory) ⊎ IsFault form bytes refusal)
 
 -- ---- the streams of a frame
 
@@ -91,24 +91,25 @@ is_long Long = true
 
 -- a thread's scopes in a frame: its name, and then its stream, begin at this offset
 abbrev pub stream_row : ℕ → ThreadKey × StreamFacts → PuffinStream
-stream_row at e = record {
-  start_ns = start_given e.0.start;
-  scopes = e.1.num_scopes;
-  depth = e.1.depth;
+stream_row at entry = record {
+  start_ns = start_given entry.0.start;
+  scopes = entry.1.num_scopes;
+  depth = entry.1.depth;
   name_at = at;
-  name_size = length e.0.name;
-  stream_at = at + length e.0.name;
-  stream_size = length e.1.bytes;
-  has_start = is_some e.0.start;
-  long_texts = is_long e.1.form;
+  name_size = length entry.0.name;
+  stream_at = at + length entry.0.name;
+  stream_size = length entry.1.bytes;
+  has_start = is_some entry.0.start;
+  long_texts = is_long entry.1.form;
 }
 
 abbrev pub stream_bytes : ThreadKey × StreamFacts → List ℕ
-stream_bytes e = e.0.name ++ e.1.bytes
+stream_bytes entry = entry.0.name ++ entry.1.bytes
 
 abbrev pub stream_rows : ℕ → List (ThreadKey × StreamFacts) → List PuffinStream
 stream_rows at [] = []
-stream_rows at (e ∷ rest) = stream_row at e ∷ stream_rows (at + length (stream_bytes e)) rest
+stream_rows at (entry ∷ rest) =
+    stream_row at entry ∷ stream_rows (at + length (stream_bytes entry)) rest
 
 abbrev pub streams_bytes : List (ThreadKey × StreamFacts) → List ℕ
 streams_bytes entries = flat_map stream_bytes entries
@@ -129,19 +130,19 @@ pub record IsFrameAt (bytes : List ℕ) (offset : ℕ) (next : ℕ) (frame : Opt
 
 -- why there is no frame at an offset of a file
 abbrev pub LacksFrame : List ℕ → ℕ → Fault → Type 0
-LacksFrame bytes offset f =
-    ((f ≡ fault.Refused error.InvalidOffset) × (length bytes < offset))
-    ⊎ ((f ≡ fault.File file.NoMagic)
+LacksFrame bytes offset cause =
+    ((cause ≡ fault.Refused error.InvalidOffset) × (length bytes < offset))
+    ⊎ ((cause ≡ fault.File file.NoMagic)
     × (offset ≡ 0)
     × (left : Option (List ℕ))
     × FailsToRead file_at (Some bytes) left file.NoMagic)
     ⊎ ((from : List ℕ)
     × (left : Option (List ℕ))
-    × (e : FileError)
+    × (file_error : FileError)
     × IsFrom bytes offset from
-    × (f ≡ file_fault e)
-    × (e ≢ file.Io)
-    × FailsAt e (Some from) left frame_at)
+    × (cause ≡ file_fault file_error)
+    × (file_error ≢ file.Io)
+    × FailsAt file_error (Some from) left frame_at)
 
 -- The frame's description and its streams, by thread; or no frame, and only that is told.
 abbrev pub TellsStreams : Option FrameData → PuffinStreamList → PuffinStreamList → Type 0
@@ -160,19 +161,20 @@ TellsStreams None old new =
 
 -- a frame whose streams can't be unpacked, for this reason
 abbrev pub LacksStreams : List ℕ → ℕ → Fault → Type 0
-LacksStreams bytes offset f =
+LacksStreams bytes offset cause =
     (next : ℕ)
     × (frame : FrameData)
-    × (e : FileError)
+    × (file_error : FileError)
     × IsFrameAt bytes offset next (Some frame)
-    × (streams_in_fields (packet_fields frame) ≡ Err e)
-    × (f ≡ file_fault e)
+    × (streams_in_fields (packet_fields frame) ≡ Err file_error)
+    × (cause ≡ file_fault file_error)
 
 -- Reads the frame at an offset of a file, and lists its streams; or is refused, and changes nothing.
 abbrev pub ListsStreams : List ℕ → ℕ → PuffinStreamList → PuffinStreamList →
     Result (Unit {0}) Fault → Type 0
 ListsStreams file offset old new (Ok _) =
     (frame : Option FrameData) × IsFrameAt file offset new.next frame × TellsStreams frame old new
-ListsStreams file offset old new (Err f) =
+ListsStreams file offset old new (Err cause) =
     (new ≡ old)
-    × ((f ≡ fault.Refused error.Memory) ⊎ LacksFrame file offset f ⊎ LacksStreams file offset f)
+    × ((cause ≡ fault.Refused error.Memory) ⊎ LacksFrame file offset cause
+    ⊎ LacksStreams file offset cause)

@@ -45,22 +45,23 @@ nodes_from depth (merged n children others) =
 
 -- a node whose text begins at this offset
 abbrev pub merged_row : ℕ → PlacedNode → PuffinMerged
-merged_row at p = record {
-  start_ns = p.node.start;
-  total_ns = p.node.total;
-  per_frame_ns = p.node.per_frame;
-  max_ns = p.node.greatest;
-  pieces = p.node.pieces;
-  depth = p.depth;
+merged_row at placed = record {
+  start_ns = placed.node.start;
+  total_ns = placed.node.total;
+  per_frame_ns = placed.node.per_frame;
+  max_ns = placed.node.greatest;
+  pieces = placed.node.pieces;
+  depth = placed.depth;
   text_at = at;
-  text_size = length p.node.label.text;
-  id = p.node.label.id;
+  text_size = length placed.node.label.text;
+  id = placed.node.label.id;
 }
 
 -- nodes whose texts begin at this offset, one behind the other
 abbrev pub merged_rows : ℕ → List PlacedNode → List PuffinMerged
 merged_rows at [] = []
-merged_rows at (p ∷ rest) = merged_row at p ∷ merged_rows (at + length p.node.label.text) rest
+merged_rows at (placed ∷ rest) =
+    merged_row at placed ∷ merged_rows (at + length placed.node.label.text) rest
 
 abbrev pub merged_texts : List PlacedNode → List ℕ
 merged_texts nodes = flat_map (λ p. p.node.label.text) nodes
@@ -71,14 +72,14 @@ pub record AppendsNodes (old : MergedList) (nodes : List PlacedNode) (new : Merg
   pub texts : new.texts.items ≡ old.texts.items ++ merged_texts nodes
 
 -- the list of a forest
-pub record IsListOf (f : MergedForest) (list : MergedList) : Type 0 where
-  pub rows : list.rows.items ≡ merged_rows 0 (nodes_from 0 f)
-  pub texts : list.texts.items ≡ merged_texts (nodes_from 0 f)
+pub record IsListOf (forest : MergedForest) (list : MergedList) : Type 0 where
+  pub rows : list.rows.items ≡ merged_rows 0 (nodes_from 0 forest)
+  pub texts : list.texts.items ≡ merged_texts (nodes_from 0 forest)
 
 -- the program gets the list of a forest
 abbrev pub GetsMerged : MergedForest → PuffinMergedList → PuffinMergedList → Type 0
-GetsMerged f old new =
-    GetsList (merged_rows 0 (nodes_from 0 f)) (merged_texts (nodes_from 0 f)) old.rows new.rows
+GetsMerged forest old new =
+    GetsList (merged_rows 0 (nodes_from 0 forest)) (merged_texts (nodes_from 0 forest)) old.rows new.rows
     old.bytes new.bytes new.num_rows new.num_bytes
 
 -- ---- merging a file
@@ -93,49 +94,51 @@ MergesFile file info old new (Ok _) =
     × (summary : Summary)
     × HasSummary info (Some file) left summary
     × GetsMerged (forest_in summary.merged.items) old new
-MergesFile file info old new (Err f) =
+MergesFile file info old new (Err cause) =
     (new ≡ old)
-    × (((f ≡ fault.NotText) × ¬ (IsUtf8 info.name))
-    ⊎ (IsUtf8 info.name × (e : FileError) × (f ≡ file_fault e) × LacksSummary file info e))
+    × (((cause ≡ fault.NotText) × ¬ (IsUtf8 info.name))
+    ⊎ (IsUtf8 info.name × (file_error : FileError) × (cause ≡ file_fault file_error)
+    × LacksSummary file info file_error))
 
 -- ---- merging a view
 
 -- the contents of the last n recent frames of a view, oldest first
 abbrev pub newest_fields : ℕ → KnownView → List PacketFields
-newest_fields n view = map fields_of (last_of n (view_of view).recent)
+newest_fields number view = map fields_of (last_of number (view_of view).recent)
 
 -- frames with these contents are unpacked, and merged into a forest
 abbrev pub IsMergeOf : ThreadKey → List PacketFields → MergedForest → Type 0
-IsMergeOf info cs f =
-    (streams : List FrameBytes) × (all_bytes_in info cs ≡ Ok streams) × AreMerged streams f
+IsMergeOf info fields forest =
+    (streams : List FrameBytes) × (all_bytes_in info fields ≡ Ok streams) × AreMerged streams forest
 
 -- why there is no merge of frames with these contents: a lack of memory, the first frame that can't be unpacked or, if each can be,
 -- what refuses their merge
 abbrev pub LacksMerge : ThreadKey → List PacketFields → Fault → Type 0
-LacksMerge info cs f =
-    (f ≡ fault.Refused error.Memory)
-    ⊎ ((e : FileError) × (f ≡ file_fault e) × (all_bytes_in info cs ≡ Err e))
+LacksMerge info fields cause =
+    (cause ≡ fault.Refused error.Memory)
+    ⊎ ((file_error : FileError) × (cause ≡ file_fault file_error)
+    × (all_bytes_in info fields ≡ Err file_error))
     ⊎ ((streams : List FrameBytes)
-    × (e : Error)
-    × (f ≡ fault.Refused e)
-    × (all_bytes_in info cs ≡ Ok streams)
-    × IsMergeRefusal streams e)
+    × (file_error : Error)
+    × (cause ≡ fault.Refused file_error)
+    × (all_bytes_in info fields ≡ Ok streams)
+    × IsMergeRefusal streams file_error)
 
 -- Either the handle holds a profiler, the name is UTF-8, and the program gets the merged scopes of the last n recent frames of its
 -- view; or nothing is changed, and the fault is the first that applies.
 abbrev pub MergesView : Option Profiler → ℕ → ThreadKey → PuffinMergedList → PuffinMergedList →
     Result (Unit {0}) Fault → Type 0
-MergesView held n info old new (Ok _) =
-    (p : Profiler)
-    × (f : MergedForest)
-    × (held ≡ Some p)
+MergesView held number info old new (Ok _) =
+    (profiler : Profiler)
+    × (forest : MergedForest)
+    × (held ≡ Some profiler)
     × IsUtf8 info.name
-    × IsMergeOf info (newest_fields n p.view) f
-    × GetsMerged f old new
-MergesView held n info old new (Err f) =
+    × IsMergeOf info (newest_fields number profiler.view) forest
+    × GetsMerged forest old new
+MergesView held number info old new (Err cause) =
     (new ≡ old)
-    × (((f ≡ fault.NotOpen) × (held ≡ None))
-    ⊎ ((p : Profiler)
-    × (held ≡ Some p)
-    × (((f ≡ fault.NotText) × ¬ (IsUtf8 info.name))
-    ⊎ (IsUtf8 info.name × LacksMerge info (newest_fields n p.view) f))))
+    × (((cause ≡ fault.NotOpen) × (held ≡ None))
+    ⊎ ((profiler : Profiler)
+    × (held ≡ Some profiler)
+    × (((cause ≡ fault.NotText) × ¬ (IsUtf8 info.name))
+    ⊎ (IsUtf8 info.name × LacksMerge info (newest_fields number profiler.view) cause))))

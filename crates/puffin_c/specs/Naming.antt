@@ -24,9 +24,9 @@ HasNoText (text ∷ rest) = (¬ (IsUtf8 text)) ⊎ HasNoText rest
 
 -- why texts are refused: the first cause that applies
 abbrev pub AreNoTexts : List (List ℕ) → Fault → Type 0
-AreNoTexts texts f =
-    ((f ≡ fault.NotText) × HasNoText texts)
-    ⊎ ((f ≡ fault.Refused error.Memory) × AreTexts texts)
+AreNoTexts texts cause =
+    ((cause ≡ fault.NotText) × HasNoText texts)
+    ⊎ ((cause ≡ fault.Refused error.Memory) × AreTexts texts)
 
 abbrev pub place_texts : PuffinPlace → List (List ℕ)
 place_texts place = place.name.now ∷ place.function.now ∷ place.file.now ∷ []
@@ -46,43 +46,44 @@ place_details place = record default_details {
 
 -- details with an id become known, and the next frame is to list all that are known
 abbrev pub after_naming : Collected → Details → Collected
-after_naming c d = after_wanting (after_learning c (d ∷ []))
+after_naming collected details = after_wanting (after_learning collected (details ∷ []))
 
 -- A scope isn't registered. Nothing is changed but, if memory ran out, that its details may be known under an id.
 abbrev pub IsUnregistered : Profiler → Details → Profiler → Error → Type 0
-IsUnregistered old d new e =
-    ((e ≡ error.IdsExhausted) × (new ≡ old))
-    ⊎ ((e ≡ error.Memory)
+IsUnregistered old details new refusal =
+    ((refusal ≡ error.IdsExhausted) × (new ≡ old))
+    ⊎ ((refusal ≡ error.Memory)
     × (id : ℕ)
     × (after : Collected)
-    × KnowsSome old.collector (with_id d id ∷ []) after
+    × KnowsSome old.collector (with_id details id ∷ []) after
     × (new ≡ with_collected old after))
 
 -- A scope with these details was registered under this id; or it wasn't.
 abbrev pub Registers : Option Profiler → Details → Option Profiler → ℕ → ℕ →
     Result (Unit {0}) Fault → Type 0
-Registers p d p' before id (Ok _) =
-    (q : Profiler)
-    × (p ≡ Some q)
+Registers held details left before id (Ok _) =
+    (profiler : Profiler)
+    × (held ≡ Some profiler)
     × (0 < id)
-    × (p' ≡ Some (with_collected q (after_naming q.collector (with_id d id))))
-Registers p d p' before id (Err f) =
+    × (left ≡ Some (with_collected profiler (after_naming profiler.collector (with_id details id))))
+Registers held details left before id (Err cause) =
     (id ≡ before)
-    × (e : Error)
-    × (f ≡ fault.Refused e)
-    × (q : Profiler)
+    × (refusal : Error)
+    × (cause ≡ fault.Refused refusal)
+    × (profiler : Profiler)
     × (new : Profiler)
-    × (p ≡ Some q)
-    × (p' ≡ Some new)
-    × IsUnregistered q d new e
+    × (held ≡ Some profiler)
+    × (left ≡ Some new)
+    × IsUnregistered profiler details new refusal
 
 -- The texts of a place are UTF-8, and it is registered or not. Or the call is refused before, with the first fault that applies.
 abbrev pub RegistersPlace : Option Profiler → PuffinPlace → Option Profiler → ℕ → ℕ →
     Result (Unit {0}) Fault → Type 0
-RegistersPlace p place p' before id answer =
-    (AreTexts (place_texts place) × Registers p (place_details place) p' before id answer)
-    ⊎ ((f : Fault)
-    × (answer ≡ Err f)
-    × (p' ≡ p)
+RegistersPlace held place left before id answer =
+    (AreTexts (place_texts place) × Registers held (place_details place) left before id answer)
+    ⊎ ((cause : Fault)
+    × (answer ≡ Err cause)
+    × (left ≡ held)
     × (id ≡ before)
-    × (((f ≡ fault.NotOpen) × (p ≡ None)) ⊎ ((is_some p ≡ true) × AreNoTexts (place_texts place) f)))
+    × (((cause ≡ fault.NotOpen) × (held ≡ None)) ⊎ ((is_some held ≡ true)
+    × AreNoTexts (place_texts place) cause)))

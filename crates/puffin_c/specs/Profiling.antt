@@ -44,66 +44,71 @@ use Rattle.puffin_c.specs.Pieces.{unread_in, pieces_with}
 
 -- the frame that was collected and waits to be added to the view
 abbrev pub waiting_frame : Profiler → Option FrameData
-waiting_frame p = option_map (λ w. arc_value w.frame) p.waiting
+waiting_frame profiler = option_map (λ waiting. arc_value waiting.frame) profiler.waiting
 
 -- the contents of the view's frames, the first with all details that the view knows
 abbrev pub view_fields : Profiler → List PacketFields
-view_fields p = first_with (Some (collection_of p.view)) (fields_in (view_of p.view))
+view_fields profiler =
+    first_with (Some (collection_of profiler.view)) (fields_in (view_of profiler.view))
 
 -- the file of the view
 abbrev pub view_file : Profiler → List ℕ
-view_file p = file_of (view_fields p)
+view_file profiler = file_of (view_fields profiler)
 
 -- the newest frame of the view
 abbrev pub newest_frame : Profiler → Option Frame
-newest_frame p = last_in (view_of p.view).recent
+newest_frame profiler = last_in (view_of profiler.view).recent
 
 -- the packet of the view's newest frame, or no bytes if the view has no recent frame
 abbrev pub newest_packet : Profiler → List ℕ
-newest_packet p = option_map_or (λ f. packet (fields_of f)) (newest_frame p) []
+newest_packet profiler =
+    option_map_or (λ frame. packet (fields_of frame)) (newest_frame profiler) []
 
 -- the newest frame has a part whose length can't be written
 abbrev pub HasLongNewest : Profiler → Type 0
-HasLongNewest p = (f : Frame) × (newest_frame p ≡ Some f) × HasLongPart (fields_of f)
+HasLongNewest profiler =
+    (frame : Frame) × (newest_frame profiler ≡ Some frame) × HasLongPart (fields_of frame)
 
 -- a new profiler: nothing was reported, the view is empty, no frame waits, and no bytes of a file are unread
-pub record IsNew (p : Profiler) : Type 0 where
-  pub collected : p.collector ≡ nothing_collected 0
-  pub view : view_of p.view ≡ empty_view
-  pub waiting : waiting_frame p ≡ None
-  pub file : p.unread.file ≡ []
-  pub packet : p.unread.packet ≡ []
+pub record IsNew (profiler : Profiler) : Type 0 where
+  pub collected : profiler.collector ≡ nothing_collected 0
+  pub view : view_of profiler.view ≡ empty_view
+  pub waiting : waiting_frame profiler ≡ None
+  pub file : profiler.unread.file ≡ []
+  pub packet : profiler.unread.packet ≡ []
 
 -- There are ids, and a handle that held nothing now holds a new profiler. Or nothing is changed, and the fault is the first that
 -- applies.
-abbrev pub OpensProfiler : Option Profiler → Bool → Option Profiler → Result (Unit {0}) Fault → Type 0
+abbrev pub OpensProfiler : Option Profiler → Bool → Option Profiler → Result (Unit {0}) Fault →
+    Type 0
 OpensProfiler old has_ids new (Ok _) =
-    (old ≡ None) × (has_ids ≡ true) × (p : Profiler) × (new ≡ Some p) × IsNew p
-OpensProfiler old has_ids new (Err f) =
+    (old ≡ None) × (has_ids ≡ true) × (profiler : Profiler) × (new ≡ Some profiler) × IsNew profiler
+OpensProfiler old has_ids new (Err cause) =
     (new ≡ old)
-    × (((f ≡ fault.IsOpen) × (is_some old ≡ true))
+    × (((cause ≡ fault.IsOpen) × (is_some old ≡ true))
     ⊎ ((old ≡ None)
-    × (((f ≡ fault.NotOpen) × (has_ids ≡ false))
-    ⊎ ((f ≡ fault.Refused error.Memory) × (has_ids ≡ true)))))
+    × (((cause ≡ fault.NotOpen) × (has_ids ≡ false))
+    ⊎ ((cause ≡ fault.Refused error.Memory) × (has_ids ≡ true)))))
 
--- the profiler with `c` as the state of its collector
+-- the profiler with this state of its collector
 abbrev pub with_collected : Profiler → Collected → Profiler
-with_collected p c = record p { collector = c }
+with_collected profiler collected = record profiler { collector = collected }
 
 -- the profiler with these unread bytes of the view's file, or of a packet
 abbrev pub with_unread : Piece → Profiler → List ℕ → Profiler
-with_unread piece p bytes = record p { unread = pieces_with piece p.unread bytes }
+with_unread piece profiler bytes =
+    record profiler { unread = pieces_with piece profiler.unread bytes }
 
 -- the profiler whose view keeps at most so many recent and slow frames
 abbrev pub with_limits : Profiler → ℕ → ℕ → Profiler
-with_limits p recent slow = record p {
-  view = with_frames p.view (record (view_of p.view) { max_recent = recent; max_slow = slow });
+with_limits profiler recent slow = record profiler {
+  view = with_frames profiler.view (record (view_of profiler.view) { max_recent = recent; max_slow = slow });
 }
 
 -- the profiler whose view has no frames and knows no details, with the same settings
 abbrev pub without_view : Profiler → Profiler
-without_view p = record p {
-  view = record { frames = without_frames (view_of p.view); scope_collection = no_details };
+without_view profiler = record profiler {
+  view = record { frames = without_frames (view_of profiler.view); scope_collection = no_details };
 }
 
 -- ---- reports
@@ -111,58 +116,59 @@ without_view p = record p {
 -- The thread handed over its waiting scopes, if any; or nothing is changed.
 abbrev pub Hands : Option Thread → Option Profiler → Option Thread → Option Profiler →
     Result (Unit {0}) Fault → Type 0
-Hands t p t' p' (Ok _) =
+Hands thread profiler thread_after profiler_after (Ok _) =
     (some : Bool)
     × (old new : Thread)
-    × (q : Profiler)
+    × (held : Profiler)
     × (after : Collected)
-    × (t ≡ Some old)
-    × (t' ≡ Some new)
-    × (p ≡ Some q)
-    × (p' ≡ Some (with_collected q after))
-    × Reports AcceptsReport RefusesReport old new q.collector after (Ok some)
-Hands t p t' p' (Err f) =
-    (t' ≡ t)
-    × (p' ≡ p)
-    × (((f ≡ fault.NotOpen) × ((t ≡ None) ⊎ (p ≡ None)))
-    ⊎ ((e : Error)
-    × (f ≡ fault.Refused e)
+    × (thread ≡ Some old)
+    × (thread_after ≡ Some new)
+    × (profiler ≡ Some held)
+    × (profiler_after ≡ Some (with_collected held after))
+    × Reports AcceptsReport RefusesReport old new held.collector after (Ok some)
+Hands thread profiler thread_after profiler_after (Err cause) =
+    (thread_after ≡ thread)
+    × (profiler_after ≡ profiler)
+    × (((cause ≡ fault.NotOpen) × ((thread ≡ None) ⊎ (profiler ≡ None)))
+    ⊎ ((refusal : Error)
+    × (cause ≡ fault.Refused refusal)
     × (old : Thread)
-    × (q : Profiler)
-    × (t ≡ Some old)
-    × (p ≡ Some q)
-    × Reports AcceptsReport RefusesReport old old q.collector q.collector (Err e)))
+    × (held : Profiler)
+    × (thread ≡ Some old)
+    × (profiler ≡ Some held)
+    × Reports AcceptsReport RefusesReport old old held.collector held.collector (Err refusal)))
 
 -- the facts of a stream of these bytes, which spell a forest
 abbrev pub IsStream : Form → List ℕ → StreamFacts → Type 0
-IsStream form bytes r =
-    (r.form ≡ form) × (r.bytes ≡ bytes) × (f : Forest) × AreHonestFacts r f
+IsStream form bytes facts =
+    (facts.form ≡ form) × (facts.bytes ≡ bytes) × (forest : Forest) × AreHonestFacts facts forest
 
 -- The scopes of a stream are appended under this key. Or nothing is changed: first the name is refused, then the bytes, and then
 -- the scopes. Memory may run out at any time after the name was tested.
 abbrev pub TakesOwn : Option Profiler → ThreadKey → Form → List ℕ → Option Profiler →
     Result (Unit {0}) Fault → Type 0
-TakesOwn p key form bytes p' (Ok _) =
-    (q : Profiler)
+TakesOwn old key form bytes new (Ok _) =
+    (profiler : Profiler)
     × (after : Collected)
-    × (r : StreamFacts)
-    × (p ≡ Some q)
-    × (p' ≡ Some (with_collected q after))
+    × (facts : StreamFacts)
+    × (old ≡ Some profiler)
+    × (new ≡ Some (with_collected profiler after))
     × IsUtf8 key.name
-    × IsStream form bytes r
-    × AcceptsReport q.collector key [] r after
-TakesOwn p key form bytes p' (Err f) =
-    (p' ≡ p)
-    × (((f ≡ fault.NotOpen) × (p ≡ None))
-    ⊎ ((q : Profiler)
-    × (p ≡ Some q)
-    × (((f ≡ fault.NotText) × ¬ (IsUtf8 key.name))
+    × IsStream form bytes facts
+    × AcceptsReport profiler.collector key [] facts after
+TakesOwn old key form bytes new (Err cause) =
+    (new ≡ old)
+    × (((cause ≡ fault.NotOpen) × (old ≡ None))
+    ⊎ ((profiler : Profiler)
+    × (old ≡ Some profiler)
+    × (((cause ≡ fault.NotText) × ¬ (IsUtf8 key.name))
     ⊎ (IsUtf8 key.name
-    × (e : Error)
-    × (f ≡ fault.Refused e)
-    × ((e ≡ error.Memory)
-    ⊎ IsFault form bytes e
-    ⊎ ((r : StreamFacts) × IsStream form bytes r × IsReportRefusal q.collector key [] r e))))))
+    × (refusal : Error)
+    × (cause ≡ fault.Refused refusal)
+    × ((refusal ≡ error.Memory)
+    ⊎ IsFault form bytes refusal
+    ⊎ ((facts : StreamFacts) × IsStream form bytes facts
+    × IsReportRefusal profiler.collector key [] facts refusal))))))
 
 -- ---- frames
 
@@ -216,13 +222,13 @@ IsTaken old new None = HasNone old new × (new.view ≡ old.view) × (new.unread
 -- The call was refused. Either everything pending is kept; or memory ran out after the next frame was collected, and the frame
 -- waits for the next call.
 abbrev pub IsLeft : Profiler → Profiler → Error → Type 0
-IsLeft old new e =
+IsLeft old new refusal =
     (new.unread ≡ old.unread)
     × (((waiting_frame old ≡ None)
     × (waiting_frame new ≡ None)
-    × KeepsPending old.collector e new.collector
+    × KeepsPending old.collector refusal new.collector
     × (new.view ≡ old.view))
-    ⊎ ((e ≡ error.Memory)
+    ⊎ ((refusal ≡ error.Memory)
     × (frame : FrameData)
     × IsNext old frame new.collector
     × (waiting_frame new ≡ Some frame)
@@ -235,65 +241,67 @@ IsTold None before told = told ≡ record before { is_some = false }
 
 abbrev pub TakesFrame : Option Profiler → Option Profiler → PuffinFrame → PuffinFrame →
     Result (Unit {0}) Fault → Type 0
-TakesFrame p p' before told (Ok _) =
+TakesFrame held left before told (Ok _) =
     (old new : Profiler)
     × (meta : Option FrameMeta)
-    × (p ≡ Some old)
-    × (p' ≡ Some new)
+    × (held ≡ Some old)
+    × (left ≡ Some new)
     × IsTaken old new meta
     × IsTold meta before told
-TakesFrame p p' before told (Err f) =
+TakesFrame held left before told (Err cause) =
     (told ≡ before)
-    × (((f ≡ fault.NotOpen) × (p ≡ None) × (p' ≡ None))
-    ⊎ ((e : Error)
-    × (f ≡ fault.Refused e)
+    × (((cause ≡ fault.NotOpen) × (held ≡ None) × (left ≡ None))
+    ⊎ ((refusal : Error)
+    × (cause ≡ fault.Refused refusal)
     × (old new : Profiler)
-    × (p ≡ Some old)
-    × (p' ≡ Some new)
-    × IsLeft old new e))
+    × (held ≡ Some old)
+    × (left ≡ Some new)
+    × IsLeft old new refusal))
 
 -- what an open handle holds is changed so; or the call is refused
 abbrev pub Changes : (Profiler → Profiler) → Option Profiler → Option Profiler →
     Result (Unit {0}) Fault → Type 0
-Changes change p p' (Ok _) = (q : Profiler) × (p ≡ Some q) × (p' ≡ Some (change q))
-Changes change p p' (Err f) = (f ≡ fault.NotOpen) × (p ≡ None) × (p' ≡ None)
+Changes change old new (Ok _) =
+    (profiler : Profiler) × (old ≡ Some profiler) × (new ≡ Some (change profiler))
+Changes change old new (Err cause) = (cause ≡ fault.NotOpen) × (old ≡ None) × (new ≡ None)
 
 -- ---- what a program reads in pieces
 
 -- the view's file, or the packet of its newest frame
 abbrev pub bytes_of : Piece → Profiler → List ℕ
-bytes_of File p = view_file p
-bytes_of Packet p = newest_packet p
+bytes_of File profiler = view_file profiler
+bytes_of Packet profiler = newest_packet profiler
 
 -- it has a part whose length can't be written
 abbrev pub HasLong : Piece → Profiler → Type 0
-HasLong File p = Any HasLongPart (view_fields p)
-HasLong Packet p = HasLongNewest p
+HasLong File profiler = Any HasLongPart (view_fields profiler)
+HasLong Packet profiler = HasLongNewest profiler
 
 -- It is made, and its bytes replace any unread ones of an earlier call; or nothing is changed.
-abbrev pub Makes : Piece → Option Profiler → Option Profiler → ℕ → ℕ → Result (Unit {0}) Fault → Type 0
-Makes piece p p' before size (Ok _) =
-    (q : Profiler)
-    × (p ≡ Some q)
-    × (p' ≡ Some (with_unread piece q (bytes_of piece q)))
-    × (size ≡ length (bytes_of piece q))
-Makes piece p p' before size (Err f) =
-    (p' ≡ p)
+abbrev pub Makes : Piece → Option Profiler → Option Profiler → ℕ → ℕ → Result (Unit {0}) Fault →
+    Type 0
+Makes piece old new before size (Ok _) =
+    (profiler : Profiler)
+    × (old ≡ Some profiler)
+    × (new ≡ Some (with_unread piece profiler (bytes_of piece profiler)))
+    × (size ≡ length (bytes_of piece profiler))
+Makes piece old new before size (Err cause) =
+    (new ≡ old)
     × (size ≡ before)
-    × (((f ≡ fault.NotOpen) × (p ≡ None))
-    ⊎ ((q : Profiler)
-    × (p ≡ Some q)
-    × ((f ≡ fault.Refused error.Memory)
-    ⊎ ((f ≡ fault.File file.PartTooLong) × HasLong piece q))))
+    × (((cause ≡ fault.NotOpen) × (old ≡ None))
+    ⊎ ((profiler : Profiler)
+    × (old ≡ Some profiler)
+    × ((cause ≡ fault.Refused error.Memory)
+    ⊎ ((cause ≡ fault.File file.PartTooLong) × HasLong piece profiler))))
 
 -- The unread bytes, as many as fit, are copied over the beginning of the caller's bytes, and then count as read.
 abbrev pub Reads : Piece → Option Profiler → Option Profiler → List ℕ → List ℕ → ℕ → ℕ →
     Result (Unit {0}) Fault → Type 0
-Reads piece p p' old new before size (Ok _) =
-    (q : Profiler)
-    × (p ≡ Some q)
-    × (size ≡ min (length (unread_in piece q.unread)) (length old))
-    × (p' ≡ Some (with_unread piece q (drop size (unread_in piece q.unread))))
-    × (new ≡ laid_over old (unread_in piece q.unread))
-Reads piece p p' old new before size (Err f) =
-    (f ≡ fault.NotOpen) × (p ≡ None) × (p' ≡ None) × (new ≡ old) × (size ≡ before)
+Reads piece held left old new before size (Ok _) =
+    (profiler : Profiler)
+    × (held ≡ Some profiler)
+    × (size ≡ min (length (unread_in piece profiler.unread)) (length old))
+    × (left ≡ Some (with_unread piece profiler (drop size (unread_in piece profiler.unread))))
+    × (new ≡ laid_over old (unread_in piece profiler.unread))
+Reads piece held left old new before size (Err cause) =
+    (cause ≡ fault.NotOpen) × (held ≡ None) × (left ≡ None) × (new ≡ old) × (size ≡ before)

@@ -12,16 +12,17 @@ use Rattle.puffin_c.specs.declared.fault.Fault.TheVariants as fault
 
 -- why a text is refused: the first cause that applies
 abbrev pub IsNoText : List ℕ → Fault → Type 0
-IsNoText text f =
-    ((f ≡ fault.NotText) × ¬ (IsUtf8 text)) ⊎ ((f ≡ fault.Refused error.Memory) × IsUtf8 text)
+IsNoText text cause =
+    ((cause ≡ fault.NotText) × ¬ (IsUtf8 text)) ⊎ ((cause ≡ fault.Refused error.Memory)
+    × IsUtf8 text)
 
 -- a handle that held nothing now holds ids; or nothing is changed
 abbrev pub OpensIds : {X : Type 0} → Option X → Option X → Result (Unit {0}) Fault → Type 0
 OpensIds old new (Ok _) = (old ≡ None) × (is_some new ≡ true)
-OpensIds old new (Err f) =
+OpensIds old new (Err cause) =
     (new ≡ old)
-    × (((f ≡ fault.IsOpen) × (is_some old ≡ true))
-    ⊎ ((f ≡ fault.Refused error.Memory) × (old ≡ None)))
+    × (((cause ≡ fault.IsOpen) × (is_some old ≡ true))
+    ⊎ ((cause ≡ fault.Refused error.Memory) × (old ≡ None)))
 
 -- There are ids, and a handle that held nothing now holds a new thread. Or nothing is changed, and the fault is the first that
 -- applies.
@@ -29,34 +30,34 @@ abbrev pub Opens : Option Thread → Bool → List ℕ → Form → Option Threa
     Result (Unit {0}) Fault → Type 0
 Opens old has_ids name form new (Ok _) =
     (old ≡ None) × (has_ids ≡ true) × IsUtf8 name × (new ≡ Some (new_thread name form))
-Opens old has_ids name form new (Err f) =
+Opens old has_ids name form new (Err cause) =
     (new ≡ old)
-    × (((f ≡ fault.IsOpen) × (is_some old ≡ true))
+    × (((cause ≡ fault.IsOpen) × (is_some old ≡ true))
     ⊎ ((old ≡ None)
-    × (((f ≡ fault.NotOpen) × (has_ids ≡ false)) ⊎ ((has_ids ≡ true) × IsNoText name f))))
+    × (((cause ≡ fault.NotOpen) × (has_ids ≡ false)) ⊎ ((has_ids ≡ true) × IsNoText name cause))))
 
 -- a handle that held something now holds nothing; or it held nothing, and the call is refused
 abbrev pub Closes : {X : Type 0} → Option X → Option X → Result (Unit {0}) Fault → Type 0
 Closes old new (Ok _) = (is_some old ≡ true) × (new ≡ None)
-Closes old new (Err f) = (f ≡ fault.NotOpen) × (old ≡ None) × (new ≡ None)
+Closes old new (Err cause) = (cause ≡ fault.NotOpen) × (old ≡ None) × (new ≡ None)
 
 -- A scope was begun in the handle's thread, and this is its offset. Or nothing is changed, and the fault is the first that
 -- applies.
 abbrev pub Begins : Option Thread → ℤ → ℕ → List ℕ → Option Thread → ℕ → ℕ →
     Result (Unit {0}) Fault → Type 0
 Begins old at id text new before place (Ok _) =
-    (t : Thread)
-    × (old ≡ Some t)
+    (thread : Thread)
+    × (old ≡ Some thread)
     × (0 < id)
     × IsUtf8 text
-    × (new ≡ Some (after_begin t id (cut_text t.form text) (clock_time at)))
-    × (place ≡ begun_place t text)
-Begins old at id text new before place (Err f) =
+    × (new ≡ Some (after_begin thread id (cut_text thread.form text) (clock_time at)))
+    × (place ≡ begun_place thread text)
+Begins old at id text new before place (Err cause) =
     (new ≡ old)
     × (place ≡ before)
-    × (((f ≡ fault.NotOpen) × (old ≡ None))
+    × (((cause ≡ fault.NotOpen) × (old ≡ None))
     ⊎ ((is_some old ≡ true)
-    × (((f ≡ fault.NoId) × (id ≡ 0)) ⊎ ((0 < id) × IsNoText text f))))
+    × (((cause ≡ fault.NoId) × (id ≡ 0)) ⊎ ((0 < id) × IsNoText text cause))))
 
 -- the offset that stands for no scope; no scope has it
 abbrev pub no_scope : ℕ
@@ -65,8 +66,8 @@ no_scope = 0
 -- scopes are off: nothing is begun, and the offset is that of no scope; or the handle isn't open
 abbrev pub Skips : Option Thread → Option Thread → ℕ → ℕ → Result (Unit {0}) Fault → Type 0
 Skips old new before place (Ok _) = (new ≡ old) × (is_some old ≡ true) × (place ≡ no_scope)
-Skips old new before place (Err f) =
-    (new ≡ old) × (place ≡ before) × (f ≡ fault.NotOpen) × (old ≡ None)
+Skips old new before place (Err cause) =
+    (new ≡ old) × (place ≡ before) × (cause ≡ fault.NotOpen) × (old ≡ None)
 
 -- begins a scope if scopes are on
 abbrev pub BeginsIf : Bool → Option Thread → ℤ → ℕ → List ℕ → Option Thread → ℕ → ℕ →
@@ -78,37 +79,38 @@ BeginsIf false old at id text new before place answer = Skips old new before pla
 -- The innermost scope, which has this offset, was ended; or the offset is that of no scope; or nothing is changed.
 abbrev pub Ends : Option Thread → ℤ → ℕ → Option Thread → Result (Unit {0}) Fault → Type 0
 Ends old at place new (Ok _) =
-    (t : Thread)
-    × (old ≡ Some t)
-    × (((slice_get (offsets_of t) 0 ≡ Some place) × (new ≡ Some (after_end t (clock_time at))))
-    ⊎ ((slice_get (offsets_of t) 0 ≢ Some place) × (place ≡ no_scope) × (new ≡ old)))
-Ends old at place new (Err f) =
+    (thread : Thread)
+    × (old ≡ Some thread)
+    × (((slice_get (offsets_of thread) 0 ≡ Some place)
+    × (new ≡ Some (after_end thread (clock_time at))))
+    ⊎ ((slice_get (offsets_of thread) 0 ≢ Some place) × (place ≡ no_scope) × (new ≡ old)))
+Ends old at place new (Err cause) =
     (new ≡ old)
-    × (((f ≡ fault.NotOpen) × (old ≡ None))
-    ⊎ ((f ≡ fault.Refused error.MismatchedEnd)
+    × (((cause ≡ fault.NotOpen) × (old ≡ None))
+    ⊎ ((cause ≡ fault.Refused error.MismatchedEnd)
     × (place ≢ no_scope)
-    × (t : Thread)
-    × (old ≡ Some t)
-    × (slice_get (offsets_of t) 0 ≢ Some place)))
+    × (thread : Thread)
+    × (old ≡ Some thread)
+    × (slice_get (offsets_of thread) 0 ≢ Some place)))
 
 -- the closed scopes were given up, and counted; or nothing is changed
 abbrev pub Discards : Option Thread → Option Thread → ℕ → ℕ → Result (Unit {0}) Fault → Type 0
 Discards old new before number (Ok _) =
-    (t : Thread)
-    × (old ≡ Some t)
-    × (open_after 0 t.word ≡ 0)
-    × (new ≡ Some (after_discarding t))
-    × (number ≡ num_ended t.word)
-Discards old new before number (Err f) =
+    (thread : Thread)
+    × (old ≡ Some thread)
+    × (open_after 0 thread.word ≡ 0)
+    × (new ≡ Some (after_discarding thread))
+    × (number ≡ num_ended thread.word)
+Discards old new before number (Err cause) =
     (new ≡ old)
     × (number ≡ before)
-    × (((f ≡ fault.NotOpen) × (old ≡ None))
-    ⊎ ((f ≡ fault.Refused error.ScopesOpen)
-    × (t : Thread)
-    × (old ≡ Some t)
-    × (0 < open_after 0 t.word)))
+    × (((cause ≡ fault.NotOpen) × (old ≡ None))
+    ⊎ ((cause ≡ fault.Refused error.ScopesOpen)
+    × (thread : Thread)
+    × (old ≡ Some thread)
+    × (0 < open_after 0 thread.word)))
 
 -- what an open handle holds is as it was; or the handle isn't open
 abbrev pub Keeps : {X : Type 0} → Option X → Option X → Result (Unit {0}) Fault → Type 0
 Keeps old new (Ok _) = (new ≡ old) × (is_some old ≡ true)
-Keeps old new (Err f) = (new ≡ old) × (f ≡ fault.NotOpen) × (old ≡ None)
+Keeps old new (Err cause) = (new ≡ old) × (cause ≡ fault.NotOpen) × (old ≡ None)

@@ -18,35 +18,35 @@ pub record EndAt (bytes : List ℕ) (stored : List Stored) (offset : ℕ) (rest 
   pub given : HasGiven (Some bytes) (Some rest) stored
   pub end : offset + length rest ≡ length bytes
 
--- A fault comes after `n` frames, at an offset: at the file's beginning if the magic bytes there are missing, otherwise in the
+-- A fault comes after `number` frames, at an offset: at the file's beginning if the magic bytes there are missing, otherwise in the
 -- frame that begins at the offset.
 abbrev pub StandBefore : List ℕ → Option (List ℕ) → FileError → ℕ → ℕ → Type 0
-StandBefore bytes left e n offset =
-    ((n ≡ 0) × (offset ≡ 0) × (e ≡ file.NoMagic))
+StandBefore bytes left file_error number offset =
+    ((number ≡ 0) × (offset ≡ 0) × (file_error ≡ file.NoMagic))
     ⊎ ((rest : List ℕ)
     × (stored : List Stored)
     × EndAt bytes stored offset rest
-    × (n ≡ length stored)
-    × FailsAt e (Some rest) left frame_at)
+    × (number ≡ length stored)
+    × FailsAt file_error (Some rest) left frame_at)
 
--- The bytes begin with a file of `n` frames, the last of which ends at the offset; or, after `n` frames, there is this fault or
+-- The bytes begin with a file of `number` frames, the last of which ends at the offset; or, after `number` frames, there is this fault or
 -- memory ran out. No more than the first `read` bytes decide this.
 abbrev pub IsChecked : List ℕ → ℕ → ℕ → ℕ → Result (Unit {0}) Fault → Type 0
-IsChecked bytes n offset read (Ok _) =
+IsChecked bytes number offset read (Ok _) =
     (left : List ℕ)
     × (stored : List Stored)
     × (rest : List ℕ)
     × TookFrames file_at (Some bytes) (Some left) stored
     × EndAt bytes stored offset rest
-    × (n ≡ length stored)
+    × (number ≡ length stored)
     × (read ≡ length bytes - length left)
-IsChecked bytes n offset read (Err f) =
+IsChecked bytes number offset read (Err cause) =
     (left : List ℕ)
-    × (e : FileError)
-    × (f ≡ file_fault e)
-    × (e ≢ file.Io)
-    × FailsToRead file_at (Some bytes) (Some left) e
-    × StandBefore bytes (Some left) e n offset
+    × (file_error : FileError)
+    × (cause ≡ file_fault file_error)
+    × (file_error ≢ file.Io)
+    × FailsToRead file_at (Some bytes) (Some left) file_error
+    × StandBefore bytes (Some left) file_error number offset
     × (read ≡ length bytes - length left)
 
 -- the key of the thread that a program names

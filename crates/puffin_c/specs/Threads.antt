@@ -27,15 +27,16 @@ no_totals = record { frames = 0; scopes = 0 }
 
 -- with the thread's stream of one more frame
 abbrev pub totals_with : ThreadTotals → StreamFacts → ThreadTotals
-totals_with t r = record { frames = cut (t.frames + 1); scopes = cut (t.scopes + r.num_scopes) }
+totals_with totals facts =
+    record { frames = cut (totals.frames + 1); scopes = cut (totals.scopes + facts.num_scopes) }
 
 -- the totals of each thread
 abbrev pub Totals : Type 0
 Totals = map.FinMap key_cmp ThreadTotals
 
 abbrev pub with_stream : Totals → ThreadKey × StreamFacts → Totals
-with_stream totals e =
-    map.insert totals e.0 (totals_with (unwrap_or (map.get totals e.0) no_totals) e.1)
+with_stream totals entry =
+    map.insert totals entry.0 (totals_with (unwrap_or (map.get totals entry.0) no_totals) entry.1)
 
 abbrev pub with_frame : Totals → Streams → Totals
 with_frame totals streams = fold with_stream totals (map.entries streams)
@@ -45,14 +46,14 @@ totals_of frames = fold with_frame map.empty frames
 
 -- the streams of a frame that was read, or why they can't be unpacked
 abbrev pub opened : Stored → Result Streams FileError
-opened s = streams_in_fields (fields_of (frame_stored s))
+opened stored = streams_in_fields (fields_of (frame_stored stored))
 
 -- frames that were read, each unpacked
 abbrev pub AreOpened : List Stored → List Streams → Type 0
 AreOpened [] [] = Unit {0}
-AreOpened [] (o ∷ os) = ⊥
-AreOpened (s ∷ ss) [] = ⊥
-AreOpened (s ∷ ss) (o ∷ os) = (opened s ≡ Ok o) × AreOpened ss os
+AreOpened [] (frame ∷ frames) = ⊥
+AreOpened (first ∷ rest) [] = ⊥
+AreOpened (first ∷ rest) (frame ∷ frames) = (opened first ≡ Ok frame) × AreOpened rest frames
 
 -- these are the totals of a file
 abbrev pub HasTotals : List ℕ → Totals → Type 0
@@ -66,42 +67,42 @@ HasTotals bytes totals =
 
 -- a frame after those that could be unpacked can't be, for this reason
 abbrev pub HasPackedFrame : List ℕ → FileError → Type 0
-HasPackedFrame bytes e =
+HasPackedFrame bytes file_error =
     (left : Option (List ℕ))
     × (stored : List Stored)
     × (frames : List Streams)
-    × (s : Stored)
-    × HasGiven (Some bytes) left (stored ++ s ∷ [])
+    × (next : Stored)
+    × HasGiven (Some bytes) left (stored ++ next ∷ [])
     × AreOpened stored frames
-    × (opened s ≡ Err e)
+    × (opened next ≡ Err file_error)
 
 -- why a file has no totals: the first fault in it, or a lack of memory
 abbrev pub LacksTotals : List ℕ → Fault → Type 0
-LacksTotals bytes f =
-    (f ≡ fault.Refused error.Memory)
-    ⊎ ((e : FileError) × (f ≡ file_fault e) × HasPackedFrame bytes e)
+LacksTotals bytes cause =
+    (cause ≡ fault.Refused error.Memory)
+    ⊎ ((file_error : FileError) × (cause ≡ file_fault file_error) × HasPackedFrame bytes file_error)
     ⊎ ((left : Option (List ℕ))
-    × (e : FileError)
-    × (f ≡ file_fault e)
-    × (e ≢ file.Io)
-    × FailsToRead file_at (Some bytes) left e)
+    × (file_error : FileError)
+    × (cause ≡ file_fault file_error)
+    × (file_error ≢ file.Io)
+    × FailsToRead file_at (Some bytes) left file_error)
 
 -- ---- what a program gets
 
 -- a thread whose name begins at this offset
 abbrev pub thread_row : ℕ → ThreadKey × ThreadTotals → PuffinFileThread
-thread_row at e = record {
-  start_ns = start_given e.0.start;
-  frames = e.1.frames;
-  scopes = e.1.scopes;
+thread_row at entry = record {
+  start_ns = start_given entry.0.start;
+  frames = entry.1.frames;
+  scopes = entry.1.scopes;
   name_at = at;
-  name_size = length e.0.name;
-  has_start = is_some e.0.start;
+  name_size = length entry.0.name;
+  has_start = is_some entry.0.start;
 }
 
 abbrev pub thread_rows : ℕ → List (ThreadKey × ThreadTotals) → List PuffinFileThread
 thread_rows at [] = []
-thread_rows at (e ∷ rest) = thread_row at e ∷ thread_rows (at + length e.0.name) rest
+thread_rows at (entry ∷ rest) = thread_row at entry ∷ thread_rows (at + length entry.0.name) rest
 
 abbrev pub thread_names : List (ThreadKey × ThreadTotals) → List ℕ
 thread_names entries = flat_map (λ e. e.0.name) entries
@@ -114,4 +115,4 @@ ListsThreads file old new (Ok _) =
     × HasTotals file totals
     × GetsList (thread_rows 0 (map.entries totals)) (thread_names (map.entries totals)) old.rows
     new.rows old.bytes new.bytes new.num_rows new.num_bytes
-ListsThreads file old new (Err f) = (new ≡ old) × LacksTotals file f
+ListsThreads file old new (Err cause) = (new ≡ old) × LacksTotals file cause
