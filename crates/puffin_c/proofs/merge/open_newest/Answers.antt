@@ -9,13 +9,13 @@ use Rattle.puffin_view.specs.View.Listings.{recent_left}
 use Rattle.puffin_c.proofs.MergesMade.{opened_next, frames_next, not_opened, all_opened}
 use Rattle.puffin_c.proofs.merge.open_newest.Goals as goal
 
-pub returns-in_err-opened_copy-clause-err : goal.returns-in_err-opened_copy-clause-err
-returns-in_err-opened_copy-clause-err c =
+pub returns-in_err-open_copy-clause-err : goal.returns-in_err-open_copy-clause-err
+returns-in_err-open_copy-clause-err c =
     let p = err_from_is_err_and c.from_residual.result c.from_residual.ensures.1 in
     let before = c.frames.invariant in
     let said : PacketFields = packet_fields c.deref.result.now in
     let left : recent_left c.frames.frame-iterator ≡ shared_frame c.in-Some.frame.now ∷ recent_left c.next.new.self = rest_more (λ a. shared_frame a.now) _ _ _ _ c.in-Some.is c.next.ensures.steps in
-    rw (p.1, p.2) (not_opened before.0 _ _ before.1 c.frames.newest.items said (shared_frame c.in-Some.frame.now) _ _ left (ap packet_fields c.deref.ensures) before.2 c.in_err-opened_copy.ensures.err)
+    rw (p.1, p.2) (not_opened before.0 _ _ before.1 c.frames.newest.items said (shared_frame c.in-Some.frame.now) _ _ left (ap packet_fields c.deref.ensures) before.2 c.in_err-open_copy.ensures.err)
 
 pub frames-preserved : goal.frames-preserved
 frames-preserved c =
@@ -24,7 +24,7 @@ frames-preserved c =
     let left : recent_left c.frames.frame-iterator ≡ shared_frame c.in-Some.frame.now ∷ recent_left c.next.new.self = rest_more (λ a. shared_frame a.now) _ _ _ _ c.in-Some.is c.next.ensures.steps in (
       before.0 ++ said ∷ [],
       frames_next before.0 _ _ before.1 said (shared_frame c.in-Some.frame.now) _ left (ap packet_fields c.deref.ensures),
-      opened_next before.0 said c.frames.newest.items _ _ c.in_ok-push.ensures.items before.2 c.in_ok-opened_copy.ensures.ok,
+      opened_next before.0 said c.frames.newest.items _ _ c.in_ok-push.ensures.items before.2 c.in_ok-open_copy.ensures.ok,
     )
 
 pub returns-clause-ok : goal.returns-clause-ok

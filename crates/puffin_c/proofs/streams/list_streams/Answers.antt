@@ -2,7 +2,7 @@ use Rattle.std.proofs.lemmas.Result.{err_from_is_err_and}
 use Rattle.puffin_c.proofs.StreamLists.{not_unpacked}
 use Rattle.puffin_c.proofs.streams.list_streams.Goals as goal
 
-pub returns-in_err-told-in-Some : goal.returns-in_err-told-in-Some
-returns-in_err-told-in-Some c =
-    let p = err_from_is_err_and c.from_residual-in_err-told-in-Some.result c.from_residual-in_err-told-in-Some.ensures.1 in
-    rw p.1 (c.in_err-told-in-Some.ensures.unchanged, not_unpacked _ _ _ _ c.in-Some.data c.in_err-told-in-Some.field-0.0 _ p.2 c.in-Some.is c.in_ok-data.ensures.ok c.in_err-told-in-Some.ensures.err)
+pub returns-in_err-describe-in-Some : goal.returns-in_err-describe-in-Some
+returns-in_err-describe-in-Some c =
+    let p = err_from_is_err_and c.from_residual-in_err-describe-in-Some.result c.from_residual-in_err-describe-in-Some.ensures.1 in
+    rw p.1 (c.in_err-describe-in-Some.ensures.unchanged, not_unpacked _ _ _ _ c.in-Some.data c.in_err-describe-in-Some.field-0.0 _ p.2 c.in-Some.is c.in_ok-data.ensures.ok c.in_err-describe-in-Some.ensures.err)
