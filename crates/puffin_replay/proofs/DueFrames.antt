@@ -25,7 +25,7 @@ use Rattle.puffin_session.specs.Session.Notes.{known_after, due_details, is_want
 use Rattle.puffin_session.specs.Session.Actions.{action_of, actions_of}
 use Rattle.puffin_session.specs.Session.Replies.{MayReply, SpellsFrame, TellsScopes}
 use Rattle.puffin_session.specs.Session.{SessionState, opening_of}
-use Rattle.puffin_session.specs.Session.Runs.{Records, EachReply}
+use Rattle.puffin_session.specs.Session.Runs.{LeadsTo, EachReply}
 use Rattle.puffin_replay.specs.Program.EmittedFrames.{frame_in, emitted_by, frames_emitted}
 use Rattle.puffin_replay.specs.Promise.{is_emitted, before_frames, SaysDue, EmitsDue, emitted_fields}
 
@@ -130,7 +130,7 @@ module _ (o : Opening) where
 
 -- ---- a run
 
-pub emits : AllUnpackAgain → (start end : SessionState) (commands : List Command) (replies : List Reply) → Records start end commands replies → EmitsDue start end commands replies
+pub emits : AllUnpackAgain → (start end : SessionState) (commands : List Command) (replies : List Reply) → LeadsTo start end commands replies → EmitsDue start end commands replies
 emits again start end commands replies run = record {
   run = run;
   due = all_said (opening_of start) again commands replies run.learnt run.num_replies run.num_learnt run.replies_stand;

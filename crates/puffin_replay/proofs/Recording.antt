@@ -33,7 +33,7 @@ use Rattle.puffin_session.specs.declared.command.Reply.{Reply}
 use Rattle.puffin_session.specs.declared.command.Reply.TheVariants as reply
 use Rattle.puffin_data.specs.declared.data.form.Form.{Form}
 use Rattle.puffin_replay.specs.Script.{threads_said}
-use Rattle.puffin_session.specs.Session.Runs.{HasIds, AreReplies, details_told, details_of_reply}
+use Rattle.puffin_session.specs.Session.Runs.{HasIds, AreReplies, details_listed, details_of_reply}
 use Rattle.puffin_report.specs.Summary.{NoneLacksIds}
 use Rattle.puffin_replay.specs.Program.EmittedFrames.{frame_in, emitted_by, frames_emitted, Takes, TakesSome, TookAlso}
 use Rattle.puffin_replay.specs.Program.Recording.{file_of_view, IsBroken}
@@ -93,7 +93,7 @@ frames_lack_none (f ∷ fs) all =
 -- the details of a reply are those of its frame
 same_details : (r : Reply) → details_of_reply r ≡ flat_map details_of_frame (emitted_by r)
 same_details (reply.Frame emitted) = in_frame emitted.frame where
-  in_frame : (o : Option (Arc FrameData Global)) → details_told o ≡ flat_map details_of_frame (frame_in o)
+  in_frame : (o : Option (Arc FrameData Global)) → details_listed o ≡ flat_map details_of_frame (frame_in o)
   in_frame None = refl
   in_frame (Some f) = sym (append-nil (details_of_frame (shared_frame f)))
 same_details r = refl

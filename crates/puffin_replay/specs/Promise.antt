@@ -25,7 +25,7 @@ use Rattle.puffin_session.specs.Session.History.{Opening, Action, frames}
 use Rattle.puffin_session.specs.Session.Due.{due, index_after}
 use Rattle.puffin_session.specs.Session.Notes.{known_after, due_details, is_wanted}
 use Rattle.puffin_session.specs.Session.Actions.{actions_of}
-use Rattle.puffin_session.specs.Session.Runs.{Records}
+use Rattle.puffin_session.specs.Session.Runs.{LeadsTo}
 use Rattle.puffin_session.specs.Session.{SessionState, new_session, opening_of, SpellsDue}
 use Rattle.puffin_replay.specs.Program.EmittedFrames.{frames_emitted, Takes, TakesSome, TookAlso}
 
@@ -69,7 +69,7 @@ kept_frames n k cs =
 pub record EmitsDue (start end : SessionState) (commands : List Command) (replies : List Reply) :
     Type 0 where
   -- each command got a reply that it may get after those before it, possibly a refusal
-  pub run : Records start end commands replies
+  pub run : LeadsTo start end commands replies
   -- each action that emitted a frame has its own frame, in order, which contains what was due, given the session's state before
   -- and what was done since then
   pub due : AllZip (SaysDue (opening_of start))

@@ -8,13 +8,13 @@ use Rattle.puffin_session.specs.Session.Due.{due}
 use Rattle.puffin_session.specs.Session.{SessionState, opening_of, StandsAfter}
 use Rattle.puffin_session.specs.Session.Actions.{action_of, actions_of}
 use Rattle.puffin_session.specs.Session.Replies.{MayReply}
-use Rattle.puffin_session.specs.Session.Runs.{EachReply, Records}
+use Rattle.puffin_session.specs.Session.Runs.{EachReply, LeadsTo}
 use Rattle.puffin_session.specs.inner.Serving.{SumsTo, Continues}
 
 -- a run so far, and the sums over what is collected
 pub record RunsTo (old now : SessionState) (commands : List Command) (replies : List Reply) :
     Type 0 where
-  pub recorded : Records old now commands replies
+  pub recorded : LeadsTo old now commands replies
   pub sums : SumsTo now.collected.streams (
       due (opening_of old) (actions_of commands replies recorded.learnt))
 

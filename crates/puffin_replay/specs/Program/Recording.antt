@@ -12,7 +12,7 @@ use Rattle.puffin_view.specs.View.File.{file_of, fields_in}
 use Rattle.puffin_session.specs.declared.command.Command.{Command}
 use Rattle.puffin_session.specs.declared.command.Reply.{Reply}
 use Rattle.puffin_session.specs.Session.{SessionState}
-use Rattle.puffin_session.specs.Session.Runs.{Records}
+use Rattle.puffin_session.specs.Session.Runs.{LeadsTo}
 use Rattle.puffin_replay.specs.Program.EmittedFrames.{frames_emitted, Takes, TakesSome, TookAlso, HoldsIds, ListsIds}
 use Rattle.puffin_replay.specs.Promise.{EmitsDue}
 
@@ -59,7 +59,7 @@ module _ (start end : SessionState) (commands : List Command) (old new : FrameVi
   abbrev pub HasNotTaken : FileError → Type 0
   HasNotTaken fault =
       (replies : List Reply)
-      × Records start end commands replies
+      × LeadsTo start end commands replies
       × TakesSome (frames_emitted replies) old new
       × (fault ≡ file.Memory)
       × Appends before after []
@@ -68,7 +68,7 @@ module _ (start end : SessionState) (commands : List Command) (old new : FrameVi
   abbrev pub HasNotWritten : FileError → Type 0
   HasNotWritten fault =
       (replies : List Reply)
-      × Records start end commands replies
+      × LeadsTo start end commands replies
       × Takes (frames_emitted replies) old new
       × WritesBeginning before after (file_of_view new)
       × IsWriteFault fault
