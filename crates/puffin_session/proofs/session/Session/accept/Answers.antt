@@ -6,7 +6,8 @@ use Rattle.puffin_data.specs.Text.{cut_text}
 use Rattle.puffin_threads.specs.Thread.Calls.{after_begin, begun_place, clock_time}
 use Rattle.puffin_session.specs.declared.command.Command.TheVariants.{End}
 use Rattle.puffin_session.specs.inner.Serving.{session_thread, session_with_thread, EndsInnermost}
-use Rattle.puffin_session.proofs.Serving.{Continues-began, Continues-ended, Continues-handed, Continues-taken, Continues-registered, Continues-added, Continues-not_added, Continues-wanted, Continues-not_framed, same}
+use Rattle.puffin_session.proofs.Serving.{Continues-handed, Continues-taken, Continues-added, Continues-not_added, Continues-wanted, Continues-not_framed, same}
+use Rattle.puffin_session.proofs.ServingThreads.{Continues-began, Continues-ended, Continues-registered}
 use Rattle.puffin_session.proofs.Refusals.{Continues-not_registered, Continues-not_begun, Continues-not_ended, Continues-not_reported}
 use Rattle.puffin_session.specs.Session.Actions.{user_details}
 use Rattle.puffin_collector.specs.Collector.Registering.{Adds, AddsSome}
