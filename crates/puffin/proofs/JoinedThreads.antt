@@ -7,8 +7,8 @@ use Rattle.std.proofs.lemmas.List.{length-append}
 use Rattle.std.specs.declared.thread.PromisedHandle.{PromisedHandle}
 use Rattle.puffin.specs.declared.light.outcome.Failed.{Failed}
 use Rattle.puffin.specs.declared.light.outcome.ThreadCounts.{ThreadCounts}
-use Rattle.puffin.specs.declared.light.ready.Ended.{Ended}
-use Rattle.puffin.specs.declared.light.started.Works.{Works}
+use Rattle.puffin.specs.declared.light.ready.ThreadEnd.{ThreadEnd}
+use Rattle.puffin.specs.declared.light.started.ThreadPromise.{ThreadPromise}
 use Rattle.puffin.specs.Happenings.{Happening}
 use Rattle.puffin.specs.Members.{Member, all_handed}
 use Rattle.puffin.specs.Taking.{TookAll}
@@ -45,7 +45,7 @@ pub last_there : {A : Type 0} (xs : List A) (x : A) → slice_get (xs ++ x ∷ [
 last_there [] x = refl
 last_there (z ∷ xs) x = last_there xs x
 
-module _ {T W : Type 0} (tells : T → W → ℕ → Ended → List Happening → List Happening → Type 0) where
+module _ {T W : Type 0} (tells : T → W → ℕ → ThreadEnd → List Happening → List Happening → Type 0) where
   -- what was told stays so with one thread more
   pub tells_still : (thread : T) (program : W) (number : ℕ) (before after : Option Failed) (counts : List ThreadCounts) (shares : List Member) (k : ℕ) (count : ThreadCounts) (share : Member) → (after ≡ None → before ≡ None) → TellsAt tells thread program number before counts shares k
       → TellsAt tells thread program number after (counts ++ count ∷ []) (shares ++ share ∷ []) k
@@ -60,9 +60,9 @@ module _ {T W : Type 0} (tells : T → W → ℕ → Ended → List Happening �
     told = t.told;
   }
 
-module _ {A T W : Type 0} (tells : T → W → ℕ → Ended → List Happening → List Happening → Type 0) where
+module _ {A T W : Type 0} (tells : T → W → ℕ → ThreadEnd → List Happening → List Happening → Type 0) where
   -- one thread more is joined
-  pub joined_more : (handles : List (PromisedHandle A (Works T W))) (handle : PromisedHandle A (Works T W)) (taker leader : Member) (before after : Option Failed) (counts : List ThreadCounts) (shares : List Member) (count : ThreadCounts) (share : Member) (ended : Ended)
+  pub joined_more : (handles : List (PromisedHandle A (ThreadPromise T W))) (handle : PromisedHandle A (ThreadPromise T W)) (taker leader : Member) (before after : Option Failed) (counts : List ThreadCounts) (shares : List Member) (count : ThreadCounts) (share : Member) (ended : ThreadEnd)
       → AreJoined tells handles taker leader before counts shares
       → length counts ≡ length handles
       → (after ≡ None → before ≡ None) → (after ≡ None → IsOk ended.result) → count.unreported ≡ ended.left.unreported
@@ -73,7 +73,7 @@ module _ {A T W : Type 0} (tells : T → W → ℕ → Ended → List Happening 
         rest = was.rest ++ share ∷ [];
         shares_are = ap (λ (xs : List Member). xs ++ share ∷ []) was.shares_are;
         as_many = length-append was.rest (share ∷ []) ∙ ap (λ (n : ℕ). n + 1) was.as_many ∙ sym (length-append handles (handle ∷ []));
-        each = each_more (λ k (h : PromisedHandle A (Works T W)). TellsAt tells h.promise.thread.value h.promise.program.value h.promise.number after (counts ++ count ∷ []) (was.rest ++ share ∷ []) k) handles handle
+        each = each_more (λ k (h : PromisedHandle A (ThreadPromise T W)). TellsAt tells h.promise.thread.value h.promise.program.value h.promise.number after (counts ++ count ∷ []) (was.rest ++ share ∷ []) k) handles handle
             (λ k h e. tells_still tells h.promise.thread.value h.promise.program.value h.promise.number before after counts was.rest k count share failed (was.each k h e))
             (record {
               ended = ended;
@@ -88,7 +88,7 @@ module _ {A T W : Type 0} (tells : T → W → ℕ → Ended → List Happening 
       }
 
   -- what the handles' threads told is what the threads told
-  pub told_each : (handles : List (PromisedHandle A (Works T W))) (threads : List T) (program : W) (failed : Option Failed) (counts : List ThreadCounts) (shares : List Member) → AreStarted handles threads program → EachJoined tells handles failed counts shares → EachTells tells threads program failed counts shares
+  pub told_each : (handles : List (PromisedHandle A (ThreadPromise T W))) (threads : List T) (program : W) (failed : Option Failed) (counts : List ThreadCounts) (shares : List Member) → AreStarted handles threads program → EachJoined tells handles failed counts shares → EachTells tells threads program failed counts shares
   told_each handles threads program failed counts shares started joined k thread there =
       let s = started k thread there in
       let j = joined k s.0 s.1 in
@@ -108,24 +108,24 @@ module _ {A T W : Type 0} (tells : T → W → ℕ → Ended → List Happening 
 
 module _ {A T W : Type 0} where
   -- one thread more is started
-  pub started_more : (handles : List (PromisedHandle A (Works T W))) (threads : List T) (program : W) (handle : PromisedHandle A (Works T W)) (thread : T) → AreStarted handles threads program → length handles ≡ length threads
+  pub started_more : (handles : List (PromisedHandle A (ThreadPromise T W))) (threads : List T) (program : W) (handle : PromisedHandle A (ThreadPromise T W)) (thread : T) → AreStarted handles threads program → length handles ≡ length threads
       → handle.promise.thread.value ≡ thread → handle.promise.number ≡ length handles → handle.promise.program.value ≡ program
       → AreStarted (handles ++ handle ∷ []) (threads ++ thread ∷ []) program
   started_more handles threads program handle thread was same its_thread its_number its_program =
       each_more
-      (λ k (t : T). (h : PromisedHandle A (Works T W)) × (slice_get (handles ++ handle ∷ []) k ≡ Some h) × (h.promise.thread.value ≡ t) × (h.promise.number ≡ k) × (h.promise.program.value ≡ program))
+      (λ k (t : T). (h : PromisedHandle A (ThreadPromise T W)) × (slice_get (handles ++ handle ∷ []) k ≡ Some h) × (h.promise.thread.value ≡ t) × (h.promise.number ≡ k) × (h.promise.program.value ≡ program))
       threads thread
       (λ k t e. let w = was k t e in (w.0, still_there handles handle k w.0 w.1, w.2, w.3, w.4))
       (handle, subst (λ (n : ℕ). slice_get (handles ++ handle ∷ []) n ≡ Some handle) same (last_there handles handle), its_thread, its_number ∙ same, its_program)
 
 -- what is left to prove of a vector that starts with the leader's two shares
-module _ {A T W : Type 0} (tells : T → W → ℕ → Ended → List Happening → List Happening → Type 0) where
+module _ {A T W : Type 0} (tells : T → W → ℕ → ThreadEnd → List Happening → List Happening → Type 0) where
   pub joined_none : (taker leader : Member) (failed : Option Failed) (shares : List Member) → shares ≡ taker ∷ leader ∷ [] → AreJoined {A = A} tells [] taker leader failed [] shares
   joined_none taker leader failed shares is = record { rest = []; shares_are = is; as_many = refl; each = λ k h e. absurd cc }
 
 -- the leader led, and all threads are joined
-module _ {A T W J E : Type 0} (tells : T → W → ℕ → Ended → List Happening → List Happening → Type 0) (leads : T → W → ℕ → List Happening → List Happening → Type 0) (takes : T → W → List Happening → Type 0) where
-  pub all_told : (handles : List (PromisedHandle A (Works T W))) (threads : List T) (leader : T) (program : W) (taker own : Member) (counted : ThreadCounts) (frames : ℕ) (r : Result J E)
+module _ {A T W J E : Type 0} (tells : T → W → ℕ → ThreadEnd → List Happening → List Happening → Type 0) (leads : T → W → ℕ → List Happening → List Happening → Type 0) (takes : T → W → List Happening → Type 0) where
+  pub all_told : (handles : List (PromisedHandle A (ThreadPromise T W))) (threads : List T) (leader : T) (program : W) (taker own : Member) (counted : ThreadCounts) (frames : ℕ) (r : Result J E)
       (failed : J → Option Failed) (counts : J → List ThreadCounts) (led : J → ThreadCounts) (taken missed : J → ℕ) (n : ℕ) (shares : J → List Member)
       → AreStarted handles threads program
       → IfOk r (λ j. AreJoined tells handles taker own (failed j) (counts j) (shares j))

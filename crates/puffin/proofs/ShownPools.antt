@@ -5,7 +5,7 @@ use Rattle.puffin_data.specs.declared.data.form.Form.TheVariants.{Short}
 use Rattle.puffin_frames.specs.Frame.Contents.{Streams}
 use Rattle.puffin.specs.declared.light.outcome.Outcome.{Outcome}
 use Rattle.puffin.specs.declared.light.outcome.ThreadCounts.{ThreadCounts}
-use Rattle.puffin.specs.declared.light.ready.Ended.{Ended}
+use Rattle.puffin.specs.declared.light.ready.ThreadEnd.{ThreadEnd}
 use Rattle.puffin.specs.declared.light.ready.Ready.{Ready}
 use Rattle.puffin.specs.Code.{Code}
 use Rattle.puffin.specs.Happenings.{Happening, frames_in}
@@ -47,7 +47,7 @@ record Did (is : List ℕ → Code → Type 0) (known : ℕ) (counts : List Thre
   pub unreported : count.unreported ≡ num_unreported jobs
 
 module _ (C : Type 0) {W : Type 0} (states : W → Bool) (does : W → List ℕ → Code → Type 0) (leads : W → Code → Type 0) (takes : W → List Streams → Type 0) where
-  abbrev tells : Ready C → W → ℕ → Ended → List Happening → List Happening → Type 0
+  abbrev tells : Ready C → W → ℕ → ThreadEnd → List Happening → List Happening → Type 0
   tells ready pool number ended before after = OnOk ended.result (HaveRunAs (states pool) (does pool) (num_known ready.scopes) before after ended.left.unreported)
 
   abbrev led_tells : Ready C → W → ℕ → List Happening → List Happening → Type 0

@@ -15,7 +15,7 @@ use Rattle.history.proofs.lemmas.AllAuthors.{entries_by-append, events-append, o
 use Rattle.history.proofs.lemmas.Counting.{same_number}
 use Rattle.puffin.specs.declared.light.outcome.Outcome.{Outcome}
 use Rattle.puffin.specs.declared.light.outcome.ThreadCounts.{ThreadCounts}
-use Rattle.puffin.specs.declared.light.ready.Ended.{Ended}
+use Rattle.puffin.specs.declared.light.ready.ThreadEnd.{ThreadEnd}
 use Rattle.puffin.specs.declared.light.ready.Ready.{Ready}
 use Rattle.puffin.specs.Code.{Code, AreTurns, AreRounds}
 use Rattle.puffin.specs.Happenings.{Happening, reported, framed, marked, arrived, released, saw_arrived, saw_released, left, History, frame_of, frames_in, report_under, reports_under, if_marked, releases_of, num_arrived, num_released, AreSeen, Stands}
@@ -221,7 +221,7 @@ module _ (known rounds n : ℕ) (is : ℕ → ℕ → Code → Type 0) (names : 
 -- ---- what a run shows
 
 module _ (C : Type 0) {W : Type 0} (states : W → Bool) (runs : W → ℕ → ℕ → Code → Type 0) (leads : W → ℕ → Code → Type 0) (rounds threads : W → ℕ) where
-  abbrev tells : Ready C → W → ℕ → Ended → List Happening → List Happening → Type 0
+  abbrev tells : Ready C → W → ℕ → ThreadEnd → List Happening → List Happening → Type 0
   tells ready program number ended before after =
       before ≡ [] → HasRunRoundsAs (states program) (runs program number) (rounds program) (string_bytes ready.name) (num_known ready.scopes) ended.result after ended.left.unreported
 

@@ -6,7 +6,7 @@ use Rattle.puffin_data.specs.declared.data.form.Form.TheVariants.{Short}
 use Rattle.puffin.specs.declared.light.outcome.Failed.{Failed}
 use Rattle.puffin.specs.declared.light.outcome.Outcome.{Outcome}
 use Rattle.puffin.specs.declared.light.outcome.ThreadCounts.{ThreadCounts}
-use Rattle.puffin.specs.declared.light.ready.Ended.{Ended}
+use Rattle.puffin.specs.declared.light.ready.ThreadEnd.{ThreadEnd}
 use Rattle.puffin.specs.declared.light.ready.Ready.{Ready}
 use Rattle.puffin.specs.Code.{Code}
 use Rattle.puffin.specs.Happenings.{Happening, frames_in}
@@ -31,7 +31,7 @@ ran_well is name known (Ok x) after waiting well ran = ran
 ran_well is name known (Err e) after waiting well ran = absurd cc
 
 module _ (C : Type 0) {W : Type 0} (states : W → Bool) (runs : W → ℕ → Code → Type 0) (leads : W → Code → Type 0) (takes : W → List Streams → Type 0) where
-  abbrev tells : Ready C → W → ℕ → Ended → List Happening → List Happening → Type 0
+  abbrev tells : Ready C → W → ℕ → ThreadEnd → List Happening → List Happening → Type 0
   tells ready program number ended before after = HasRunAs (states program) (runs program number) (string_bytes ready.name) Short (num_known ready.scopes) ended.result before after ended.left.unreported
 
   abbrev led_tells : Ready C → W → ℕ → List Happening → List Happening → Type 0
@@ -116,7 +116,7 @@ module _ (C : Type 0) {W : Type 0} (states : W → Bool) (runs : W → ℕ → C
   shows_if known leader_name names program (Err e) told = tt
 
 -- the names of threads that told
-pub named_told : {C W E : Type 0} (tells : Ready C → W → ℕ → Ended → List Happening → List Happening → Type 0) (leads : Ready C → W → ℕ → List Happening → List Happening → Type 0) (takes : Ready C → W → List Happening → Type 0)
+pub named_told : {C W E : Type 0} (tells : Ready C → W → ℕ → ThreadEnd → List Happening → List Happening → Type 0) (leads : Ready C → W → ℕ → List Happening → List Happening → Type 0) (takes : Ready C → W → List Happening → Type 0)
     (known : ℕ) (leader_name : List ℕ) (names : List (List ℕ)) (program : W) (threads : List (Ready C)) (leader : Ready C) (r : Result Outcome E)
     → length threads ≡ length names → AreNamed known names threads → (string_bytes leader.name ≡ leader_name) × (num_known leader.scopes ≡ known)
     → IfOk r (λ outcome. HasTold tells leads takes threads leader program outcome)

@@ -10,7 +10,7 @@ use Rattle.puffin_frames.specs.Frame.Contents.{Streams}
 use Rattle.puffin_frames.specs.Frame.Sums.{total_scopes}
 use Rattle.puffin.specs.declared.light.outcome.Outcome.{Outcome}
 use Rattle.puffin.specs.declared.light.outcome.ThreadCounts.{ThreadCounts}
-use Rattle.puffin.specs.declared.light.ready.Ended.{Ended}
+use Rattle.puffin.specs.declared.light.ready.ThreadEnd.{ThreadEnd}
 use Rattle.puffin.specs.declared.light.ready.Ready.{Ready}
 use Rattle.puffin.specs.Places.{num_known}
 use Rattle.puffin.specs.Code.{Code, AreScopesOf}
@@ -102,7 +102,7 @@ AreNamed {C} known names threads =
 
 -- threads of these names, and a leader of this name, told what their program says
 pub record NamedTold {C W : Type 0}
-    (tells : Ready C → W → ℕ → Ended → List Happening → List Happening → Type 0)
+    (tells : Ready C → W → ℕ → ThreadEnd → List Happening → List Happening → Type 0)
     (leads : Ready C → W → ℕ → List Happening → List Happening → Type 0)
     (takes : Ready C → W → List Happening → Type 0) (known : ℕ) (leader_name : List ℕ)
     (names : List (List ℕ)) (program : W) (outcome : Outcome) : Type 0 where

@@ -37,7 +37,6 @@ pub mod rounds;
 pub mod scopes;
 pub mod settings;
 mod started;
-mod taker;
 pub mod thread;
 
 pub use files::{SaveCause, SaveError, save};

@@ -15,7 +15,8 @@ same_keys : {A : Type 0} (es : List (ThreadInfo × Arc StreamInfo A)) → keys_o
 same_keys [] = refl
 same_keys (e ∷ es) = ap (λ (ks : List ThreadInfo). e.0 ∷ ks) (same_keys es)
 
-pub len-shared_streams : {A : Type 0} (es : List (ThreadInfo × Arc StreamInfo A)) → IsStrictlySortedBy thread_cmp (keys_of es) → len (shared_streams es) ≡ length es
+pub len-shared_streams : {A : Type 0} (es : List (ThreadInfo × Arc StreamInfo A))
+    → IsStrictlySortedBy thread_cmp (keys_of es) → len (shared_streams es) ≡ length es
 len-shared_streams es sorted =
     let rising = subst (λ (ks : List ThreadInfo). IsStrictlySortedBy thread_cmp ks) (sym (same_keys es)) sorted in
     len-entries (shared_streams es) ∙ ap length (entries-streams_of (without_sharing es) rising)

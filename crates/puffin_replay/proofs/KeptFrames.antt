@@ -68,7 +68,9 @@ all_map P Q (x ∷ xs) f h = (f x h.0, all_map P Q xs f h.1)
 
 rise_below : (i j : ℕ) (cs : List PacketFields) → nat_lt i j ≡ true → rises_above j cs ≡ true → rises_above i cs ≡ true
 rise_below i j [] lt h = refl
-rise_below i j (c ∷ cs) lt h = rw (lower (first (nat_lt j (frame_index c)) _ h)) (second (nat_lt j (frame_index c)) (rises_above (frame_index c) cs) h)
+rise_below i j (c ∷ cs) lt h =
+    rw (lower (first (nat_lt j (frame_index c)) _ h))
+    (second (nat_lt j (frame_index c)) (rises_above (frame_index c) cs) h)
   where
     lower : nat_lt j (frame_index c) ≡ true → nat_lt i (frame_index c) ≡ true
     lower k = grind arith
@@ -85,21 +87,25 @@ all_above i (c ∷ cs) h =
 
 rises-filter : (p : PacketFields → Bool) (i : ℕ) (cs : List PacketFields) → rises_above i cs ≡ true → rises_above i (filter p cs) ≡ true
 rises-filter p i [] h = refl
-rises-filter p i (c ∷ cs) h = at (p c) (rises-filter p (frame_index c) cs later) (rises-filter p i cs (rise_below i (frame_index c) cs lt later)) where
-  lt : nat_lt i (frame_index c) ≡ true
-  lt = first (nat_lt i (frame_index c)) (rises_above (frame_index c) cs) h
+rises-filter p i (c ∷ cs) h =
+    at (p c) (rises-filter p (frame_index c) cs later)
+    (rises-filter p i cs (rise_below i (frame_index c) cs lt later)) where
+      lt : nat_lt i (frame_index c) ≡ true
+      lt = first (nat_lt i (frame_index c)) (rises_above (frame_index c) cs) h
 
-  later : rises_above (frame_index c) cs ≡ true
-  later = second (nat_lt i (frame_index c)) (rises_above (frame_index c) cs) h
+      later : rises_above (frame_index c) cs ≡ true
+      later = second (nat_lt i (frame_index c)) (rises_above (frame_index c) cs) h
 
-  at : (b : Bool) → rises_above (frame_index c) (filter p cs) ≡ true → rises_above i (filter p cs) ≡ true → rises_above i (cond b (c ∷ filter p cs) (filter p cs)) ≡ true
-  at true above below = rw lt above
-  at false above below = below
+      at : (b : Bool) → rises_above (frame_index c) (filter p cs) ≡ true → rises_above i (filter p cs) ≡ true
+          → rises_above i (cond b (c ∷ filter p cs) (filter p cs)) ≡ true
+      at true above below = rw lt above
+      at false above below = below
 
 rising-filter : (p : PacketFields → Bool) (cs : List PacketFields) → is_rising cs ≡ true → is_rising (filter p cs) ≡ true
 rising-filter p [] h = refl
 rising-filter p (c ∷ cs) h = at (p c) (rises-filter p (frame_index c) cs h) (rising-filter p cs (rising_rest (frame_index c) cs h)) where
-  at : (b : Bool) → rises_above (frame_index c) (filter p cs) ≡ true → is_rising (filter p cs) ≡ true → is_rising (cond b (c ∷ filter p cs) (filter p cs)) ≡ true
+  at : (b : Bool) → rises_above (frame_index c) (filter p cs) ≡ true → is_rising (filter p cs) ≡ true
+      → is_rising (cond b (c ∷ filter p cs) (filter p cs)) ≡ true
   at true above later = above
   at false above later = later
 
@@ -122,7 +128,9 @@ all_below : (i : ℕ) (cs : List PacketFields) → rises_above i cs ≡ true →
 all_below i [] h = refl
 all_below i (c ∷ cs) h =
     let lt = first (nat_lt i (frame_index c)) (rises_above (frame_index c) cs) h in
-    rw (below_is i (frame_index c) lt) (all_below i cs (rise_below i (frame_index c) cs lt (second (nat_lt i (frame_index c)) (rises_above (frame_index c) cs) h)))
+    rw (below_is i (frame_index c) lt)
+    (all_below i cs
+    (rise_below i (frame_index c) cs lt (second (nat_lt i (frame_index c)) (rises_above (frame_index c) cs) h)))
 
 sorted_if_rising : (cs : List PacketFields) → is_rising cs ≡ true → T (is_sorted nat_cmp (map own cs))
 sorted_if_rising [] h = tt
@@ -134,7 +142,9 @@ own_back (c ∷ cs) = ap (λ (ds : List PacketFields). c ∷ ds) (own_back cs)
 
 none_found : (q : ℕ) (cs : List PacketFields) → has_number q (map frame_index cs) ≡ false → found q cs ≡ None
 none_found q [] h = refl
-none_found q (c ∷ cs) h = let both = neither (nat_eq q (frame_index c)) (has_number q (map frame_index cs)) h in rw (is_at q (frame_index c), both.0) (none_found q cs both.1)
+none_found q (c ∷ cs) h =
+    let both = neither (nat_eq q (frame_index c)) (has_number q (map frame_index cs)) h in
+    rw (is_at q (frame_index c), both.0) (none_found q cs both.1)
 
 -- a frame of a list is the one that is found under its index
 abbrev IsFound : List PacketFields → PacketFields → Type 0
@@ -155,20 +165,25 @@ all_found (c ∷ cs) h = (here, both cs (all_above (frame_index c) cs h) (all_fo
   later : (d : PacketFields) → nat_lt (frame_index c) (frame_index d) ≡ true → IsFound cs d → IsFound (c ∷ cs) d
   later d lt is = rw (is_at (frame_index d) (frame_index c), apart (frame_index c) (frame_index d) lt) is
 
-  both : (ds : List PacketFields) → AllByRecursion (λ d. nat_lt (frame_index c) (frame_index d) ≡ true) ds → AllByRecursion (IsFound cs) ds → AllByRecursion (IsFound (c ∷ cs)) ds
+  both : (ds : List PacketFields) → AllByRecursion (λ d. nat_lt (frame_index c) (frame_index d) ≡ true) ds
+      → AllByRecursion (IsFound cs) ds → AllByRecursion (IsFound (c ∷ cs)) ds
   both [] lt is = tt
   both (d ∷ ds) lt is = (later d lt.0 is.0, both ds lt.1 is.1)
 
 -- some of a list's frames give what the list gives, under their own indices
-found_among : (q : ℕ) (cs xs : List PacketFields) → AllByRecursion (IsFound cs) xs → has_number q (map frame_index xs) ≡ true → found q xs ≡ found q cs
+found_among : (q : ℕ) (cs xs : List PacketFields) → AllByRecursion (IsFound cs) xs
+    → has_number q (map frame_index xs) ≡ true → found q xs ≡ found q cs
 found_among q cs [] all h = cc
-found_among q cs (x ∷ xs) all h = rw (is_at q (frame_index x)) (at (nat_eq q (frame_index x)) refl h (λ k. found_among q cs xs all.1 k)) where
-  equal : nat_eq q (frame_index x) ≡ true → frame_index x ≡ q
-  equal e = grind arith
+found_among q cs (x ∷ xs) all h =
+    rw (is_at q (frame_index x)) (at (nat_eq q (frame_index x)) refl h (λ k. found_among q cs xs all.1 k)) where
+      equal : nat_eq q (frame_index x) ≡ true → frame_index x ≡ q
+      equal e = grind arith
 
-  at : (b : Bool) → nat_eq q (frame_index x) ≡ b → (b || has_number q (map frame_index xs)) ≡ true → (has_number q (map frame_index xs) ≡ true → found q xs ≡ found q cs) → cond b (Some x) (found q xs) ≡ found q cs
-  at true e k later = sym all.0 ∙ ap (λ (i : ℕ). found i cs) (equal e)
-  at false e k later = later k
+      at : (b : Bool) → nat_eq q (frame_index x) ≡ b → (b || has_number q (map frame_index xs)) ≡ true
+          → (has_number q (map frame_index xs) ≡ true → found q xs ≡ found q cs)
+          → cond b (Some x) (found q xs) ≡ found q cs
+      at true e k later = sym all.0 ∙ ap (λ (i : ℕ). found i cs) (equal e)
+      at false e k later = later k
 
 -- ---- the frames whose indices are in a list
 
@@ -189,7 +204,8 @@ module _ (is : List ℕ) where
   found_chosen : (q : ℕ) (cs : List PacketFields) → has_number q is ≡ true → found q (chosen cs) ≡ found q cs
   found_chosen q [] h = refl
   found_chosen q (c ∷ cs) h = at (has_number (frame_index c) is) refl (found_chosen q cs h) where
-    at : (b : Bool) → has_number (frame_index c) is ≡ b → found q (chosen cs) ≡ found q cs → found q (cond b (c ∷ chosen cs) (chosen cs)) ≡ found q (c ∷ cs)
+    at : (b : Bool) → has_number (frame_index c) is ≡ b → found q (chosen cs) ≡ found q cs
+        → found q (cond b (c ∷ chosen cs) (chosen cs)) ≡ found q (c ∷ cs)
     at true e later = ap (λ (o : Option PacketFields). cond (eq_by_cmp nat_cmp q (frame_index c)) (Some c) o) later
     at false e later = rw (is_at q (frame_index c), differ q (frame_index c) (λ same. cc)) later
 
@@ -213,13 +229,16 @@ sorted_said : (es : List (ℕ × Frame)) → is_sorted nat_cmp (said es) ≡ is_
 sorted_said [] = refl
 sorted_said (e ∷ es) = rw (below_said e.0 es, sorted_said es) refl
 
-map_cond : (b : Bool) (f : Frame) (o : Option Frame) → cond b (Some (fields_of f)) (option_map fields_of o) ≡ option_map fields_of (cond b (Some f) o)
+map_cond : (b : Bool) (f : Frame) (o : Option Frame)
+    → cond b (Some (fields_of f)) (option_map fields_of o) ≡ option_map fields_of (cond b (Some f) o)
 map_cond true f o = refl
 map_cond false f o = refl
 
 find_said : (q : ℕ) (es : List (ℕ × Frame)) → fin.find nat_cmp q (said es) ≡ option_map fields_of (fin.find nat_cmp q es)
 find_said q [] = refl
-find_said q (e ∷ es) = ap (λ (o : Option PacketFields). cond (eq_by_cmp nat_cmp q e.0) (Some (fields_of e.1)) o) (find_said q es) ∙ map_cond (eq_by_cmp nat_cmp q e.0) e.1 (fin.find nat_cmp q es)
+find_said q (e ∷ es) =
+    ap (λ (o : Option PacketFields). cond (eq_by_cmp nat_cmp q e.0) (Some (fields_of e.1)) o) (find_said q es)
+    ∙ map_cond (eq_by_cmp nat_cmp q e.0) e.1 (fin.find nat_cmp q es)
 
 said_own : (fs : List Frame) → said (map (λ f. (index_of f, f)) fs) ≡ map own (map fields_of fs)
 said_own [] = refl
@@ -233,7 +252,10 @@ said_values (e ∷ es) = ap (λ (cs : List PacketFields). fields_of e.1 ∷ cs) 
 find_held : (q : ℕ) (fs : List Frame) → fin.find nat_cmp q (said (fin.entries (frames_by_index fs))) ≡ found q (map fields_of fs)
 find_held q fs =
     find_said q (fin.entries (frames_by_index fs))
-    ∙ (ap (option_map fields_of) (sym (fin.get-entries (frames_by_index fs) q) ∙ fin.get-from_entries nat_cmp_total (map (λ f. (index_of f, f)) fs) q)
+    ∙
+    (ap (option_map fields_of)
+    (sym (fin.get-entries (frames_by_index fs) q)
+    ∙ fin.get-from_entries nat_cmp_total (map (λ f. (index_of f, f)) fs) q)
     ∙ (sym (find_said q (map (λ f. (index_of f, f)) fs)) ∙ ap (fin.find nat_cmp q) (said_own fs)))
 
 -- frames that say some of a list's, each of them itself, are those of the list whose indices they have
@@ -253,7 +275,9 @@ chosen_frames cs fs rising all = sym (said_values es) ∙ (ap (map (λ (e : ℕ 
 
     alike : said es ≡ map own (chosen is cs)
     alike =
-        same_entries nat_cmp nat_cmp_total fin.nat_cmp-IsAntisymmetric (said es) (map own (chosen is cs)) (subst T (sym (sorted_said es)) (fin.entries_sorted (frames_by_index fs))) (sorted_if_rising (chosen is cs) (rising-filter (λ c. has_number (frame_index c) is) cs rising))
+        same_entries nat_cmp nat_cmp_total fin.nat_cmp-IsAntisymmetric (said es) (map own (chosen is cs))
+        (subst T (sym (sorted_said es)) (fin.entries_sorted (frames_by_index fs)))
+        (sorted_if_rising (chosen is cs) (rising-filter (λ c. has_number (frame_index c) is) cs rising))
         (λ q. at q (has_number q is) refl)
 
 -- ---- a view that took frames
@@ -264,11 +288,16 @@ taken_kept v cs rising took =
     let recent : map fields_of v.recent ≡ last_of v.max_recent cs = took.holds.recent ∙ ap (last_of v.max_recent) all in
     let slow : map fields_of v.slow ≡ slowest v.max_slow cs = took.holds.slow ∙ ap (slowest v.max_slow) all in
     let said : map fields_of (v.recent ++ v.slow) ≡ last_of v.max_recent cs ++ slowest v.max_slow cs =
-    map-append fields_of v.recent v.slow ∙ (ap (λ (ds : List PacketFields). ds ++ map fields_of v.slow) recent ∙ ap (λ (ds : List PacketFields). last_of v.max_recent cs ++ ds) slow) in
+    map-append fields_of v.recent v.slow
+    ∙ (ap (λ (ds : List PacketFields). ds ++ map fields_of v.slow) recent
+    ∙ ap (λ (ds : List PacketFields). last_of v.max_recent cs ++ ds) slow) in
     let each = all_found cs rising in
     let these : AllByRecursion (IsFound cs) (last_of v.max_recent cs ++ slowest v.max_slow cs) =
-    all_append (IsFound cs) (last_of v.max_recent cs) (slowest v.max_slow cs) (all_drop (IsFound cs) (length cs - v.max_recent) cs each) (all_take (IsFound cs) v.max_slow (in_order is_slower cs) (all_in_order (IsFound cs) is_slower cs each)) in
-    chosen_frames cs (v.recent ++ v.slow) rising (subst (AllByRecursion (IsFound cs)) (sym said) these) ∙ ap (λ (ds : List PacketFields). chosen (map frame_index ds) cs) said
+    all_append (IsFound cs) (last_of v.max_recent cs) (slowest v.max_slow cs)
+    (all_drop (IsFound cs) (length cs - v.max_recent) cs each)
+    (all_take (IsFound cs) v.max_slow (in_order is_slower cs) (all_in_order (IsFound cs) is_slower cs each)) in
+    chosen_frames cs (v.recent ++ v.slow) rising (subst (AllByRecursion (IsFound cs)) (sym said) these)
+    ∙ ap (λ (ds : List PacketFields). chosen (map frame_index ds) cs) said
 
 -- ---- the limits of a view
 
@@ -286,7 +315,9 @@ ready_limits true packs v = record { recent = refl; slow = refl; packs = refl }
 ready_limits false true v = newest_limits (last_in v.recent) v
 ready_limits false false v = record { recent = refl; slow = refl; packs = refl }
 
-pub same_limits : (v : View) (fs : List Frame) → ((after_all v fs).max_recent ≡ v.max_recent) × ((after_all v fs).max_slow ≡ v.max_slow) × ((after_all v fs).packs ≡ v.packs)
+pub same_limits : (v : View) (fs : List Frame)
+    → ((after_all v fs).max_recent ≡ v.max_recent) × ((after_all v fs).max_slow ≡ v.max_slow)
+    × ((after_all v fs).packs ≡ v.packs)
 same_limits v [] = (refl, refl, refl)
 same_limits v (f ∷ fs) =
     let later = same_limits (after_taking v f) fs in
@@ -294,7 +325,9 @@ same_limits v (f ∷ fs) =
     (later.0 ∙ now.recent, later.1 ∙ now.slow, later.2 ∙ now.packs)
 
 -- what a view with these limits has that took these frames
-pub kept_by : (old : View) (fs : List Frame) (new : View) (max_recent max_slow : ℕ) (cs : List PacketFields) → old.max_recent ≡ max_recent → old.max_slow ≡ max_slow → new ≡ after_all old fs → is_rising cs ≡ true → Took cs new → fields_in new ≡ kept_frames max_recent max_slow cs
+pub kept_by : (old : View) (fs : List Frame) (new : View) (max_recent max_slow : ℕ) (cs : List PacketFields)
+    → old.max_recent ≡ max_recent → old.max_slow ≡ max_slow → new ≡ after_all old fs → is_rising cs ≡ true
+    → Took cs new → fields_in new ≡ kept_frames max_recent max_slow cs
 kept_by old fs new max_recent max_slow cs recent slow taken rising took =
     let same = same_limits old fs in
     let most : new.max_recent ≡ max_recent = ap (λ (v : View). v.max_recent) taken ∙ same.0 ∙ recent in

@@ -25,7 +25,7 @@ use Rattle.puffin_session.specs.Session.History.{Opening, Action, frames}
 use Rattle.puffin_session.specs.Session.Due.{due, index_after}
 use Rattle.puffin_session.specs.Session.Notes.{known_after, due_details, is_wanted}
 use Rattle.puffin_session.specs.Session.Actions.{actions_of}
-use Rattle.puffin_session.specs.Session.Runs.{Records}
+use Rattle.puffin_session.specs.Session.Runs.{LeadsTo}
 use Rattle.puffin_session.specs.Session.{SessionState, new_session, opening_of, SpellsDue}
 use Rattle.puffin_replay.specs.Program.EmittedFrames.{frames_emitted, Takes, TakesSome, TookAlso}
 
@@ -36,32 +36,36 @@ abbrev pub is_emitted : Action → Bool
 is_emitted (frames emitted) = emitted
 is_emitted _ = false
 
--- what was done before each emitted frame, in order
+-- what was done before each frame that the actions after `done` emitted, in order
 abbrev pub before_frames : List Action → List Action → List (List Action)
 before_frames done [] = []
-before_frames done (a ∷ later) =
-    (if is_emitted a then done ∷ [] else []) ++ before_frames (done ++ (a ∷ [])) later
+before_frames done (action ∷ later) =
+    (if is_emitted action then done ∷ [] else []) ++ before_frames (done ++ (action ∷ [])) later
 
 -- The contents of a frame that was emitted after these actions. It has a stream exactly under those starts and names of threads
 -- under which scopes were reported since the frame before, and each spells exactly these scopes, in order, with their true
 -- count, depth and range. Its meta is that of all of them, with the next index, and it lists the scope details that were due.
-pub record SaysDue (o : Opening) (done : List Action) (frame : PacketFields) : Type 0 where
+pub record SaysDue (opening : Opening) (done : List Action) (frame : PacketFields) : Type 0 where
   pub streams : Streams
   pub unpacked : streams_in (
       record { form = frame.form; kind = frame.kind; bytes = frame.streams }) ≡ Some streams
-  pub spelled : SpellsDue streams (due o done)
-  pub meta : frame.meta ≡ meta_of (index_after o done) (values streams)
+  pub spelled : SpellsDue streams (due opening done)
+  pub meta : frame.meta ≡ meta_of (index_after opening done) (values streams)
   pub details : frame.details
-      ≡ delta_of (known_after o done) (due_details o done) (is_wanted o done)
+      ≡ delta_of (known_after opening done) (due_details opening done) (is_wanted opening done)
 
 -- the contents of the emitted frames, in order
 abbrev pub emitted_fields : List Reply → List PacketFields
 emitted_fields replies = map fields_of (frames_emitted replies)
 
--- the last n frames of a list with rising indices, and its k slowest: each once, in the list's order
+-- the last frames of a list with rising indices, up to `max_recent`, and its `max_slow` slowest: each once, in the list's order
 abbrev pub kept_frames : ℕ → ℕ → List PacketFields → List PacketFields
-kept_frames n k cs =
-    filter (λ c. has_number (frame_index c) (map frame_index (last_of n cs ++ slowest k cs))) cs
+kept_frames max_recent max_slow emitted =
+    filter
+    (λ frame.
+    has_number (frame_index frame)
+    (map frame_index (last_of max_recent emitted ++ slowest max_slow emitted)))
+    emitted
 
 -- ---- a run
 
@@ -69,7 +73,7 @@ kept_frames n k cs =
 pub record EmitsDue (start end : SessionState) (commands : List Command) (replies : List Reply) :
     Type 0 where
   -- each command got a reply that it may get after those before it, possibly a refusal
-  pub run : Records start end commands replies
+  pub run : LeadsTo start end commands replies
   -- each action that emitted a frame has its own frame, in order, which contains what was due, given the session's state before
   -- and what was done since then
   pub due : AllZip (SaysDue (opening_of start))
@@ -80,17 +84,17 @@ pub record EmitsDue (start end : SessionState) (commands : List Command) (replie
 
 -- A view read from the file of these frames has exactly these frames, with the limits of a view that is read, and knows exactly
 -- the details that they list.
-pub record IsReadOf (cs : List PacketFields) (read : FrameView) : Type 0 where
-  pub recent : map fields_of (view_of read).recent ≡ cs
-  pub slow : map fields_of (view_of read).slow ≡ slowest 256 cs
-  pub last : (view_of read).last ≡ last_index cs
+pub record IsReadOf (written : List PacketFields) (read : FrameView) : Type 0 where
+  pub recent : map fields_of (view_of read).recent ≡ written
+  pub slow : map fields_of (view_of read).slow ≡ slowest 256 written
+  pub last : (view_of read).last ≡ last_index written
   pub max_recent : (view_of read).max_recent ≡ 2 ^ 64 - 1
   pub max_slow : (view_of read).max_slow ≡ 256
   pub packs : (view_of read).packs ≡ true
   -- all of it at once, and how each frame is held: a view that is read took each frame from its packet
-  pub frames : view_of read ≡ after_all read_view (map frame_stored (map packed cs))
+  pub frames : view_of read ≡ after_all read_view (map frame_stored (map packed written))
   pub known : collection_of read
-      ≡ with_all_details no_details (flat_map (λ (c : PacketFields). c.details) cs)
+      ≡ with_all_details no_details (flat_map (λ (frame : PacketFields). frame.details) written)
 
 -- ---- the promise
 
@@ -104,7 +108,8 @@ pub record KeepsRun (start end : SessionState) (commands : List Command) (old ne
   -- exactly the frames of the view are read
   pub again : IsReadOf (fields_in (view_of new)) read
 
--- The same for a new session of threads with these names and forms, and a new view with these limits: exactly the last and the slowest of the emitted frames are read.
+-- The same for a new session of threads with these names and forms, and a new view with these limits: exactly the last and the
+-- slowest of the emitted frames are read.
 pub record KeepsPromise (threads : List (List ℕ × Form)) (commands : List Command)
     (max_recent max_slow : ℕ) (replies : List Reply) (read : FrameView) : Type 0 where
   pub end : SessionState
@@ -113,7 +118,8 @@ pub record KeepsPromise (threads : List (List ℕ × Form)) (commands : List Com
 
 -- ---- why nothing is read
 
--- Why the file of a view can't be written into memory or read back: memory runs out; or a part of a frame in the view is too long; or details of a frame that it held before have no id.
+-- Why the file of a view can't be written into memory or read back: memory runs out; or a part of a frame in the view is too
+-- long; or details of a frame that it held before have no id.
 abbrev pub IsFileFault : FrameView → FrameView → FileError → Type 0
 IsFileFault old new fault =
     (fault ≡ file.Memory)
@@ -146,21 +152,24 @@ module _ (start end : SessionState) (commands : List Command) (old new : FrameVi
       × TookAlso (frames_emitted replies) (view_of old) (view_of new)
       × IsFileFault old new fault
 
+  -- why no view was read, and the state after that
   abbrev pub IsUnread : FileError → Option (List Reply) → Type 0
   IsUnread fault told = IsNotRun fault told ⊎ IsNotTaken fault told ⊎ IsNotRead fault told
 
 -- Why no view is read for a new session of threads with these names and forms, and a new view with these limits. `told` has the
 -- replies if the commands were run.
 module _ (threads : List (List ℕ × Form)) (commands : List Command) (max_recent max_slow : ℕ) where
-  -- memory ran out, before the commands were run or after
-  abbrev pub IsOutOfMemory : FileError → Option (List Reply) → Type 0
-  IsOutOfMemory fault told =
-      (fault ≡ file.Memory)
-      × ((told ≡ None)
-      ⊎ ((replies : List Reply)
+  -- the commands were run, and `told` has the replies
+  abbrev pub HasRun : Option (List Reply) → Type 0
+  HasRun told =
+      (replies : List Reply)
       × (told ≡ Some replies)
       × (end : SessionState)
-      × EmitsDue (new_session threads) end commands replies))
+      × EmitsDue (new_session threads) end commands replies
+
+  -- memory ran out, before the commands were run or after
+  abbrev pub IsOutOfMemory : FileError → Option (List Reply) → Type 0
+  IsOutOfMemory fault told = (fault ≡ file.Memory) × ((told ≡ None) ⊎ HasRun told)
 
   -- the commands were run, and a frame that is kept has a part that is too long to be written
   abbrev pub IsTooLong : FileError → Option (List Reply) → Type 0
@@ -172,5 +181,6 @@ module _ (threads : List (List ℕ × Form)) (commands : List Command) (max_rece
       × EmitsDue (new_session threads) end commands replies
       × Any HasLongPart (kept_frames max_recent max_slow (emitted_fields replies))
 
+  -- why no view was read
   abbrev pub IsUnreadAnew : FileError → Option (List Reply) → Type 0
   IsUnreadAnew fault told = IsOutOfMemory fault told ⊎ IsTooLong fault told

@@ -23,7 +23,8 @@ use Rattle.puffin_report.specs.Summary.{NoneLacksIds, bytes_under, bytes_in, fol
 -- ---- how many there are
 
 -- as many as there are frames
-counted : (b : Result FrameBytes FileError) (r : Result (List FrameBytes) FileError) (n : ℕ) (bs : List FrameBytes) → ((os : List FrameBytes) → r ≡ Ok os → length os ≡ n) → followed_by b r ≡ Ok bs → length bs ≡ suc n
+counted : (b : Result FrameBytes FileError) (r : Result (List FrameBytes) FileError) (n : ℕ) (bs : List FrameBytes)
+    → ((os : List FrameBytes) → r ≡ Ok os → length os ≡ n) → followed_by b r ≡ Ok bs → length bs ≡ suc n
 counted (Err cause) r n bs rest e = absurd (cc)
 counted (Ok b) (Err cause) n bs rest e = absurd (cc)
 counted (Ok b) (Ok os) n bs rest e = let same : b ∷ os ≡ bs = cc in sym (ap length same) ∙ ap suc (rest os refl)
@@ -42,7 +43,8 @@ unfolding NoIo
 bad_streams None e is io = cc
 bad_streams (Some s) e is io = cc
 
-either : (b : Bool) (x y : Result Streams FileError) (e : FileError) → (x ≡ Err e → NoIo e) → (y ≡ Err e → NoIo e) → (if b then x else y) ≡ Err e → NoIo e
+either : (b : Bool) (x y : Result Streams FileError) (e : FileError) → (x ≡ Err e → NoIo e) → (y ≡ Err e → NoIo e)
+    → (if b then x else y) ≡ Err e → NoIo e
 either true x y e h k is = h is
 either false x y e h k is = k is
 
@@ -51,13 +53,16 @@ unfolding NoIo
 compressed k e is io = cc
 
 not_unpacked : (p : Packing) (e : FileError) → unpacking p ≡ Err e → NoIo e
-not_unpacked p e is = either (is_uncompressed p.kind) _ (Err (file.Compressed (to_byte p.kind))) e (bad_streams _ e) (compressed (to_byte p.kind) e) is
+not_unpacked p e is =
+    either (is_uncompressed p.kind) _ (Err (file.Compressed (to_byte p.kind))) e (bad_streams _ e)
+    (compressed (to_byte p.kind) e) is
 
 under : (info : ThreadKey) (c : PacketFields) (r : Result Streams FileError) (e : FileError) → bytes_under info c r ≡ Err e → (r ≡ Err e)
 under info c (Ok streams) e is = absurd (cc)
 under info c (Err cause) e is = let same : cause ≡ e = cc in ap (λ (x : FileError). Err x) same
 
-first_or_later : (b : Result FrameBytes FileError) (r : Result (List FrameBytes) FileError) (e : FileError) → followed_by b r ≡ Err e → (b ≡ Err e) ⊎ (r ≡ Err e)
+first_or_later : (b : Result FrameBytes FileError) (r : Result (List FrameBytes) FileError) (e : FileError)
+    → followed_by b r ≡ Err e → (b ≡ Err e) ⊎ (r ≡ Err e)
 first_or_later (Err cause) r e is = let same : cause ≡ e = cc in inl (ap (λ (x : FileError). Err x) same)
 first_or_later (Ok b) (Err cause) e is = let same : cause ≡ e = cc in inr (ap (λ (x : FileError). Err x) same)
 first_or_later (Ok b) (Ok os) e is = absurd (cc)
@@ -65,7 +70,9 @@ first_or_later (Ok b) (Ok os) e is = absurd (cc)
 none_io : (info : ThreadKey) (cs : List PacketFields) (e : FileError) → all_bytes_in info cs ≡ Err e → NoIo e
 none_io info [] e is = absurd (cc)
 none_io info (c ∷ cs) e is = elim (first_or_later (bytes_in info c) (all_bytes_in info cs) e is) [
-  | inl first ↦ not_unpacked (record { form = c.form; kind = c.kind; bytes = c.streams }) e (under info c (unpacking (record { form = c.form; kind = c.kind; bytes = c.streams })) e first)
+  | inl first ↦
+      not_unpacked (record { form = c.form; kind = c.kind; bytes = c.streams }) e
+      (under info c (unpacking (record { form = c.form; kind = c.kind; bytes = c.streams })) e first)
   | inr later ↦ none_io info cs e later
 ]
 
@@ -87,22 +94,28 @@ abbrev pub FieldsAgain : Type 0
 FieldsAgain = (v : View) → length (fields_in v) < 2 ^ 64 - 1 → fields_read (map packed (fields_in v)) ≡ fields_in v
 
 -- the frames that are read are those that were written
-pub summed_again : (info : ThreadKey) (v : View) (stored : List Stored) (summary : Summary) → FieldsAgain → length (fields_in v) < 2 ^ 64 - 1 → stored ≡ map packed (fields_in v) → IsSummary info stored summary
+pub summed_again : (info : ThreadKey) (v : View) (stored : List Stored) (summary : Summary) → FieldsAgain
+    → length (fields_in v) < 2 ^ 64 - 1 → stored ≡ map packed (fields_in v) → IsSummary info stored summary
     → SumsUp info (fields_in v) (details_said (fields_in v)) summary
 summed_again info v stored summary again few is sums =
     subst (λ (ds : List Details). SumsUp info (fields_in v) ds summary) (details_again (fields_in v))
-    (subst (λ (cs : List PacketFields). SumsUp info cs (flat_map details_stored (map packed (fields_in v))) summary) (again v few) (subst (λ (ss : List Stored). IsSummary info ss summary) is sums))
+    (subst (λ (cs : List PacketFields). SumsUp info cs (flat_map details_stored (map packed (fields_in v))) summary)
+    (again v few) (subst (λ (ss : List Stored). IsSummary info ss summary) is sums))
 
 abbrev pub FailsForIds : View → Option (List ℕ) → FileError → Type 0
-FailsForIds v new e = FailsToRead file_at (Some (file_of (fields_in v))) new e → (IsOutside e → ⊥) → (e ≡ file.Refused MissingId) × (list_any lacks_ids (fields_in v) ≡ true)
+FailsForIds v new e =
+    FailsToRead file_at (Some (file_of (fields_in v))) new e → (IsOutside e → ⊥)
+    → (e ≡ file.Refused MissingId) × (list_any lacks_ids (fields_in v) ≡ true)
 
 lack_none : (b : Bool) → b ≡ true → b ≡ false → ⊥
 lack_none b lacks none = cc
 
-pub hindered_again : (info : ThreadKey) (v : View) (new : Option (List ℕ)) (e : FileError) → FieldsAgain → length (fields_in v) < 2 ^ 64 - 1 → NoneLacksIds (fields_in v) → FailsForIds v new e
+pub hindered_again : (info : ThreadKey) (v : View) (new : Option (List ℕ)) (e : FileError) → FieldsAgain
+    → length (fields_in v) < 2 ^ 64 - 1 → NoneLacksIds (fields_in v) → FailsForIds v new e
     → ((stored : List Stored) → TookFrames file_at (Some (file_of (fields_in v))) new stored → stored ≡ map packed (fields_in v))
     → FailsToSumUp info (Some (file_of (fields_in v))) new e → (IsOutside e → ⊥) → IsHindered info (fields_in v) e
-hindered_again info v new e again few ids for_ids frames (inl fails) inside = absurd (lack_none (list_any lacks_ids (fields_in v)) (for_ids fails inside).1 ids)
+hindered_again info v new e again few ids for_ids frames (inl fails) inside =
+    absurd (lack_none (list_any lacks_ids (fields_in v)) (for_ids fails inside).1 ids)
 hindered_again info v new e again few ids for_ids frames (inr (stored, took, hindered)) inside =
     subst (λ (cs : List PacketFields). IsHindered info cs e) (ap fields_read (frames stored took) ∙ again v few) hindered
 
@@ -111,7 +124,8 @@ held_unpacked : (o : Option Streams) (s : Streams) → o ≡ Some s → or_bad o
 held_unpacked None s is = cc
 held_unpacked (Some t) s is = let same : t ≡ s = cc in ap (λ (x : Streams). Ok x) same
 
-of_kind : (b : Bool) (k : ℕ) (o : Option Streams) (s : Streams) → (if b then o else None) ≡ Some s → (if b then or_bad o else Err (file.Compressed k)) ≡ Ok s
+of_kind : (b : Bool) (k : ℕ) (o : Option Streams) (s : Streams) → (if b then o else None) ≡ Some s
+    → (if b then or_bad o else Err (file.Compressed k)) ≡ Ok s
 of_kind true k o s is = held_unpacked o s is
 of_kind false k o s is = cc
 

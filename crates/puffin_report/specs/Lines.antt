@@ -10,6 +10,7 @@ use Rattle.puffin_data.specs.Forest.Measures.{scope_count, height, least_start, 
 use Rattle.puffin_data.specs.Forest.Spelling.{spelling}
 use Rattle.puffin_frames.specs.declared.frame_data.meta.FrameMeta.{FrameMeta}
 
+-- the line of these measures
 abbrev pub measures_line : ℕ → ℕ → ℤ → ℤ → List ℕ
 measures_line scopes depth start stop =
     codes "scopes " ++ (decimal scopes
@@ -19,9 +20,9 @@ measures_line scopes depth start stop =
 -- the line of a forest
 abbrev pub count_line : Forest → List ℕ
 count_line empty = codes "scopes 0 depth 0 range empty\n"
-count_line (node s children others) =
-    let f = node s children others in
-    measures_line (scope_count f) (height f) (least_start f) (greatest_stop f)
+count_line (node scope children others) =
+    let forest = node scope children others in
+    measures_line (scope_count forest) (height forest) (least_start forest) (greatest_stop forest)
 
 -- the two halves of a frame's line: its sums, and its range with the duration
 abbrev pub sums_text : ℕ → ℕ → ℕ → List ℕ
@@ -34,6 +35,7 @@ range_text start stop duration =
     codes " range " ++ (signed_decimal start ++ (codes " " ++ (signed_decimal stop
     ++ (codes " duration " ++ (signed_decimal duration ++ codes "\n")))))
 
+-- the line of a frame with this meta
 abbrev pub meta_line : FrameMeta → List ℕ
 meta_line meta =
     sums_text meta.frame_index meta.num_bytes meta.num_scopes
@@ -45,22 +47,24 @@ none_line cause = codes "frame none " ++ (error_name cause ++ codes "\n")
 
 -- the meta of frame 0 with a forest as its one stream, in this form
 abbrev pub meta_of_forest : Form → Forest → FrameMeta
-meta_of_forest form f = record {
+meta_of_forest form forest = record {
   frame_index = 0;
-  range_ns = (least_start f, greatest_stop f);
-  num_bytes = length (spelling form f);
-  num_scopes = scope_count f;
+  range_ns = (least_start forest, greatest_stop forest);
+  num_bytes = length (spelling form forest);
+  num_scopes = scope_count forest;
 }
 
 -- what making that frame returns: it is refused if there is no scope, or if the time from the least start to the greatest stop
 -- doesn't fit i64
 abbrev pub frame_of_forest : Form → Forest → Result FrameMeta Error
 frame_of_forest form empty = Err Empty
-frame_of_forest form (node s children others) =
-    let f = node s children others in
-    if int_lt (greatest_stop f -ℤ least_start f) (pos (2 ^ 63)) then Ok (meta_of_forest form f)
+frame_of_forest form (node scope children others) =
+    let forest = node scope children others in
+    if int_lt (greatest_stop forest -ℤ least_start forest) (pos (2 ^ 63))
+    then Ok (meta_of_forest form forest)
     else Err RangeTooLong
 
+-- the line of a frame, or of the cause that refused it
 abbrev pub outcome_line : Result FrameMeta Error → List ℕ
 outcome_line (Ok meta) = meta_line meta
 outcome_line (Err cause) = none_line cause
@@ -73,4 +77,4 @@ refusal_of (Err cause) = Some cause
 
 -- the two lines of a forest
 abbrev pub lines_of : Form → Forest → List ℕ
-lines_of form f = count_line f ++ outcome_line (frame_of_forest form f)
+lines_of form forest = count_line forest ++ outcome_line (frame_of_forest form forest)

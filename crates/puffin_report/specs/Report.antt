@@ -26,12 +26,18 @@ module _ (info : ThreadKey) (unread left before after : Option (List ℕ)) where
       × HasSummary info unread left summary
       × Appends before after (report_lines summary)
 
-  -- the file couldn't be summed up, or memory ran out, and nothing was written; or the writer failed, and a prefix of the lines
-  -- may have been written
-  abbrev pub IsUnreported : FileError → Type 0
-  IsUnreported fault =
-      (FailsToSumUp info unread left fault × Appends before after [])
-      ⊎ ((fault ≡ Io)
+  -- the file couldn't be summed up, or memory ran out, and nothing was written
+  abbrev pub HasNoLines : FileError → Type 0
+  HasNoLines fault = FailsToSumUp info unread left fault × Appends before after []
+
+  -- the writer failed, and a prefix of the lines of the file's summary was written
+  abbrev pub HasCutLines : FileError → Type 0
+  HasCutLines fault =
+      (fault ≡ Io)
       × (summary : Summary)
       × HasSummary info unread left summary
-      × WritesBeginning before after (report_lines summary))
+      × WritesBeginning before after (report_lines summary)
+
+  -- why the report failed, and what it wrote
+  abbrev pub IsUnreported : FileError → Type 0
+  IsUnreported fault = HasNoLines fault ⊎ HasCutLines fault

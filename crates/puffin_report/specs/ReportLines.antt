@@ -15,9 +15,10 @@ indent (suc level) = codes "  " ++ indent level
 
 -- the name in these details, or without details a `#` and the id
 abbrev pub name_or_id : ℕ → Option Details → List ℕ
-name_or_id id (Some d) = name_of d
+name_or_id id (Some details) = name_of details
 name_or_id id None = codes "#" ++ decimal id
 
+-- the name of the scope with this id, or a `#` and the id
 abbrev pub scope_name : Collection → ℕ → List ℕ
 scope_name known id = name_or_id id (get known.by_id id)
 
@@ -40,20 +41,23 @@ greatest_text greatest start =
     ++ (codes " start " ++ (signed_decimal start ++ codes "\n")))
 
 abbrev pub numbers_text : Node → List ℕ
-numbers_text n = pieces_text n.pieces n.total n.per_frame ++ greatest_text n.greatest n.start
+numbers_text node =
+    pieces_text node.pieces node.total node.per_frame ++ greatest_text node.greatest node.start
 
 -- a merged scope's line, with its name in this collection
 abbrev pub scope_line : Collection → ℕ → Node → List ℕ
-scope_line known level n =
-    indent level ++ (scope_name known n.label.id ++ (text_part n.label.text ++ numbers_text n))
+scope_line known level node =
+    indent level
+    ++ (scope_name known node.label.id ++ (text_part node.label.text ++ numbers_text node))
 
 -- each merged scope's line, then those of its children, one level deeper, and then those of its later siblings
 abbrev pub scope_lines : Collection → ℕ → MergedForest → List ℕ
 scope_lines known level no_node = []
-scope_lines known level (merged n children others) =
-    scope_line known level n
+scope_lines known level (merged node children others) =
+    scope_line known level node
     ++ (scope_lines known (level + 1) children ++ scope_lines known level others)
 
+-- the first line
 abbrev pub frames_line : ℕ → List ℕ
 frames_line frames = codes "frames " ++ (decimal frames ++ codes "\n")
 

@@ -22,19 +22,21 @@ use Rattle.puffin_view.specs.View.{after_all}
 use Rattle.puffin_report.specs.declared.summary.Summary.{Summary}
 
 -- what merging reads of a frame with these streams: the start of its range, and the bytes under an info
-abbrev pub bytes_under : ThreadKey → PacketFields → Result Streams FileError → Result FrameBytes FileError
-bytes_under info c (Ok streams) =
+abbrev pub bytes_under : ThreadKey → PacketFields → Result Streams FileError →
+    Result FrameBytes FileError
+bytes_under info frame (Ok streams) =
     Ok (
     record {
-      start = c.meta.range_ns.0;
+      start = frame.meta.range_ns.0;
       stream = option_map stream_in (tree.get streams info);
     })
-bytes_under info c (Err cause) = Err cause
+bytes_under info frame (Err cause) = Err cause
 
 -- what merging reads of a frame that is packed, or why it can't be unpacked
 abbrev pub bytes_in : ThreadKey → PacketFields → Result FrameBytes FileError
-bytes_in info c = bytes_under info c (streams_in_fields c)
+bytes_in info frame = bytes_under info frame (streams_in_fields frame)
 
+-- one frame before the others, or the first cause
 abbrev pub followed_by : Result FrameBytes FileError → Result (List FrameBytes) FileError →
     Result (List FrameBytes) FileError
 followed_by (Err cause) others = Err cause
@@ -44,18 +46,18 @@ followed_by (Ok frame) (Ok frames) = Ok (frame ∷ frames)
 -- what merging reads of each frame, or the fault of the first frame that can't be unpacked
 abbrev pub all_bytes_in : ThreadKey → List PacketFields → Result (List FrameBytes) FileError
 all_bytes_in info [] = Ok []
-all_bytes_in info (c ∷ cs) = followed_by (bytes_in info c) (all_bytes_in info cs)
+all_bytes_in info (frame ∷ later) = followed_by (bytes_in info frame) (all_bytes_in info later)
 
 -- the contents of the frames of a view that reads these frames
 abbrev pub fields_read : List Stored → List PacketFields
 fields_read stored = fields_in (after_all read_view (map frame_stored stored))
 
--- The summary has the number of frames, their merge under an info, and these details, added in order.
-pub record SumsUp (info : ThreadKey) (cs : List PacketFields) (told : List Details) (summary : Summary) :
-    Type 0 where
-  pub frames : summary.frames ≡ length cs
+-- The summary has the number of these frames, their merge under an info, and these details, added in order.
+pub record SumsUp (info : ThreadKey) (kept : List PacketFields) (told : List Details)
+    (summary : Summary) : Type 0 where
+  pub frames : summary.frames ≡ length kept
   pub streams : List FrameBytes
-  pub unpacked : all_bytes_in info cs ≡ Ok streams
+  pub unpacked : all_bytes_in info kept ≡ Ok streams
   pub merged : AreMerged streams (forest_in summary.merged.items)
   pub scopes : summary.scopes ≡ with_all_details no_details told
 
@@ -66,22 +68,26 @@ IsSummary info stored summary =
 
 -- the details of all frames, in order
 abbrev pub details_said : List PacketFields → List Details
-details_said cs = flat_map (λ c. c.details) cs
+details_said frames = flat_map (λ frame. frame.details) frames
 
 -- all details of all frames have ids
 abbrev pub NoneLacksIds : List PacketFields → Type 0
-NoneLacksIds cs = list_any lacks_ids cs ≡ false
+NoneLacksIds frames = list_any lacks_ids frames ≡ false
 
--- why frames can't be summed up: the fault of the first that can't be unpacked, or what refuses their merge, other than memory
-abbrev pub IsHindered : ThreadKey → List PacketFields → FileError → Type 0
-IsHindered info cs fault =
-    (all_bytes_in info cs ≡ Err fault)
-    ⊎ ((streams : List FrameBytes)
+-- all frames can be unpacked, but their merge is refused, with a cause other than memory
+abbrev pub IsMergeFault : ThreadKey → List PacketFields → FileError → Type 0
+IsMergeFault info frames fault =
+    (streams : List FrameBytes)
     × (cause : Error)
-    × (all_bytes_in info cs ≡ Ok streams)
+    × (all_bytes_in info frames ≡ Ok streams)
     × (fault ≡ Refused cause)
     × (cause ≡ Memory → ⊥)
-    × IsMergeRefusal streams cause)
+    × IsMergeRefusal streams cause
+
+-- why frames can't be summed up: the fault of the first that can't be unpacked, or that of their merge
+abbrev pub IsHindered : ThreadKey → List PacketFields → FileError → Type 0
+IsHindered info frames fault =
+    (all_bytes_in info frames ≡ Err fault) ⊎ IsMergeFault info frames fault
 
 -- A call read a device and failed: the device or memory failed, or the bytes taken have this fault, or the frames in them do.
 abbrev pub FailsToSumUp : ThreadKey → Option (List ℕ) → Option (List ℕ) → FileError → Type 0

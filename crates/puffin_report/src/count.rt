@@ -30,7 +30,7 @@ fn measures_line(
 /// Returns the line of the measures of an honest info.
 fn line_of(alloc: Global, info: &StreamInfo) -> Result<String, AllocError>
     ensures { IfOk result (λ line.
-        (f : Forest) → IsHonest info.now f → string_bytes line ≡ count_line f) }
+        (forest : Forest) → IsHonest info.now forest → string_bytes line ≡ count_line forest) }
 {
     if info.num_scopes == 0 {
         return String::from_str(alloc, "scopes 0 depth 0 range empty\n");
@@ -84,9 +84,10 @@ fn none_line(alloc: Global, cause: Error) -> Result<String, AllocError>
 
 /// Makes frame 0 with an honest info as its one stream.
 fn frame_of(alloc: Global, info: StreamInfo) -> Result<UnpackedFrameData, Error>
-    ensures { (f : Forest) → IsHonest info f →
-        MatchResult result (λ frame. frame_of_forest info.stream.form f ≡ Ok frame.meta) (λ e.
-        (e ≡ Error.Memory) ⊎ (frame_of_forest info.stream.form f ≡ Err e)) }
+    ensures { (forest : Forest) → IsHonest info forest →
+        MatchResult result
+        (λ frame. frame_of_forest info.stream.form forest ≡ Ok frame.meta)
+        (λ e. (e ≡ Error.Memory) ⊎ (frame_of_forest info.stream.form forest ≡ Err e)) }
 {
     let thread = ThreadInfo {
         start_time_ns: None,
@@ -99,10 +100,10 @@ fn frame_of(alloc: Global, info: StreamInfo) -> Result<UnpackedFrameData, Error>
 
 /// Returns the line of the frame of an honest info, and the cause if the frame is refused, unless the cause is `Empty`.
 fn frame_line(alloc: Global, info: StreamInfo) -> Result<(String, Option<Error>), FileError>
-    ensures ok { IfOk result (λ it.
-        (f : Forest) → IsHonest info f →
-        (string_bytes it.0 ≡ outcome_line (frame_of_forest info.stream.form f))
-        × (it.1 ≡ refusal_of (frame_of_forest info.stream.form f))) }
+    ensures ok { IfOk result (λ line_and_cause.
+        (forest : Forest) → IsHonest info forest →
+        (string_bytes line_and_cause.0 ≡ outcome_line (frame_of_forest info.stream.form forest))
+        × (line_and_cause.1 ≡ refusal_of (frame_of_forest info.stream.form forest))) }
     ensures err { IsOkUnless result FileError.Memory }
 {
     match frame_of(alloc, info) {

@@ -25,16 +25,16 @@ use puffin_view::profile_view::laws::what_was_written_is_read;
 /// with the details that they list. If all these details have ids, and neither the reader fails nor memory runs out, then
 /// summing up fails only because a frame can't be unpacked or the frames can't be merged.
 pub fn what_was_recorded_is_summed_up()
-    ensures summary { (info : ThreadKey) (v : View) (new : Option (List ℕ)) (stored : List Stored)
-        (summary : Summary) →
-        AllByRecursion IsPacked (fields_in v) → length (fields_in v) < 2 ^ 64 - 1 →
-        TookFrames file_at (Some (file_of (fields_in v))) new stored →
+    ensures summary { (info : ThreadKey) (view : View) (new : Option (List ℕ))
+        (stored : List Stored) (summary : Summary) →
+        AllByRecursion IsPacked (fields_in view) → length (fields_in view) < 2 ^ 64 - 1 →
+        TookFrames file_at (Some (file_of (fields_in view))) new stored →
         IsSummary info stored summary →
-        SumsUp info (fields_in v) (details_said (fields_in v)) summary }
-    ensures fault { (info : ThreadKey) (v : View) (new : Option (List ℕ)) (e : FileError) →
-        AllByRecursion IsPacked (fields_in v) → length (fields_in v) < 2 ^ 64 - 1 →
-        NoneLacksIds (fields_in v) → FailsToSumUp info (Some (file_of (fields_in v))) new e →
-        ¬ IsOutside e → IsHindered info (fields_in v) e }
+        SumsUp info (fields_in view) (details_said (fields_in view)) summary }
+    ensures fault { (info : ThreadKey) (view : View) (new : Option (List ℕ)) (e : FileError) →
+        AllByRecursion IsPacked (fields_in view) → length (fields_in view) < 2 ^ 64 - 1 →
+        NoneLacksIds (fields_in view) → FailsToSumUp info (Some (file_of (fields_in view))) new e →
+        ¬ IsOutside e → IsHindered info (fields_in view) e }
     // A packed copy of a frame is unpacked to what the copy holds, which is what the frame holds.
     ensures copied { (frame copy : FrameData) (streams : Streams) →
         holding_of copy ≡ as_packed (holding_of frame) → frame_streams copy ≡ Some streams →

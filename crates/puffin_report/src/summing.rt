@@ -94,10 +94,10 @@ impl<'i> Progress<'i> {
     fn with_unpacked(self, frame: &UnpackedFrameData) -> Result<Progress<'i>, FileError>
         requires { CanGoOn self }
         ensures ok { IfOk result (λ progress.
-            (info : ThreadKey) (kept : List PacketFields) (c : PacketFields) →
+            (info : ThreadKey) (kept : List PacketFields) (fields : PacketFields) →
             IsProgress info kept self.entry →
-            bytes_in info c ≡ Ok (frame_bytes info frame.now) →
-            IsProgress info (kept ++ c ∷ []) progress) }
+            bytes_in info fields ≡ Ok (frame_bytes info frame.now) →
+            IsProgress info (kept ++ fields ∷ []) progress) }
         ensures memory { IsOkUnless result FileError.Memory }
     {
         let mut merger = match self {
@@ -141,10 +141,10 @@ fn kept_before<'i>(
     index: FrameIndex,
     none: Progress<'i>,
 ) -> Progress<'i>
-    ensures { (info : ThreadKey) (cs : List PacketFields) (c : PacketFields) →
-        last ≡ last_index cs → index ≡ frame_index c →
-        IsProgress info (rising_end cs) progress.entry → IsProgress info [] none.entry →
-        IsKeptWith info cs c result }
+    ensures { (info : ThreadKey) (all : List PacketFields) (next : PacketFields) →
+        last ≡ last_index all → index ≡ frame_index next →
+        IsProgress info (rising_end all) progress.entry → IsProgress info [] none.entry →
+        IsKeptWith info all next result }
 {
     if rises(last, index) { progress } else { none }
 }
@@ -169,9 +169,10 @@ impl<'i> Summing<'i> {
     /// Fails only with `Memory`.
     pub(crate) fn take(self, frame: FrameData) -> Result<Summing<'i>, FileError>
         requires { CanTake self }
-        ensures ok { IfOk result (λ sum. (info : ThreadKey) (stored : List Stored) (s : Stored) →
-            frame_of frame ≡ frame_stored s → HasSummed info stored self.entry →
-            HasSummed info (stored ++ s ∷ []) sum) }
+        ensures ok { IfOk result (λ sum.
+            (info : ThreadKey) (stored : List Stored) (next : Stored) →
+            frame_of frame ≡ frame_stored next → HasSummed info stored self.entry →
+            HasSummed info (stored ++ next ∷ []) sum) }
         ensures memory { IsOkUnless result FileError.Memory }
     {
         let mut frame = frame;

@@ -47,17 +47,39 @@ stop_of r word h = h.honest.counts.greatest_stop ∙ sym (greatest_close-tour h.
 
 -- ---- one more report
 
-events_with : (ds : List Delivery) (i : ThreadKey) (word : Word) → flat_map events_of (ds ++ (under i word ∷ [])) ≡ flat_map events_of ds ++ word.events
-events_with ds i word = flat_map-append events_of ds (under i word ∷ []) ∙ ap (λ (w : List Event). flat_map events_of ds ++ w) (append-nil word.events)
+events_with : (ds : List Delivery) (i : ThreadKey) (word : Word)
+    → flat_map events_of (ds ++ (under i word ∷ [])) ≡ flat_map events_of ds ++ word.events
+events_with ds i word =
+    flat_map-append events_of ds (under i word ∷ [])
+    ∙ ap (λ (w : List Event). flat_map events_of ds ++ w) (append-nil word.events)
 
-pub SumsTo-reported : (streams : Streams) (ds : List Delivery) (i : ThreadKey) (r : StreamFacts) (word : Word) → SumsTo streams ds → SpellsWord r word → SumsTo (reported_to streams i r) (ds ++ (under i word ∷ []))
+pub SumsTo-reported : (streams : Streams) (ds : List Delivery) (i : ThreadKey) (r : StreamFacts) (word : Word)
+    → SumsTo streams ds → SpellsWord r word → SumsTo (reported_to streams i r) (ds ++ (under i word ∷ []))
 SumsTo-reported streams ds i r word before spells =
     let events = flat_map events_of ds in
     record {
-      bytes = omega (arith, after_report bytes_measure streams i r, before.bytes, size_of r word spells, sum_by_push bytes_delivered ds (under i word));
-      scopes = omega (arith, after_report scopes_measure streams i r, before.scopes, scopes_of r word spells, sum_by_push scopes_delivered ds (under i word));
-      start = after_report starts_measure streams i r ∙ ap (λ x. int_min x r.range_ns.0) before.start ∙ ap (int_min (least_open events)) (start_of r word spells) ∙ sym (ap least_open (events_with ds i word) ∙ least_open-append events word.events);
-      stop = after_report stops_measure streams i r ∙ ap (λ x. int_max x r.range_ns.1) before.stop ∙ ap (int_max (greatest_close events)) (stop_of r word spells) ∙ sym (ap greatest_close (events_with ds i word) ∙ greatest_close-append events word.events);
+      bytes = omega (
+        arith,
+        after_report bytes_measure streams i r,
+        before.bytes,
+        size_of r word spells,
+        sum_by_push bytes_delivered ds (under i word),
+      );
+      scopes = omega (
+        arith,
+        after_report scopes_measure streams i r,
+        before.scopes,
+        scopes_of r word spells,
+        sum_by_push scopes_delivered ds (under i word),
+      );
+      start = after_report starts_measure streams i r
+          ∙ ap (λ x. int_min x r.range_ns.0) before.start
+          ∙ ap (int_min (least_open events)) (start_of r word spells)
+          ∙ sym (ap least_open (events_with ds i word) ∙ least_open-append events word.events);
+      stop = after_report stops_measure streams i r
+          ∙ ap (λ x. int_max x r.range_ns.1) before.stop
+          ∙ ap (int_max (greatest_close events)) (stop_of r word spells)
+          ∙ sym (ap greatest_close (events_with ds i word) ∙ greatest_close-append events word.events);
     }
 
 -- ---- before any report
@@ -70,7 +92,12 @@ values_none : values (empty {X = StreamFacts} {R = key_cmp}) ≡ []
 values_none = ap (map (λ e. e.1)) (no_length _ (sym (len-entries (empty {X = StreamFacts} {R = key_cmp})) ∙ len-empty key_cmp StreamFacts))
 
 pub SumsTo-none : SumsTo empty []
-SumsTo-none = record { bytes = ap total_bytes values_none; scopes = ap total_scopes values_none; start = ap joined_start values_none; stop = ap joined_stop values_none }
+SumsTo-none = record {
+  bytes = ap total_bytes values_none;
+  scopes = ap total_scopes values_none;
+  start = ap joined_start values_none;
+  stop = ap joined_stop values_none;
+}
 
 -- ---- at the opening
 
@@ -86,7 +113,8 @@ between a b not_below not_above = grind (arith, ints)
 
 same_time_there : {P : Type 0} (a b : ℤ) → ∥ P ∥₁ → (P → a ≡ b) → a ≡ b
 same_time_there a b there same =
-    between a b (λ lt. not_there there (λ p. let e = same p in omega (arith, ints, lt, e))) (λ gt. not_there there (λ p. let e = same p in omega (arith, ints, gt, e)))
+    between a b (λ lt. not_there there (λ p. let e = same p in omega (arith, ints, lt, e)))
+    (λ gt. not_there there (λ p. let e = same p in omega (arith, ints, gt, e)))
 
 EachHonest : List (ThreadKey × StreamFacts) → Type 0
 EachHonest [] = Unit {0}
@@ -108,12 +136,15 @@ less Greater p = absurd p
 find_below : (k : ThreadKey) (es : List (ThreadKey × StreamFacts)) → T (below_all key_cmp k es) → find key_cmp k es ≡ None
 find_below k [] h = refl
 find_below k (e ∷ es) h =
-    ap (λ r. cond (is_eq r) (Some e.1) (find key_cmp k es)) (less (key_cmp k e.0) (first (is_lt (key_cmp k e.0)) (below_all key_cmp k es) h)) ∙ find_below k es (second (is_lt (key_cmp k e.0)) (below_all key_cmp k es) h)
+    ap (λ r. cond (is_eq r) (Some e.1) (find key_cmp k es))
+    (less (key_cmp k e.0) (first (is_lt (key_cmp k e.0)) (below_all key_cmp k es) h))
+    ∙ find_below k es (second (is_lt (key_cmp k e.0)) (below_all key_cmp k es) h)
 
 abbrev AllFound : List (ThreadKey × StreamFacts) → Type 0
 AllFound es = (i : ThreadKey) (r : StreamFacts) → find key_cmp i es ≡ Some r → ∥ ((f : Forest) × AreHonestFacts r f) ∥₁
 
-found_later : (e : ThreadKey × StreamFacts) (es : List (ThreadKey × StreamFacts)) → T (below_all key_cmp e.0 es) → AllFound (e ∷ es) → AllFound es
+found_later : (e : ThreadKey × StreamFacts) (es : List (ThreadKey × StreamFacts)) → T (below_all key_cmp e.0 es)
+    → AllFound (e ∷ es) → AllFound es
 found_later e es below all i r found = at_test (has_same_key i e.0) refl
   where
     none_some : (r : StreamFacts) → ◌≡◌ {A = Option StreamFacts} None (Some r) → ⊥
@@ -121,7 +152,8 @@ found_later e es below all i r found = at_test (has_same_key i e.0) refl
 
     at_test : (b : Bool) → has_same_key i e.0 ≡ b → ∥ ((f : Forest) × AreHonestFacts r f) ∥₁
     at_test true same =
-        let gone : find key_cmp i es ≡ None = subst (λ k. find key_cmp k es ≡ None) (sym (has_same_key-one i e.0 same)) (find_below e.0 es below) in
+        let gone : find key_cmp i es ≡ None =
+        subst (λ k. find key_cmp k es ≡ None) (sym (has_same_key-one i e.0 same)) (find_below e.0 es below) in
         absurd (none_some r (sym gone ∙ found))
     at_test false other = all i r (ap (λ (b : Bool). cond b (Some e.1) (find key_cmp i es)) other ∙ found)
 
@@ -138,7 +170,13 @@ abbrev events_at : List (ThreadKey × StreamFacts) → List Event
 events_at es = flat_map events_of (due_of es)
 
 spells_itself : (r : StreamFacts) → ∥ ((f : Forest) × AreHonestFacts r f) ∥₁ → ∥ SpellsWord r (word_of_facts r) ∥₁
-spells_itself r somehow = ∥∥₁_map somehow (λ it. record { forest = it.0; honest = it.1; form = refl; toured = sym (ap (events_in r.form) it.1.stream.whole ∙ events_in-spelling r.form it.0 it.1.stream.fits) })
+spells_itself r somehow =
+    ∥∥₁_map somehow (λ it. record {
+      forest = it.0;
+      honest = it.1;
+      form = refl;
+      toured = sym (ap (events_in r.form) it.1.stream.whole ∙ events_in-spelling r.form it.0 it.1.stream.fits);
+    })
 
 abbrev records_of : List (ThreadKey × StreamFacts) → List StreamFacts
 records_of es = map (λ e. e.1) es
@@ -162,10 +200,28 @@ entries_sum (e ∷ es) h =
     let start = same_time_there e.1.range_ns.0 (least_open word.events) spells (start_of e.1 word) in
     let stop = same_time_there e.1.range_ns.1 (greatest_close word.events) spells (stop_of e.1 word) in
     record {
-      bytes = omega (arith, total_bytes-one e.1 (records_of es), later.bytes, size, sum_by-cons bytes_delivered (under e.0 word) (due_of es));
-      scopes = omega (arith, total_scopes-one e.1 (records_of es), later.scopes, scopes, sum_by-cons scopes_delivered (under e.0 word) (due_of es));
-      start = least_start-one e.1 (records_of es) ∙ ap (λ x. int_min x (joined_start (records_of es))) start ∙ ap (int_min (least_open word.events)) later.start ∙ sym (least_open-append word.events (events_at es));
-      stop = greatest_stop-one e.1 (records_of es) ∙ ap (λ x. int_max x (joined_stop (records_of es))) stop ∙ ap (int_max (greatest_close word.events)) later.stop ∙ sym (greatest_close-append word.events (events_at es));
+      bytes = omega (
+        arith,
+        total_bytes-one e.1 (records_of es),
+        later.bytes,
+        size,
+        sum_by-cons bytes_delivered (under e.0 word) (due_of es),
+      );
+      scopes = omega (
+        arith,
+        total_scopes-one e.1 (records_of es),
+        later.scopes,
+        scopes,
+        sum_by-cons scopes_delivered (under e.0 word) (due_of es),
+      );
+      start = least_start-one e.1 (records_of es)
+          ∙ ap (λ x. int_min x (joined_start (records_of es))) start
+          ∙ ap (int_min (least_open word.events)) later.start
+          ∙ sym (least_open-append word.events (events_at es));
+      stop = greatest_stop-one e.1 (records_of es)
+          ∙ ap (λ x. int_max x (joined_stop (records_of es))) stop
+          ∙ ap (int_max (greatest_close word.events)) later.stop
+          ∙ sym (greatest_close-append word.events (events_at es));
     }
 
 pub SumsTo-opening : (s : SessionState) → AreHonest s.collected.streams → SumsTo s.collected.streams (due (opening_of s) [])
@@ -184,7 +240,9 @@ min_comm x y = omega (arith, ints, clamps)
 max_comm : (x y : ℤ) → int_max x y ≡ int_max y x
 max_comm x y = omega (arith, ints, clamps)
 
-module _ (o : Opening) (done : List Action) (now : SessionState) (i : ThreadKey) (r : StreamFacts) (word : Word) (stands : StandsAfter o done now) (sums : SumsTo now.collected.streams (due o done)) (spells : SpellsWord r word) where
+module _ (o : Opening) (done : List Action) (now : SessionState) (i : ThreadKey) (r : StreamFacts) (word : Word)
+    (stands : StandsAfter o done now) (sums : SumsTo now.collected.streams (due o done))
+    (spells : SpellsWord r word) where
   abbrev events : List Event
   events = flat_map events_of (due o done)
 
@@ -204,11 +262,19 @@ module _ (o : Opening) (done : List Action) (now : SessionState) (i : ThreadKey)
 
   start_with : joined_start (r ∷ values now.collected.streams) ≡ least_open (events ++ word.events)
   start_with =
-      least_start-one r (values now.collected.streams) ∙ ap (int_min r.range_ns.0) sums.start ∙ min_comm r.range_ns.0 (least_open events) ∙ ap (int_min (least_open events)) (start_of r word spells) ∙ sym (least_open-append events word.events)
+      least_start-one r (values now.collected.streams)
+      ∙ ap (int_min r.range_ns.0) sums.start
+      ∙ min_comm r.range_ns.0 (least_open events)
+      ∙ ap (int_min (least_open events)) (start_of r word spells)
+      ∙ sym (least_open-append events word.events)
 
   stop_with : joined_stop (r ∷ values now.collected.streams) ≡ greatest_close (events ++ word.events)
   stop_with =
-      greatest_stop-one r (values now.collected.streams) ∙ ap (int_max r.range_ns.1) sums.stop ∙ max_comm r.range_ns.1 (greatest_close events) ∙ ap (int_max (greatest_close events)) (stop_of r word spells) ∙ sym (greatest_close-append events word.events)
+      greatest_stop-one r (values now.collected.streams)
+      ∙ ap (int_max r.range_ns.1) sums.stop
+      ∙ max_comm r.range_ns.1 (greatest_close events)
+      ∙ ap (int_max (greatest_close events)) (stop_of r word spells)
+      ∙ sym (greatest_close-append events word.events)
 
   range : range_with now.collected r ≡ (least_open (events ++ word.events), greatest_close (events ++ word.events))
   range i = (start_with i, stop_with i)
@@ -217,15 +283,21 @@ module _ (o : Opening) (done : List Action) (now : SessionState) (i : ThreadKey)
   unlike = unlike_due (get now.collected.streams i) (total_under (due o done) i) r word (stands.collected i) spells
 
   like : ¬ IsUnlike now.collected i r → ¬ IsUnlikeDue (due o done) i word
-  like none apart = none (unlike_pending (get now.collected.streams i) (total_under (due o done) i) r word (stands.collected i) spells apart)
+  like none apart =
+      none
+      (unlike_pending (get now.collected.streams i) (total_under (due o done) i) r word (stands.collected i) spells
+      apart)
 
-  pub MayReport-from : ¬ IsUnlike now.collected i r → PendingFits now.collected r → ¬ IsTooLong (range_with now.collected r) → MayReport o done i word
+  pub MayReport-from : ¬ IsUnlike now.collected i r → PendingFits now.collected r
+      → ¬ IsTooLong (range_with now.collected r) → MayReport o done i word
   MayReport-from none h short = (like none, fits h, λ long. short (subst IsTooLong (sym range) long))
 
   -- where all details have their ids
-  pub IsRefusal-from : (ds : List Details) (e : Error) → AllHaveIds ds → IsReportRefusal now.collected i ds r e → IsDueRefusal o done i word e
+  pub IsRefusal-from : (ds : List Details) (e : Error) → AllHaveIds ds → IsReportRefusal now.collected i ds r e
+      → IsDueRefusal o done i word e
   IsRefusal-from ds e ids (inl missing) = absurd (missing.1 ids)
   IsRefusal-from ds e ids (inr (inl apart)) = inl (apart.0, unlike apart.2)
   IsRefusal-from ds e ids (inr (inr (all, none, (inl large)))) = inr (inl (large.0, like none, λ h. large.1 (fits_back h)))
-  IsRefusal-from ds e ids (inr (inr (all, none, (inr (inl long))))) = inr (inr (inl (long.0, like none, fits long.1, subst IsTooLong range long.2)))
+  IsRefusal-from ds e ids (inr (inr (all, none, (inr (inl long))))) =
+      inr (inr (inl (long.0, like none, fits long.1, subst IsTooLong range long.2)))
   IsRefusal-from ds e ids (inr (inr (all, none, (inr (inr memory))))) = inr (inr (inr (memory.0, MayReport-from none memory.1 memory.2)))

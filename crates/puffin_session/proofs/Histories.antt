@@ -34,7 +34,8 @@ since_last-yes p (y ∷ ys) x e =
     let some : list_any p (ys ++ (x ∷ [])) ≡ true = any_more p ys x true e ∙ or_true (list_any p ys) in
     rw some (since_last-yes p ys x e)
 
-pub since_last-no : {X : Type 0} (p : X → Bool) (xs : List X) (x : X) → p x ≡ false → since_last p (xs ++ (x ∷ [])) ≡ since_last p xs ++ (x ∷ [])
+pub since_last-no : {X : Type 0} (p : X → Bool) (xs : List X) (x : X) → p x ≡ false
+    → since_last p (xs ++ (x ∷ [])) ≡ since_last p xs ++ (x ∷ [])
 since_last-no p [] x e = rw e
 since_last-no p (y ∷ ys) x e =
     let alike : list_any p (ys ++ (x ∷ [])) ≡ list_any p ys = any_more p ys x false e ∙ or_false (list_any p ys) in
@@ -53,11 +54,18 @@ pub greatest-more : (latest : ℤ) (cs : List Call) (c : Call) → greatest late
 greatest-more latest [] c = refl
 greatest-more latest (d ∷ cs) c = greatest-more (int_max latest d.at) cs c
 
-pub marked-more : (form : Form) (latest : ℤ) (past cs : List Call) (c : Call) → marked_calls form latest past (cs ++ (c ∷ [])) ≡ marked_calls form latest past cs ++ (marked_call form (int_max (greatest latest (past ++ cs)) c.at) c.mark ∷ [])
-marked-more form latest past [] c = ap (λ time. marked_call form time c.mark ∷ []) (greatest-more latest past c ∙ ap (λ cs. int_max (greatest latest cs) c.at) (sym (append-nil past)))
+pub marked-more : (form : Form) (latest : ℤ) (past cs : List Call) (c : Call)
+    → marked_calls form latest past (cs ++ (c ∷ []))
+    ≡ marked_calls form latest past cs ++ (marked_call form (int_max (greatest latest (past ++ cs)) c.at) c.mark ∷ [])
+marked-more form latest past [] c =
+    ap (λ time. marked_call form time c.mark ∷ [])
+    (greatest-more latest past c ∙ ap (λ cs. int_max (greatest latest cs) c.at) (sym (append-nil past)))
 marked-more form latest past (d ∷ cs) c =
     ap (λ ms. marked_call form (greatest latest (past ++ (d ∷ []))) d.mark ∷ ms)
-    (marked-more form latest (past ++ (d ∷ [])) cs c ∙ ap (λ ds. marked_calls form latest (past ++ (d ∷ [])) cs ++ (marked_call form (int_max (greatest latest ds) c.at) c.mark ∷ [])) (append_assoc past (d ∷ []) cs))
+    (marked-more form latest (past ++ (d ∷ [])) cs c
+    ∙ ap
+    (λ ds. marked_calls form latest (past ++ (d ∷ [])) cs
+    ++ (marked_call form (int_max (greatest latest ds) c.at) c.mark ∷ [])) (append_assoc past (d ∷ []) cs))
 
 pub first_open-append : (ms ns : List Marked) → first_open (ms ++ ns) ≡ option_or (first_open ms) (first_open ns)
 first_open-append [] ns = refl
@@ -103,19 +111,32 @@ module _ (o : Opening) (t : ℕ) (done : List Action) (a : Action) where
   pub latest_of-more : (c : Call) → call_of t a ≡ Some c → latest_of o t (done ++ (a ∷ [])) ≡ int_max (latest_of o t done) c.at
   latest_of-more c e = rw (calls_of-more c e) (greatest-more (thread_at o t).latest (calls_of t done) c)
 
-  pub word_of-more : (c : Call) → call_of t a ≡ Some c → word_of o t (done ++ (a ∷ [])) ≡ word_of o t done ++ (marked_call (thread_at o t).form (int_max (latest_of o t done) c.at) c.mark ∷ [])
+  pub word_of-more : (c : Call) → call_of t a ≡ Some c
+      → word_of o t (done ++ (a ∷ []))
+      ≡ word_of o t done ++ (marked_call (thread_at o t).form (int_max (latest_of o t done) c.at) c.mark ∷ [])
   word_of-more c e = rw (calls_of-more c e, marked-more (thread_at o t).form (thread_at o t).latest [] (calls_of t done) c)
-      (sym (append_assoc (map (λ e. record { event = e; reported = false }) (thread_at o t).word) (marked_calls (thread_at o t).form (thread_at o t).latest [] (calls_of t done)) (marked_call (thread_at o t).form (int_max (latest_of o t done) c.at) c.mark ∷ [])))
+      (sym
+      (append_assoc (map (λ e. record { event = e; reported = false }) (thread_at o t).word)
+      (marked_calls (thread_at o t).form (thread_at o t).latest [] (calls_of t done))
+      (marked_call (thread_at o t).form (int_max (latest_of o t done) c.at) c.mark ∷ [])))
 
-  unreported_kept : (c : Call) → call_of t a ≡ Some c → (marked_call (thread_at o t).form (int_max (latest_of o t done) c.at) c.mark).reported ≡ false →
-      unreported o t (done ++ (a ∷ [])) ≡ unreported o t done ++ ((marked_call (thread_at o t).form (int_max (latest_of o t done) c.at) c.mark).event ∷ [])
+  unreported_kept : (c : Call) → call_of t a ≡ Some c
+      → (marked_call (thread_at o t).form (int_max (latest_of o t done) c.at) c.mark).reported ≡ false →
+      unreported o t (done ++ (a ∷ []))
+      ≡ unreported o t done
+      ++ ((marked_call (thread_at o t).form (int_max (latest_of o t done) c.at) c.mark).event ∷ [])
   unreported_kept c e goes_on =
       ap (λ w. map (λ m. m.event) (since_last (λ m. m.reported) w)) (word_of-more c e)
-      ∙ ap (map (λ m. m.event)) (since_last-no (λ m. m.reported) (word_of o t done) (marked_call (thread_at o t).form (int_max (latest_of o t done) c.at) c.mark) goes_on)
-      ∙ map-append (λ m. m.event) (since_last (λ m. m.reported) (word_of o t done)) (marked_call (thread_at o t).form (int_max (latest_of o t done) c.at) c.mark ∷ [])
+      ∙ ap (map (λ m. m.event))
+      (since_last-no (λ m. m.reported) (word_of o t done)
+      (marked_call (thread_at o t).form (int_max (latest_of o t done) c.at) c.mark) goes_on)
+      ∙ map-append (λ m. m.event) (since_last (λ m. m.reported) (word_of o t done))
+      (marked_call (thread_at o t).form (int_max (latest_of o t done) c.at) c.mark ∷ [])
 
   pub unreported-begun : (at : ℤ) (id : ℕ) (text : List ℕ) → call_of t a ≡ Some (record { at = at; mark = begun id text }) →
-      unreported o t (done ++ (a ∷ [])) ≡ unreported o t done ++ (Open id (cut_text (thread_at o t).form text) (int_max (latest_of o t done) at) ∷ [])
+      unreported o t (done ++ (a ∷ []))
+      ≡ unreported o t done
+      ++ (Open id (cut_text (thread_at o t).form text) (int_max (latest_of o t done) at) ∷ [])
   unreported-begun at id text e = unreported_kept (record { at = at; mark = begun id text }) e refl
 
   pub unreported-ended : (at : ℤ) → call_of t a ≡ Some (record { at = at; mark = ended false }) →
@@ -126,39 +147,68 @@ module _ (o : Opening) (t : ℕ) (done : List Action) (a : Action) where
   unreported-reported at e =
       let c : Call = record { at = at; mark = ended true } in
       ap (λ w. map (λ m. m.event) (since_last (λ m. m.reported) w)) (word_of-more c e)
-      ∙ ap (map (λ m. m.event)) (since_last-yes (λ m. m.reported) (word_of o t done) (marked_call (thread_at o t).form (int_max (latest_of o t done) at) (ended true)) refl)
+      ∙ ap (map (λ m. m.event))
+      (since_last-yes (λ m. m.reported) (word_of o t done)
+      (marked_call (thread_at o t).form (int_max (latest_of o t done) at) (ended true)) refl)
 
   first_start_more : (c : Call) → call_of t a ≡ Some c →
-      first_start_of o t (done ++ (a ∷ [])) ≡ option_or (thread_at o t).first_start (option_or (first_open (marked_calls (thread_at o t).form (thread_at o t).latest [] (calls_of t done))) (first_open (marked_call (thread_at o t).form (int_max (latest_of o t done) c.at) c.mark ∷ [])))
+      first_start_of o t (done ++ (a ∷ []))
+      ≡ option_or (thread_at o t).first_start
+      (option_or (first_open (marked_calls (thread_at o t).form (thread_at o t).latest [] (calls_of t done)))
+      (first_open (marked_call (thread_at o t).form (int_max (latest_of o t done) c.at) c.mark ∷ [])))
   first_start_more c e =
-      ap (λ cs. option_or (thread_at o t).first_start (first_open (marked_calls (thread_at o t).form (thread_at o t).latest [] cs))) (calls_of-more c e)
-      ∙ ap (λ ms. option_or (thread_at o t).first_start (first_open ms)) (marked-more (thread_at o t).form (thread_at o t).latest [] (calls_of t done) c)
-      ∙ ap (option_or (thread_at o t).first_start) (first_open-append (marked_calls (thread_at o t).form (thread_at o t).latest [] (calls_of t done)) (marked_call (thread_at o t).form (int_max (latest_of o t done) c.at) c.mark ∷ []))
+      ap
+      (λ cs. option_or (thread_at o t).first_start
+      (first_open (marked_calls (thread_at o t).form (thread_at o t).latest [] cs))) (calls_of-more c e)
+      ∙ ap (λ ms. option_or (thread_at o t).first_start (first_open ms))
+      (marked-more (thread_at o t).form (thread_at o t).latest [] (calls_of t done) c)
+      ∙ ap (option_or (thread_at o t).first_start)
+      (first_open-append (marked_calls (thread_at o t).form (thread_at o t).latest [] (calls_of t done))
+      (marked_call (thread_at o t).form (int_max (latest_of o t done) c.at) c.mark ∷ []))
 
   pub first_start_of-begun : (at : ℤ) (id : ℕ) (text : List ℕ) → call_of t a ≡ Some (record { at = at; mark = begun id text }) →
       first_start_of o t (done ++ (a ∷ [])) ≡ option_or (first_start_of o t done) (Some (int_max (latest_of o t done) at))
-  first_start_of-begun at id text e = first_start_more (record { at = at; mark = begun id text }) e ∙ option_or-assoc (thread_at o t).first_start (first_open (marked_calls (thread_at o t).form (thread_at o t).latest [] (calls_of t done))) (Some (int_max (latest_of o t done) at))
+  first_start_of-begun at id text e =
+      first_start_more (record { at = at; mark = begun id text }) e
+      ∙ option_or-assoc (thread_at o t).first_start
+      (first_open (marked_calls (thread_at o t).form (thread_at o t).latest [] (calls_of t done)))
+      (Some (int_max (latest_of o t done) at))
 
   pub first_start_of-ended : (at : ℤ) (reported : Bool) → call_of t a ≡ Some (record { at = at; mark = ended reported }) →
       first_start_of o t (done ++ (a ∷ [])) ≡ first_start_of o t done
-  first_start_of-ended at reported e = first_start_more (record { at = at; mark = ended reported }) e ∙ ap (option_or (thread_at o t).first_start) (option_or-none (first_open (marked_calls (thread_at o t).form (thread_at o t).latest [] (calls_of t done))))
+  first_start_of-ended at reported e =
+      first_start_more (record { at = at; mark = ended reported }) e
+      ∙ ap (option_or (thread_at o t).first_start)
+      (option_or-none (first_open (marked_calls (thread_at o t).form (thread_at o t).latest [] (calls_of t done))))
 
 -- ---- what is due after one more action
 
-pub handed_after-more : (o : Opening) (past later : List Action) (a : Action) → deliveries_after o past (later ++ (a ∷ [])) ≡ deliveries_after o past later ++ deliveries_at o (past ++ later) a
-handed_after-more o past [] a = append-nil (deliveries_at o past a) ∙ ap (λ d. deliveries_at o d a) (sym (append-nil past))
-handed_after-more o past (b ∷ later) a =
-    ap (λ ds. deliveries_at o past b ++ ds) (handed_after-more o (past ++ (b ∷ [])) later a ∙ ap (λ d. deliveries_after o (past ++ (b ∷ [])) later ++ deliveries_at o d a) (append_assoc past (b ∷ []) later))
+pub deliveries_after-more : (o : Opening) (past later : List Action) (a : Action)
+    → deliveries_after o past (later ++ (a ∷ [])) ≡ deliveries_after o past later ++ deliveries_at o (past ++ later) a
+deliveries_after-more o past [] a = append-nil (deliveries_at o past a) ∙ ap (λ d. deliveries_at o d a) (sym (append-nil past))
+deliveries_after-more o past (b ∷ later) a =
+    ap (λ ds. deliveries_at o past b ++ ds)
+    (deliveries_after-more o (past ++ (b ∷ [])) later a
+    ∙ ap (λ d. deliveries_after o (past ++ (b ∷ [])) later ++ deliveries_at o d a)
+    (append_assoc past (b ∷ []) later))
     ∙ sym (append_assoc (deliveries_at o past b) (deliveries_after o (past ++ (b ∷ [])) later) (deliveries_at o (past ++ (b ∷ later)) a))
 
 module _ (o : Opening) (done : List Action) (a : Action) where
-  all_more : map (λ d. under d.0 d.1) o.due ++ deliveries_after o [] (done ++ (a ∷ [])) ≡ (map (λ d. under d.0 d.1) o.due ++ deliveries_after o [] done) ++ deliveries_at o done a
-  all_more = ap (λ ds. map (λ d. under d.0 d.1) o.due ++ ds) (handed_after-more o [] done a) ∙ sym (append_assoc (map (λ d. under d.0 d.1) o.due) (deliveries_after o [] done) (deliveries_at o done a))
+  all_more : map (λ d. under d.0 d.1) o.due ++ deliveries_after o [] (done ++ (a ∷ []))
+      ≡ (map (λ d. under d.0 d.1) o.due ++ deliveries_after o [] done) ++ deliveries_at o done a
+  all_more =
+      ap (λ ds. map (λ d. under d.0 d.1) o.due ++ ds) (deliveries_after-more o [] done a)
+      ∙ sym (append_assoc (map (λ d. under d.0 d.1) o.due) (deliveries_after o [] done) (deliveries_at o done a))
 
   pub due-same : deliveries_at o done a ≡ [] → due o (done ++ (a ∷ [])) ≡ due o done
-  due-same e = ap (since_last is_taken) (all_more ∙ ap (λ d. (map (λ d. under d.0 d.1) o.due ++ deliveries_after o [] done) ++ d) e ∙ append-nil (map (λ d. under d.0 d.1) o.due ++ deliveries_after o [] done))
+  due-same e =
+      ap (since_last is_taken)
+      (all_more
+      ∙ ap (λ d. (map (λ d. under d.0 d.1) o.due ++ deliveries_after o [] done) ++ d) e
+      ∙ append-nil (map (λ d. under d.0 d.1) o.due ++ deliveries_after o [] done))
 
-  pub due-more : (i : ThreadKey) (word : Word) → deliveries_at o done a ≡ under i word ∷ [] → due o (done ++ (a ∷ [])) ≡ due o done ++ (under i word ∷ [])
+  pub due-more : (i : ThreadKey) (word : Word) → deliveries_at o done a ≡ under i word ∷ []
+      → due o (done ++ (a ∷ [])) ≡ due o done ++ (under i word ∷ [])
   due-more i word e = ap (since_last is_taken) (all_more ∙ ap (λ d. (map (λ d. under d.0 d.1) o.due ++ deliveries_after o [] done) ++ d) e)
       ∙ since_last-no is_taken (map (λ d. under d.0 d.1) o.due ++ deliveries_after o [] done) (under i word) refl
 
@@ -166,12 +216,16 @@ module _ (o : Opening) (done : List Action) (a : Action) where
   due-anew e = ap (since_last is_taken) (all_more ∙ ap (λ d. (map (λ d. under d.0 d.1) o.due ++ deliveries_after o [] done) ++ d) e)
       ∙ since_last-yes is_taken (map (λ d. under d.0 d.1) o.due ++ deliveries_after o [] done) all_taken refl
 
--- ---- what is delivered under an info, after one more handed_at
+-- ---- what was handed over under an info, after one more delivery
 
-pub total_under-itself : (ds : List Delivery) (i j : ThreadKey) (word : Word) → has_same_key j i ≡ true → total_under (ds ++ (under i word ∷ [])) j ≡ Some (joined_word (unwrap_or (total_under ds j) no_word) word)
+pub total_under-itself : (ds : List Delivery) (i j : ThreadKey) (word : Word) → has_same_key j i ≡ true
+    → total_under (ds ++ (under i word ∷ [])) j ≡ Some (joined_word (unwrap_or (total_under ds j) no_word) word)
 total_under-itself ds i j word e =
-    fold-append (with_delivery j) None ds (under i word ∷ []) ∙ ap (λ b. cond b (Some (joined_word (unwrap_or (total_under ds j) no_word) word)) (total_under ds j)) e
+    fold-append (with_delivery j) None ds (under i word ∷ [])
+    ∙ ap (λ b. cond b (Some (joined_word (unwrap_or (total_under ds j) no_word) word)) (total_under ds j)) e
 
-pub total_under-other : (ds : List Delivery) (i j : ThreadKey) (word : Word) → has_same_key j i ≡ false → total_under (ds ++ (under i word ∷ [])) j ≡ total_under ds j
+pub total_under-other : (ds : List Delivery) (i j : ThreadKey) (word : Word) → has_same_key j i ≡ false
+    → total_under (ds ++ (under i word ∷ [])) j ≡ total_under ds j
 total_under-other ds i j word e =
-    fold-append (with_delivery j) None ds (under i word ∷ []) ∙ ap (λ b. cond b (Some (joined_word (unwrap_or (total_under ds j) no_word) word)) (total_under ds j)) e
+    fold-append (with_delivery j) None ds (under i word ∷ [])
+    ∙ ap (λ b. cond b (Some (joined_word (unwrap_or (total_under ds j) no_word) word)) (total_under ds j)) e

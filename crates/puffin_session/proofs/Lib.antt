@@ -8,6 +8,7 @@ mod Running
 mod Openings
 mod DueSums
 mod Serving
+mod ServingThreads
 mod Refusals
 mod Offsets
 mod SessionCloses

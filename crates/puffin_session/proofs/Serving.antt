@@ -1,66 +1,58 @@
--- What single commands do to a session continues its history.
-use Rattle.std.proofs.Common.{◌≡◌, ◌≢◌, ℕ, ◌+◌, ◌-◌, ◌^◌, ◌<◌, inl, inr, ℤ, Bool, true, false, fold, List, [], ◌∷◌, ◌++◌, length, set, Option, Some, None, String, Global, refl, sym, ap, ◌∙◌, subst, arith, append-nil}
-use Rattle.std.specs.String.{string_bytes}
-use Rattle.std.specs.List.{slice_index_or}
+-- What a command that is of no thread does to a session continues its history; and what all commands need for that.
+use Rattle.std.proofs.Common.{◌≡◌, ◌≢◌, ℕ, ◌+◌, ◌-◌, ◌^◌, ◌<◌, inl, inr, Bool, true, false, fold, List, [], ◌∷◌, ◌++◌, Option, Some, None, String, Global, refl, sym, ap, ◌∙◌, subst, arith, append-nil}
 use Rattle.std.specs.FinMap.{get, values, empty}
 use Rattle.std.specs.Arc.{arc_value}
-use Rattle.std.specs.Option.{option_map}
 use Rattle.std.specs.Global.{Vec}
 use Rattle.std.specs.declared.sync.Arc.{Arc}
-use Rattle.std.proofs.lemmas.List.{length-set, get_or-set_same, get_or-set_other}
 use Rattle.puffin_data.specs.declared.data.form.Form.{Form}
 use Rattle.puffin_data.specs.Forest.Spelling.{Spells}
 use Rattle.puffin_data.specs.declared.error.Error.{Error}
 use Rattle.puffin_data.specs.Forest.{Forest}
 use Rattle.puffin_data.specs.Honesty.{StreamFacts, AreHonestFacts}
 use Rattle.puffin_data.specs.Stream.{StreamState}
-use Rattle.puffin_data.specs.Text.{cut_text}
 use Rattle.puffin_data.specs.Forest.Tour.{tour}
-use Rattle.puffin_data.specs.Forest.Words.{num_begun, open_after}
 use Rattle.puffin_threads.specs.Thread.ThreadKey.{ThreadKey, key_of}
-use Rattle.puffin_threads.specs.Thread.Calls.{Thread, after_begin, after_end, after_handing, after_registering, key_of_thread, begun_place, clock_time}
-use Rattle.puffin_threads.specs.Details.{Details, with_id, AllHaveIds, shared_details}
+use Rattle.puffin_threads.specs.Details.{Details, shared_details}
 use Rattle.puffin_threads.specs.Details.Collection.{Collection, with_all_details, IsPrefix}
 use Rattle.puffin_frames.specs.Frame.Contents.{Streams}
 use Rattle.puffin_frames.specs.Frame.Sums.{total_scopes}
 use Rattle.puffin_frames.specs.declared.frame_data.frame.FrameData.{FrameData}
 use Rattle.puffin_threads.specs.declared.thread_profiler.thread_info.ThreadInfo.{ThreadInfo}
-use Rattle.puffin_threads.specs.declared.thread_profiler.reporter.Closed.{Closed}
-use Rattle.puffin_threads.specs.declared.thread_profiler.reporter.Closed.TheVariants.{Inner, Reported, Kept}
-use Rattle.puffin_collector.specs.Collector.State.{Collected, AcceptsReport, after_frame, after_no_frame, after_adding, after_learning, after_wanting, reported_to, IsUnlike, IsReportRefusal, delta_of}
+use Rattle.puffin_collector.specs.Collector.State.{Collected, AcceptsReport, after_frame, after_no_frame, after_adding, after_learning, after_wanting, reported_to, delta_of}
 use Rattle.puffin_collector.specs.Collector.Registering.{Registers, RegistersSome, Adds, AddsSome}
 use Rattle.puffin_collector.specs.Collector.Collecting.{Collects, HoldsAll, KeepsPending}
-use Rattle.puffin_threads.specs.Thread.Closing.{IsReportOf}
 use Rattle.puffin_session.specs.declared.command.Command.{Command}
-use Rattle.puffin_session.specs.declared.command.Command.TheVariants.{Begin, End, Register, RegisterUser, ReportUser, Snapshot, NewFrame}
+use Rattle.puffin_session.specs.declared.command.Command.TheVariants.{RegisterUser, ReportUser, Snapshot, NewFrame}
 use Rattle.puffin_session.specs.declared.command.Reply.{Reply}
 use Rattle.puffin_session.specs.declared.command.Reply.TheVariants as reply
 use Rattle.puffin_threads.specs.Thread.Events.{events_in}
-use Rattle.puffin_session.specs.Session.History.{Word, Opening, begun, ended, Action, calls, hands, frames, registers, adds, learns, wants, nobody, call_of}
+use Rattle.puffin_session.specs.Session.History.{Word, Opening, Action, hands, frames, adds, learns, wants, call_of}
 use Rattle.puffin_session.specs.Session.Deliveries.{Delivery, under, all_taken, deliveries_at}
 use Rattle.puffin_session.specs.Session.Due.{due, index_after, is_numbered}
 use Rattle.puffin_session.specs.Session.Notes.{notes_at, due_notes_at, details_learnt_at, due_details, known_after, is_wanted, wanted_at}
-use Rattle.puffin_session.specs.Session.{SessionState, word_in, thread_after, word_of_thread, SpellsWord, TellsAfter}
-use Rattle.puffin_session.specs.Session.Actions.{details_given, user_details}
-use Rattle.puffin_session.specs.Session.Replies.{TellsScopes, ending_key, ending_word}
-use Rattle.puffin_session.specs.inner.Serving.{session_thread, session_with_thread, session_with_collected, EndsInnermost, SumsTo, Continued, ContinuesBy, Continues}
+use Rattle.puffin_session.specs.Session.{SessionState, word_in, SpellsWord, TellsAfter}
+use Rattle.puffin_session.specs.Session.Actions.{user_details}
+use Rattle.puffin_session.specs.Session.Replies.{TellsScopes}
+use Rattle.puffin_session.specs.inner.Serving.{session_with_collected, SumsTo, Continued, Continues}
 use Rattle.puffin_session.proofs.Histories.{due-same, due-more, due-anew}
 use Rattle.puffin_session.proofs.SessionCollects.{SpellsFrame-taken, NoneDue-untaken}
 use Rattle.puffin_session.proofs.Laws.{events_in-spelling}
 use Rattle.puffin_session.proofs.Telling.{waiting_with, waiting-noted, TellsAfter-more}
-use Rattle.puffin_session.proofs.Standing.{handed_at_end, handed_at-reported, ChangesThread, StandsAfter-begun, StandsAfter-ended, StandsAfter-reported, StandsAfter-registered, StandsAfter-handed, StandsAfter-framed, StandsAfter-unframed, StandsAfter-quiet}
-use Rattle.puffin_session.proofs.DueSums.{SumsTo-reported, SumsTo-none, scopes_of, MayReport-from, IsRefusal-from}
+use Rattle.puffin_session.proofs.Standing.{StandsAfter-handed, StandsAfter-framed, StandsAfter-unframed, StandsAfter-quiet}
+use Rattle.puffin_session.proofs.DueSums.{SumsTo-reported, SumsTo-none, scopes_of, MayReport-from}
 
 -- ---- sums
 
 module _ (o : Opening) (done : List Action) (a : Action) (old new : Streams) (before : SumsTo old (due o done)) where
-  sums_same : deliveries_at o done a ≡ [] → new ≡ old → SumsTo new (due o (done ++ (a ∷ [])))
+  pub sums_same : deliveries_at o done a ≡ [] → new ≡ old → SumsTo new (due o (done ++ (a ∷ [])))
   sums_same none same = rw (same, due-same o done a none) before
 
-  sums_more : (i : ThreadKey) (r : StreamFacts) (word : Word) → deliveries_at o done a ≡ under i word ∷ [] → new ≡ reported_to old i r → SpellsWord r word → SumsTo new (due o (done ++ (a ∷ [])))
+  pub sums_more : (i : ThreadKey) (r : StreamFacts) (word : Word) → deliveries_at o done a ≡ under i word ∷ []
+      → new ≡ reported_to old i r → SpellsWord r word → SumsTo new (due o (done ++ (a ∷ [])))
   sums_more i r word one same spells =
       subst (λ (s : Streams). SumsTo s (due o (done ++ (a ∷ [])))) (sym same)
-      (subst (λ (ds : List Delivery). SumsTo (reported_to old i r) ds) (sym (due-more o done a i word one)) (SumsTo-reported old (due o done) i r word before spells))
+      (subst (λ (ds : List Delivery). SumsTo (reported_to old i r) ds) (sym (due-more o done a i word one))
+      (SumsTo-reported old (due o done) i r word before spells))
 
   sums_anew : deliveries_at o done a ≡ all_taken ∷ [] → new ≡ empty → SumsTo new (due o (done ++ (a ∷ [])))
   sums_anew frame same = rw (same, due-anew o done a frame) SumsTo-none
@@ -68,149 +60,39 @@ module _ (o : Opening) (done : List Action) (a : Action) (old new : Streams) (be
 -- ---- what is told of scopes
 
 -- what the next frame tells of stayed as it was
-record TellsSame (old new : Collected) : Type 0 where
-  collection : new.collection ≡ old.collection
-  new_details : new.new_details ≡ old.new_details
-  wants_all : new.wants_all ≡ old.wants_all
+pub record TellsSame (old new : Collected) : Type 0 where
+  pub collection : new.collection ≡ old.collection
+  pub new_details : new.new_details ≡ old.new_details
+  pub wants_all : new.wants_all ≡ old.wants_all
 
-same_told : (old new : Collected) → new ≡ old → TellsSame old new
-same_told old new is = record { collection = ap (λ (c : Collected). c.collection) is; new_details = ap (λ (c : Collected). c.new_details) is; wants_all = ap (λ (c : Collected). c.wants_all) is }
-
-module _ (o : Opening) (done : List Action) (a : Action) (old new : Collected) (before : TellsAfter o done old) where
-  tells_same : details_learnt_at o done a ≡ [] → due_notes_at o done a ≡ [] → ((wanted : Bool) → wanted_at wanted a ≡ wanted) → TellsSame old new → TellsAfter o (done ++ (a ∷ [])) new
-  tells_same none silent kept same =
-      TellsAfter-more o done a old new before (same.collection ∙ ap (with_all_details old.collection) (sym none)) (same.new_details ∙ ap (fold waiting_with old.new_details) (sym silent)) (same.wants_all ∙ sym (kept old.wants_all))
-
--- ---- one thread
-
-changes : (now new : SessionState) (t : ℕ) (changed : Thread) (scopes : ℕ) → t < length now.threads → new.threads ≡ set now.threads t changed → new.collected.index ≡ now.collected.index → new.collected.reported ≡ now.collected.reported + scopes → ChangesThread now new t changed scopes
-changes now new t changed scopes within same index reported = record {
-  num_threads = ap length same ∙ length-set now.threads t changed;
-  there = ap (λ (ts : List Thread). slice_index_or ts t nobody) same ∙ get_or-set_same now.threads t changed nobody within;
-  others = λ u apart. ap (λ (ts : List Thread). slice_index_or ts u nobody) same ∙ get_or-set_other now.threads t u changed nobody apart;
-  index = index;
-  reported = reported;
+pub same_told : (old new : Collected) → new ≡ old → TellsSame old new
+same_told old new is = record {
+  collection = ap (λ (c : Collected). c.collection) is;
+  new_details = ap (λ (c : Collected). c.new_details) is;
+  wants_all = ap (λ (c : Collected). c.wants_all) is;
 }
 
-pub Continues-began : (now : SessionState) (t : ℕ) (at : ℤ) (id : ℕ) (text : String Global) (offset : ℕ) → t < length now.threads
-    → offset ≡ begun_place (session_thread now t) (string_bytes text)
-    → Continues now (session_with_thread now t (after_begin (session_thread now t) id (cut_text (session_thread now t).form (string_bytes text)) (clock_time at)) now.collected) (Begin t at id text) (reply.Began offset)
-Continues-began now t at id text offset there place = (
-  [],
-  λ o done before.
-      let within : t < length o.threads = omega (arith, before.stands.num_threads) in
-      let changed = after_begin (session_thread now t) id (cut_text (session_thread now t).form (string_bytes text)) (clock_time at) in
-      let new = session_with_thread now t changed now.collected in
-      let a : Action = calls t (record { at = at; mark = begun id (string_bytes text) }) in (
-        record {
-          stands = StandsAfter-begun o done now new before.stands t at id (string_bytes text) within (changes now new t changed 0 there refl refl (omega arith)) refl
-              (tells_same o done a now.collected now.collected before.stands.tells refl refl (λ w. refl) (same_told now.collected now.collected refl));
-          sums = sums_same o done a now.collected.streams now.collected.streams before.sums refl refl;
-        },
-        (within, place ∙ ap (λ (th : Thread). begun_place th (string_bytes text)) (before.stands.threads t within)),
-      ),
-)
-
-pub Continues-registered : (now : SessionState) (t : ℕ) (name : Option (String Global)) (function file : String Global) (line id : ℕ) → t < length now.threads
-    → Continues now (session_with_thread now t (after_registering (session_thread now t) (with_id (details_given (option_map string_bytes name) (string_bytes function) (string_bytes file) line) id)) now.collected) (Register t name function file line) (reply.Registered id)
-Continues-registered now t name function file line id there = (
-  [],
-  λ o done before.
-      let within : t < length o.threads = omega (arith, before.stands.num_threads) in
-      let d = with_id (details_given (option_map string_bytes name) (string_bytes function) (string_bytes file) line) id in
-      let changed = after_registering (session_thread now t) d in
-      let new = session_with_thread now t changed now.collected in (
-        record {
-          stands = StandsAfter-registered o done now new before.stands t d within (changes now new t changed 0 there refl refl (omega arith)) refl
-              (tells_same o done (registers t d) now.collected now.collected before.stands.tells refl refl (λ w. refl) (same_told now.collected now.collected refl));
-          sums = sums_same o done (registers t d) now.collected.streams now.collected.streams before.sums refl refl;
-        },
-        within,
-      ),
-)
-
--- ---- ends
-
-reported_word : {thread : Thread} (r : StreamFacts) → IsReportOf thread r → SpellsWord r (word_of_thread thread)
-reported_word r h = record { forest = h.forest; honest = h.honest; form = h.form; toured = sym h.word }
-
-module _ (now : SessionState) (t : ℕ) (at : ℤ) (there : t < length now.threads) where
-  -- the innermost scope was an inner one
-  ended_inner : (new : SessionState) → 1 < open_after 0 (session_thread now t).word → new.threads ≡ set now.threads t (after_end (session_thread now t) (clock_time at)) → new.collected ≡ now.collected → ContinuesBy now new (End t at 0) (reply.Ended Inner) []
-  ended_inner new inner same kept o done before =
-      let within : t < length o.threads = omega (arith, before.stands.num_threads) in
-      let word = ap (λ (th : Thread). open_after 0 th.word) (before.stands.threads t within) in
-      let a : Action = calls t (record { at = at; mark = ended false }) in
-      let streams = ap (λ (c : Collected). c.streams) kept in (
-        record {
-          stands = StandsAfter-ended o done now new before.stands t at within (changes now new t (after_end (session_thread now t) (clock_time at)) 0 there same (ap (λ (c : Collected). c.index) kept) (ap (λ (c : Collected). c.reported) kept ∙ omega arith)) streams
-              (tells_same o done a now.collected new.collected before.stands.tells refl refl (λ w. refl) (same_told now.collected new.collected kept));
-          sums = sums_same o done a now.collected.streams new.collected.streams before.sums refl streams;
-        },
-        (within, refl, omega (arith, word, inner)),
-      )
-
-  -- the last open scope, and its report was accepted
-  ended_reported : (new : SessionState) (r : StreamFacts) → open_after 0 (session_thread now t).word ≡ 1 → new.threads ≡ set now.threads t (after_handing (after_end (session_thread now t) (clock_time at)))
-      → SpellsWord r (handed_at_end (session_thread now t) at) → AcceptsReport now.collected (key_of_thread (session_thread now t)) (session_thread now t).details r new.collected → ContinuesBy now new (End t at 0) (reply.Ended Reported) []
-  ended_reported new r last same spells accepts o done before =
-      let within : t < length o.threads = omega (arith, before.stands.num_threads) in
-      let th = before.stands.threads t within in
-      let word = ap (λ (th : Thread). open_after 0 th.word) th in
-      let handing = after_handing (after_end (session_thread now t) (clock_time at)) in
-      let scopes = scopes_of r (handed_at_end (session_thread now t) at) spells in
-      let a : Action = calls t (record { at = at; mark = ended true }) in
-      let streams = ap (λ (c : Collected). c.streams) accepts.0 in
-      let index = ap (λ (c : Collected). c.index) accepts.0 in
-      let reported = ap (λ (c : Collected). c.reported) accepts.0 ∙ ap (λ (n : ℕ). now.collected.reported + n) scopes in
-      let here : SpellsWord r (handed_at_end (thread_after o done t) at) = subst (λ (v : Thread). SpellsWord r (handed_at_end v at)) th spells in
-      let like = subst (λ (v : Thread). ¬ IsUnlike now.collected (key_of_thread v) r) th accepts.2 in
-      let due_there : new.collected.streams ≡ reported_to now.collected.streams (key_of_thread (thread_after o done t)) r = streams ∙ ap (λ (v : Thread). reported_to now.collected.streams (key_of_thread v) r) th in
-      let details = ap (λ (c : Collected). c.new_details) accepts.0 ∙ ap (λ (v : Thread). now.collected.new_details ++ v.details) th ∙ sym (waiting-noted now.collected.new_details (thread_after o done t).details) in (
-        record {
-          stands = StandsAfter-reported o done now new before.stands t at r within (changes now new t handing (num_begun (handed_at_end (session_thread now t) at).events) there same index reported) spells accepts.2 streams
-              (TellsAfter-more o done a now.collected new.collected before.stands.tells (ap (λ (c : Collected). c.collection) accepts.0) details (ap (λ (c : Collected). c.wants_all) accepts.0));
-          sums = sums_more o done a now.collected.streams new.collected.streams before.sums (key_of_thread (thread_after o done t)) r (handed_at_end (thread_after o done t) at) (handed_at-reported o t done at) due_there here;
-        },
-        (within, refl, (sym word ∙ last, MayReport-from o done now (ending_key o done t) r (ending_word o done t at) before.stands before.sums here like accepts.3 accepts.4)),
-      )
-
-  -- the last open scope, and its report was refused
-  ended_kept : (new : SessionState) (r : StreamFacts) (e : Error) → open_after 0 (session_thread now t).word ≡ 1 → new.threads ≡ set now.threads t (after_end (session_thread now t) (clock_time at))
-      → SpellsWord r (handed_at_end (session_thread now t) at) → new.collected ≡ now.collected → AllHaveIds (session_thread now t).details → IsReportRefusal now.collected (key_of_thread (session_thread now t)) (session_thread now t).details r e → ContinuesBy now new (End t at 0) (reply.Ended (Kept e)) []
-  ended_kept new r e last same spells kept ids refusal o done before =
-      let within : t < length o.threads = omega (arith, before.stands.num_threads) in
-      let th = before.stands.threads t within in
-      let word = ap (λ (th : Thread). open_after 0 th.word) th in
-      let a : Action = calls t (record { at = at; mark = ended false }) in
-      let streams = ap (λ (c : Collected). c.streams) kept in
-      let here : SpellsWord r (handed_at_end (thread_after o done t) at) = subst (λ (v : Thread). SpellsWord r (handed_at_end v at)) th spells in (
-        record {
-          stands = StandsAfter-ended o done now new before.stands t at within (changes now new t (after_end (session_thread now t) (clock_time at)) 0 there same (ap (λ (c : Collected). c.index) kept) (ap (λ (c : Collected). c.reported) kept ∙ omega arith)) streams
-              (tells_same o done a now.collected new.collected before.stands.tells refl refl (λ w. refl) (same_told now.collected new.collected kept));
-          sums = sums_same o done a now.collected.streams new.collected.streams before.sums refl streams;
-        },
-        (within, refl, (sym word ∙ last, IsRefusal-from o done now (ending_key o done t) r (ending_word o done t at) before.stands before.sums here (session_thread now t).details e ids (subst (λ (v : Thread). IsReportRefusal now.collected (key_of_thread v) (session_thread now t).details r e) th refusal))),
-      )
-
-  pub Continues-ended : (thread : Thread) (collected : Collected) (closed : Closed) → AllHaveIds (session_thread now t).details → EndsInnermost (session_thread now t) thread (clock_time at) now.collected collected closed
-      → Continues now (session_with_thread now t thread collected) (End t at 0) (reply.Ended closed)
-  Continues-ended thread collected Inner ids ends = ([], ended_inner (session_with_thread now t thread collected) ends.0 (ap (set now.threads t) ends.1) ends.2)
-  Continues-ended thread collected Reported ids ends =
-      let it = ends.2 in
-      ([], ended_reported (session_with_thread now t thread collected) it.0 ends.0 (ap (set now.threads t) ends.1) (reported_word it.0 it.1) it.2)
-  Continues-ended thread collected (Kept e) ids ends =
-      let it = ends.2 in
-      ([], ended_kept (session_with_thread now t thread collected) it.0 e ends.0 (ap (set now.threads t) ends.1) (reported_word it.0 it.1) it.2.1 ids it.2.0)
+module _ (o : Opening) (done : List Action) (a : Action) (old new : Collected) (before : TellsAfter o done old) where
+  pub tells_same : details_learnt_at o done a ≡ [] → due_notes_at o done a ≡ []
+      → ((wanted : Bool) → wanted_at wanted a ≡ wanted) → TellsSame old new → TellsAfter o (done ++ (a ∷ [])) new
+  tells_same none silent kept same =
+      TellsAfter-more o done a old new before (same.collection ∙ ap (with_all_details old.collection) (sym none))
+      (same.new_details ∙ ap (fold waiting_with old.new_details) (sym silent))
+      (same.wants_all ∙ sym (kept old.wants_all))
 
 -- ---- a user's report
 
 -- what was parsed of a stream says that it spells
-pub spelled_in : (r : StreamFacts) (f : Forest) (stream : StreamState) → r.form ≡ stream.form → r.bytes ≡ stream.bytes → AreHonestFacts r f → Spells stream.form stream.bytes f
-spelled_in r f stream form same honest = subst (λ (form : Form). Spells form stream.bytes f) form (record { whole = sym same ∙ honest.stream.whole; fits = honest.stream.fits })
+pub spelled_in : (r : StreamFacts) (f : Forest) (stream : StreamState) → r.form ≡ stream.form → r.bytes ≡ stream.bytes
+    → AreHonestFacts r f → Spells stream.form stream.bytes f
+spelled_in r f stream form same honest =
+    subst (λ (form : Form). Spells form stream.bytes f) form
+    (record { whole = sym same ∙ honest.stream.whole; fits = honest.stream.fits })
 
-pub Continues-handed : (now : SessionState) (collected : Collected) (info : ThreadInfo) (stream : StreamState) (r : StreamFacts) (f : Forest) → AreHonestFacts r f → r.form ≡ stream.form → r.bytes ≡ stream.bytes
-    → AcceptsReport now.collected (key_of info) [] r collected → Continues now (session_with_collected now collected) (ReportUser info stream) reply.Reported
+pub Continues-handed : (now : SessionState) (collected : Collected) (info : ThreadInfo) (stream : StreamState)
+    (r : StreamFacts) (f : Forest) → AreHonestFacts r f → r.form ≡ stream.form → r.bytes ≡ stream.bytes
+    → AcceptsReport now.collected (key_of info) [] r collected
+    → Continues now (session_with_collected now collected) (ReportUser info stream) reply.Reported
 Continues-handed now collected info stream r f honest form same accepts = (
   [],
   λ o done before.
@@ -230,54 +112,89 @@ Continues-handed now collected info stream r f honest form same accepts = (
       let itself : SpellsWord r toured_word = record { forest = f; honest = honest; form = form; toured = refl } in (
         record {
           stands = StandsAfter-handed o done now new before.stands (key_of info) r word
-              (record { threads = refl; raised = ap (λ (c : Collected). c.index) accepts.0; reported = ap (λ (c : Collected). c.reported) accepts.0 ∙ ap (λ (n : ℕ). now.collected.reported + n) (scopes_of r word spells) }) spells accepts.2 streams
+              (record {
+                threads = refl;
+                raised = ap (λ (c : Collected). c.index) accepts.0;
+                reported = ap (λ (c : Collected). c.reported) accepts.0
+                    ∙ ap (λ (n : ℕ). now.collected.reported + n) (scopes_of r word spells);
+              }) spells accepts.2 streams
               (tells_same o done a now.collected collected before.stands.tells refl refl (λ w. refl) told);
           sums = sums_more o done a now.collected.streams collected.streams before.sums (key_of info) r word refl streams spells;
         },
-        (f, whole, sym toured, MayReport-from o done now (key_of info) r toured_word before.stands before.sums itself accepts.2 accepts.3 accepts.4),
+        (
+          f,
+          whole,
+          sym toured,
+          MayReport-from o done now (key_of info) r toured_word before.stands before.sums itself accepts.2 accepts.3
+              accepts.4,
+        ),
       ),
 )
 
 -- ---- calls that hand over no scopes
 
 -- an action of no thread that hands over no scopes and raises no index, where what is pending stayed
-pub quiet : (now : SessionState) (c : Collected) (o : Opening) (done : List Action) (a : Action) → Continued o done now → ((t : ℕ) → (call_of t a ≡ None) × (notes_at t a ≡ [])) → is_numbered a ≡ false → deliveries_at o done a ≡ []
-    → c.index ≡ now.collected.index → c.reported ≡ now.collected.reported → c.streams ≡ now.collected.streams → TellsAfter o (done ++ (a ∷ [])) c → Continued o (done ++ (a ∷ [])) (session_with_collected now c)
+pub quiet : (now : SessionState) (c : Collected) (o : Opening) (done : List Action) (a : Action)
+    → Continued o done now → ((t : ℕ) → (call_of t a ≡ None) × (notes_at t a ≡ [])) → is_numbered a ≡ false
+    → deliveries_at o done a ≡ []
+    → c.index ≡ now.collected.index → c.reported ≡ now.collected.reported → c.streams ≡ now.collected.streams
+    → TellsAfter o (done ++ (a ∷ [])) c → Continued o (done ++ (a ∷ [])) (session_with_collected now c)
 quiet now c o done a before none numbered silent index reported streams tells = record {
-  stands = StandsAfter-quiet o done now (session_with_collected now c) before.stands a none numbered silent (record { threads = refl; raised = index; reported = reported ∙ omega arith }) streams tells;
+  stands = StandsAfter-quiet o done now (session_with_collected now c) before.stands a none numbered silent
+      (record { threads = refl; raised = index; reported = reported ∙ omega arith }) streams tells;
   sums = sums_same o done a now.collected.streams c.streams before.sums silent streams;
 }
 
 -- details were learnt, which are new in the next frame
-adding : (now : SessionState) (new : List Details) (o : Opening) (done : List Action) → Continued o done now → Continued o (done ++ (adds new ∷ [])) (session_with_collected now (after_adding now.collected new))
+adding : (now : SessionState) (new : List Details) (o : Opening) (done : List Action) → Continued o done now
+    → Continued o (done ++ (adds new ∷ [])) (session_with_collected now (after_adding now.collected new))
 adding now new o done before =
     quiet now (after_adding now.collected new) o done (adds new) before (λ t. (refl, refl)) refl refl refl refl refl
-    (TellsAfter-more o done (adds new) now.collected (after_adding now.collected new) before.stands.tells refl (sym (waiting-noted now.collected.new_details new)) refl)
+    (TellsAfter-more o done (adds new) now.collected (after_adding now.collected new) before.stands.tells refl
+    (sym (waiting-noted now.collected.new_details new)) refl)
 
-pub Continues-added : (now : SessionState) (collected : Collected) (names : Vec (String Global)) (ids : Vec ℕ) → Adds now.collected (user_details names.items) ids.items collected
+pub Continues-added : (now : SessionState) (collected : Collected) (names : Vec (String Global)) (ids : Vec ℕ)
+    → Adds now.collected (user_details names.items) ids.items collected
     → Continues now (session_with_collected now collected) (RegisterUser names) (reply.RegisteredUser ids)
 Continues-added now collected names ids (new, registers_all, is) =
-    subst (λ (c : Collected). Continues now (session_with_collected now c) (RegisterUser names) (reply.RegisteredUser ids)) (sym is)
-    (new, λ o done before. (adding now new o done before, subst (λ (k : Collection). Registers k (user_details names.items) ids.items new) before.stands.tells.collection registers_all))
+    subst (λ (c : Collected). Continues now (session_with_collected now c) (RegisterUser names) (reply.RegisteredUser ids)) (sym is) (
+      new,
+      λ o done before. (
+        adding now new o done before,
+        subst (λ (k : Collection). Registers k (user_details names.items) ids.items new)
+            before.stands.tells.collection registers_all,
+      ),
+    )
 
-pub Continues-not_added : (now : SessionState) (collected : Collected) (names : Vec (String Global)) (e : Error) → AddsSome now.collected (user_details names.items) e collected
+pub Continues-not_added : (now : SessionState) (collected : Collected) (names : Vec (String Global)) (e : Error)
+    → AddsSome now.collected (user_details names.items) e collected
     → Continues now (session_with_collected now collected) (RegisterUser names) (reply.Refused e)
 Continues-not_added now collected names e (new, registers_some, is) =
-    subst (λ (c : Collected). Continues now (session_with_collected now c) (RegisterUser names) (reply.Refused e)) (sym is)
-    (new, λ o done before. (adding now new o done before, subst (λ (k : Collection). RegistersSome k (user_details names.items) e new) before.stands.tells.collection registers_some))
+    subst (λ (c : Collected). Continues now (session_with_collected now c) (RegisterUser names) (reply.Refused e)) (sym is) (
+      new,
+      λ o done before. (
+        adding now new o done before,
+        subst (λ (k : Collection). RegistersSome k (user_details names.items) e new) before.stands.tells.collection
+            registers_some,
+      ),
+    )
 
-pub Continues-wanted : (now : SessionState) → Continues now (session_with_collected now (after_wanting now.collected)) Snapshot reply.Snapshot
+pub Continues-wanted : (now : SessionState)
+    → Continues now (session_with_collected now (after_wanting now.collected)) Snapshot reply.Snapshot
 Continues-wanted now = (
   [],
   λ o done before. (
-    quiet now (after_wanting now.collected) o done wants before (λ t. (refl, refl)) refl refl refl refl refl (TellsAfter-more o done wants now.collected (after_wanting now.collected) before.stands.tells refl refl refl),
+    quiet now (after_wanting now.collected) o done wants before (λ t. (refl, refl)) refl refl refl refl refl
+        (TellsAfter-more o done wants now.collected (after_wanting now.collected) before.stands.tells refl refl refl),
     tt,
   ),
 )
 
 -- ---- frames
 
-tells_scopes : (o : Opening) (done : List Action) (c : Collected) (frame : FrameData) → TellsAfter o done c → shared_details frame.scope_delta.items ≡ delta_of c.collection c.new_details c.wants_all → frame.full_delta ≡ c.wants_all
+tells_scopes : (o : Opening) (done : List Action) (c : Collected) (frame : FrameData) → TellsAfter o done c
+    → shared_details frame.scope_delta.items ≡ delta_of c.collection c.new_details c.wants_all
+    → frame.full_delta ≡ c.wants_all
     → TellsScopes frame (known_after o done) (due_details o done) (is_wanted o done)
 tells_scopes o done c frame tells delta full = record {
   delta = delta ∙ (λ i. delta_of (tells.collection i) (tells.new_details i) (tells.wants_all i));
@@ -285,8 +202,11 @@ tells_scopes o done c frame tells delta full = record {
 }
 
 -- a frame was taken
-pub Continues-framed : (now : SessionState) (f : Arc FrameData Global) → now.collected.index ≢ 2 ^ 64 - 1 → HoldsAll now.collected (arc_value f)
-    → 0 < total_scopes (values now.collected.streams) → Continues now (session_with_collected now (after_frame now.collected)) NewFrame (reply.Frame (record { frame = Some f; refused = 0 }))
+pub Continues-framed : (now : SessionState) (f : Arc FrameData Global) → now.collected.index ≢ 2 ^ 64 - 1
+    → HoldsAll now.collected (arc_value f)
+    → 0 < total_scopes (values now.collected.streams)
+    → Continues now (session_with_collected now (after_frame now.collected)) NewFrame
+    (reply.Frame (record { frame = Some f; refused = 0 }))
 Continues-framed now f more holds some = (
   [],
   λ o done before.
@@ -294,14 +214,16 @@ Continues-framed now f more holds some = (
       let tells = before.stands.tells in (
         record {
           stands = StandsAfter-framed o done now new before.stands (record { threads = refl; raised = refl; reported = omega arith }) refl
-              (TellsAfter-more o done (frames true) now.collected (after_frame now.collected) tells (ap (with_all_details now.collected.collection) tells.new_details) refl refl);
+              (TellsAfter-more o done (frames true) now.collected (after_frame now.collected) tells
+              (ap (with_all_details now.collected.collection) tells.new_details) refl refl);
           sums = sums_anew o done (frames true) now.collected.streams empty before.sums refl refl;
         },
         (
           refl,
           subst (λ (n : ℕ). n ≢ 2 ^ 64 - 1) before.stands.index more,
           (
-            SpellsFrame-taken (arc_value f) now.collected.index (index_after o done) now.collected.streams (due o done) holds.held holds.meta before.stands.index some before.stands.collected,
+            SpellsFrame-taken (arc_value f) now.collected.index (index_after o done) now.collected.streams
+                (due o done) holds.held holds.meta before.stands.index some before.stands.collected,
             tells_scopes o done now.collected (arc_value f) tells holds.delta holds.full,
           ),
         ),
@@ -309,8 +231,10 @@ Continues-framed now f more holds some = (
 )
 
 -- no scope was collected
-pub Continues-unframed : (now : SessionState) → now.collected.index ≢ 2 ^ 64 - 1 → ((i : ThreadKey) (r : StreamFacts) → get now.collected.streams i ≡ Some r → r.num_scopes ≡ 0)
-    → Continues now (session_with_collected now (after_no_frame now.collected)) NewFrame (reply.Frame (record { frame = None; refused = 0 }))
+pub Continues-unframed : (now : SessionState) → now.collected.index ≢ 2 ^ 64 - 1
+    → ((i : ThreadKey) (r : StreamFacts) → get now.collected.streams i ≡ Some r → r.num_scopes ≡ 0)
+    → Continues now (session_with_collected now (after_no_frame now.collected)) NewFrame
+    (reply.Frame (record { frame = None; refused = 0 }))
 Continues-unframed now more none = (
   [],
   λ o done before.
@@ -320,24 +244,38 @@ Continues-unframed now more none = (
               (TellsAfter-more o done (frames false) now.collected (after_no_frame now.collected) before.stands.tells refl refl refl);
           sums = sums_same o done (frames false) now.collected.streams now.collected.streams before.sums refl refl;
         },
-        (refl, subst (λ (n : ℕ). n ≢ 2 ^ 64 - 1) before.stands.index more, NoneDue-untaken now.collected.streams (due o done) none before.stands.collected),
+        (
+          refl,
+          subst (λ (n : ℕ). n ≢ 2 ^ 64 - 1) before.stands.index more,
+          NoneDue-untaken now.collected.streams (due o done) none before.stands.collected,
+        ),
       ),
 )
 
-pub Continues-taken : (now : SessionState) (new : Collected) (frame : Option (Arc FrameData Global)) → now.collected.index ≢ 2 ^ 64 - 1 → Collects now.collected frame new
+pub Continues-taken : (now : SessionState) (new : Collected) (frame : Option (Arc FrameData Global))
+    → now.collected.index ≢ 2 ^ 64 - 1 → Collects now.collected frame new
     → Continues now (session_with_collected now new) NewFrame (reply.Frame (record { frame = frame; refused = 0 }))
 Continues-taken now new None more collects =
-    subst (λ (c : Collected). Continues now (session_with_collected now c) NewFrame (reply.Frame (record { frame = None; refused = 0 }))) (sym collects.1) (Continues-unframed now more collects.0)
+    subst
+    (λ (c : Collected). Continues now (session_with_collected now c) NewFrame
+    (reply.Frame (record { frame = None; refused = 0 }))) (sym collects.1)
+    (Continues-unframed now more collects.0)
 Continues-taken now new (Some f) more collects =
-    subst (λ (c : Collected). Continues now (session_with_collected now c) NewFrame (reply.Frame (record { frame = Some f; refused = 0 }))) (sym collects.2) (Continues-framed now f more collects.0 collects.1)
+    subst
+    (λ (c : Collected). Continues now (session_with_collected now c) NewFrame
+    (reply.Frame (record { frame = Some f; refused = 0 }))) (sym collects.2)
+    (Continues-framed now f more collects.0 collects.1)
 
 -- a refused frame: nothing is learnt, or a prefix of the new details
-pub Continues-not_framed : (now : SessionState) (collected : Collected) (e : Error) → KeepsPending now.collected e collected → Continues now (session_with_collected now collected) NewFrame (reply.Refused e)
+pub Continues-not_framed : (now : SessionState) (collected : Collected) (e : Error)
+    → KeepsPending now.collected e collected
+    → Continues now (session_with_collected now collected) NewFrame (reply.Refused e)
 Continues-not_framed now collected e (inl exhausted) =
     subst (λ (c : Collected). Continues now (session_with_collected now c) NewFrame (reply.Refused e)) (sym exhausted.2) (
       [],
       λ o done before. (
-        quiet now now.collected o done (learns []) before (λ t. (refl, refl)) refl refl refl refl refl (TellsAfter-more o done (learns []) now.collected now.collected before.stands.tells refl refl refl),
+        quiet now now.collected o done (learns []) before (λ t. (refl, refl)) refl refl refl refl refl
+            (TellsAfter-more o done (learns []) now.collected now.collected before.stands.tells refl refl refl),
         inl (exhausted.0, sym before.stands.index ∙ exhausted.1, refl),
       ),
     )
@@ -345,12 +283,17 @@ Continues-not_framed now collected e (inr (memory, (some, begins, is))) =
     subst (λ (c : Collected). Continues now (session_with_collected now c) NewFrame (reply.Refused e)) (sym is) (
       some,
       λ o done before. (
-        quiet now (after_learning now.collected some) o done (learns some) before (λ t. (refl, refl)) refl refl refl refl refl (TellsAfter-more o done (learns some) now.collected (after_learning now.collected some) before.stands.tells refl refl refl),
+        quiet now (after_learning now.collected some) o done (learns some) before (λ t. (refl, refl)) refl refl refl
+            refl refl
+            (TellsAfter-more o done (learns some) now.collected (after_learning now.collected some)
+            before.stands.tells refl refl refl),
         inr (memory, subst (IsPrefix some) before.stands.tells.new_details begins),
       ),
     )
 
 -- the same of a session and a command that are equal to these
-pub same : (old new other : SessionState) (c d : Command) (r : Reply) → c ≡ d → new ≡ other → Continues old other d r → Continues old new c r
+pub same : (old new other : SessionState) (c d : Command) (r : Reply) → c ≡ d → new ≡ other → Continues old other d r
+    → Continues old new c r
 same old new other c d r commands sessions continues =
-    subst (λ (k : Command). Continues old new k r) (sym commands) (subst (λ (s : SessionState). Continues old s d r) (sym sessions) continues)
+    subst (λ (k : Command). Continues old new k r) (sym commands)
+    (subst (λ (s : SessionState). Continues old s d r) (sym sessions) continues)

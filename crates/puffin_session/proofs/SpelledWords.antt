@@ -1,4 +1,4 @@
--- What a record has of the word that it spells: the size, whether there is anything, and the form.
+-- What a stream has of the word that it spells: the size, whether there is anything, and the form.
 use Rattle.std.proofs.Common.{◌≡◌, ℕ, ◌<◌, eqb, false, cond, List, [], ◌∷◌, ◌++◌, length, Option, Some, None, unwrap_or, inl, inr, refl, sym, ap, ◌∙◌, subst, arith}
 use Rattle.std.proofs.lemmas.Bool.{cases_eq}
 use Rattle.std.proofs.lemmas.Grind.{not_there}
@@ -15,7 +15,10 @@ use Rattle.puffin_session.proofs.Laws.{tour-append, honest_joined, word_size-tou
 
 pub size_of : (r : StreamFacts) (word : Word) → SpellsWord r word → length r.bytes ≡ word_size word.form word.events
 size_of r word h =
-    ap length h.honest.stream.whole ∙ sym (word_size-tour r.form h.forest) ∙ ap (word_size r.form) h.toured ∙ ap (λ (form : Form). word_size form word.events) h.form
+    ap length h.honest.stream.whole
+    ∙ sym (word_size-tour r.form h.forest)
+    ∙ ap (word_size r.form) h.toured
+    ∙ ap (λ (form : Form). word_size form word.events) h.form
 
 some_size : (form : Form) (word : List Event) → 0 < length word → 0 < word_size form word
 some_size form [] some = absurd (omega arith)
@@ -51,7 +54,8 @@ same_none r word h = elim (cases_eq (length word.events) 0) [
 
 -- ---- one after another
 
-pub joined_spells : (a s : StreamFacts) (old word : Word) → (AreUnlike a s → ⊥) → SpellsWord a old → SpellsWord s word → SpellsWord (joined_facts a s) (joined_word old word)
+pub joined_spells : (a s : StreamFacts) (old word : Word) → (AreUnlike a s → ⊥) → SpellsWord a old → SpellsWord s word
+    → SpellsWord (joined_facts a s) (joined_word old word)
 joined_spells a s old word like h k = record {
   forest = append h.forest k.forest;
   honest = honest_joined a s h.forest k.forest like h.honest k.honest;
@@ -82,7 +86,8 @@ unlike_records a s old word h k apart = (
   λ same. apart.2 (sym h.form ∙ same ∙ k.form),
 )
 
-pub unlike_due : (a : Option StreamFacts) (old : Option Word) (s : StreamFacts) (word : Word) → SpellsIfAny a old → SpellsWord s word → AreUnlike (unwrap_or a no_scopes) s → AreUnlikeWords (unwrap_or old no_word) word
+pub unlike_due : (a : Option StreamFacts) (old : Option Word) (s : StreamFacts) (word : Word) → SpellsIfAny a old
+    → SpellsWord s word → AreUnlike (unwrap_or a no_scopes) s → AreUnlikeWords (unwrap_or old no_word) word
 unlike_due None None s word there k apart = absurd (omega (arith, apart.0))
 unlike_due None (Some old) s word there k apart = absurd there
 unlike_due (Some a) None s word there k apart = absurd there
@@ -92,7 +97,8 @@ unlike_due (Some a) (Some old) s word there k apart = (
   λ same. not_there there (λ h. (unlike_words a s old word h k apart).2 same),
 )
 
-pub unlike_pending : (a : Option StreamFacts) (old : Option Word) (s : StreamFacts) (word : Word) → SpellsIfAny a old → SpellsWord s word → AreUnlikeWords (unwrap_or old no_word) word → AreUnlike (unwrap_or a no_scopes) s
+pub unlike_pending : (a : Option StreamFacts) (old : Option Word) (s : StreamFacts) (word : Word) → SpellsIfAny a old
+    → SpellsWord s word → AreUnlikeWords (unwrap_or old no_word) word → AreUnlike (unwrap_or a no_scopes) s
 unlike_pending None None s word there k apart = absurd (omega (arith, apart.0))
 unlike_pending None (Some old) s word there k apart = absurd there
 unlike_pending (Some a) None s word there k apart = absurd there

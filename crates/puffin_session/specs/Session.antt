@@ -23,7 +23,7 @@ use Rattle.puffin_session.specs.Session.Deliveries.{Delivery, unreported, first_
 use Rattle.puffin_session.specs.Session.Notes.{details_registered, due_details, known_after, is_wanted}
 use Rattle.puffin_session.specs.Session.Due.{due, total_under, index_after, reported_after}
 
--- its threads, and what is collected for the next frame
+-- a session's threads, and what is collected for the next frame
 pub record SessionState : Type 0 where
   pub threads : List Thread
   pub collected : Collected
@@ -41,42 +41,45 @@ word_in form bytes = record { form = form; events = events_in form bytes }
 
 -- the state before a run
 abbrev pub opening_of : SessionState → Opening
-opening_of s = record {
-  threads = s.threads;
-  due = map (λ e. (e.0, word_in e.1.form e.1.bytes)) (entries s.collected.streams);
-  index = s.collected.index;
-  reported = s.collected.reported;
-  collection = s.collected.collection;
-  new_details = s.collected.new_details;
-  wants_all = s.collected.wants_all;
+opening_of state = record {
+  threads = state.threads;
+  due = map (λ entry. (entry.0, word_in entry.1.form entry.1.bytes))
+      (entries state.collected.streams);
+  index = state.collected.index;
+  reported = state.collected.reported;
+  collection = state.collected.collection;
+  new_details = state.collected.new_details;
+  wants_all = state.collected.wants_all;
 }
 
--- an honest info of the scopes of this word, in its form
-pub record SpellsWord (r : StreamFacts) (word : Word) : Type 0 where
+-- a stream whose facts are honest has exactly the scopes of this word, in its form
+pub record SpellsWord (facts : StreamFacts) (word : Word) : Type 0 where
   pub forest : Forest
-  pub honest : AreHonestFacts r forest
-  pub form : r.form ≡ word.form
+  pub honest : AreHonestFacts facts forest
+  pub form : facts.form ≡ word.form
   pub toured : tour forest ≡ word.events
 
+-- there is a stream exactly if there is a word, and it spells that
 abbrev pub SpellsIfAny : Option StreamFacts → Option Word → Type 0
 SpellsIfAny None None = Unit {0}
-SpellsIfAny (Some r) (Some word) = ∥ SpellsWord r word ∥₁
+SpellsIfAny (Some facts) (Some word) = ∥ SpellsWord facts word ∥₁
 SpellsIfAny None (Some word) = ⊥
-SpellsIfAny (Some r) None = ⊥
+SpellsIfAny (Some facts) None = ⊥
 
 -- there is a stream exactly under each info under which something was handed over, and it spells exactly that
 abbrev pub SpellsDue : Streams → List Delivery → Type 0
-SpellsDue streams ds = (i : ThreadKey) → SpellsIfAny (get streams i) (total_under ds i)
+SpellsDue streams handed =
+    (info : ThreadKey) → SpellsIfAny (get streams info) (total_under handed info)
 
--- a thread after these actions
+-- the thread with this number, after these actions
 abbrev pub thread_after : Opening → List Action → ℕ → Thread
-thread_after o done t = record {
-  name = (thread_at o t).name;
-  form = (thread_at o t).form;
-  first_start = first_start_of o t done;
-  latest = latest_of o t done;
-  word = unreported o t done;
-  details = details_registered o t done;
+thread_after opening done thread = record {
+  name = (thread_at opening thread).name;
+  form = (thread_at opening thread).form;
+  first_start = first_start_of opening thread done;
+  latest = latest_of opening thread done;
+  word = unreported opening thread done;
+  details = details_registered opening thread done;
 }
 
 -- a thread's unreported scopes, in its form
@@ -84,17 +87,18 @@ abbrev pub word_of_thread : Thread → Word
 word_of_thread thread = record { form = thread.form; events = thread.word }
 
 -- the known details, those new in the next frame, and whether that frame is to list all known ones
-pub record TellsAfter (o : Opening) (done : List Action) (now : Collected) : Type 0 where
-  pub collection : now.collection ≡ known_after o done
-  pub new_details : now.new_details ≡ due_details o done
-  pub wants_all : now.wants_all ≡ is_wanted o done
+pub record TellsAfter (opening : Opening) (done : List Action) (now : Collected) : Type 0 where
+  pub collection : now.collection ≡ known_after opening done
+  pub new_details : now.new_details ≡ due_details opening done
+  pub wants_all : now.wants_all ≡ is_wanted opening done
 
--- Nothing is lost, doubled or changed: each thread holds its unreported word and details, what is collected spells exactly what is due, and the new details are exactly those that are due.
-pub record StandsAfter (o : Opening) (done : List Action) (now : SessionState) : Type 0 where
-  pub num_threads : length now.threads ≡ length o.threads
-  pub threads : (t : ℕ) → t < length o.threads →
-      slice_index_or now.threads t nobody ≡ thread_after o done t
-  pub collected : SpellsDue now.collected.streams (due o done)
-  pub index : now.collected.index ≡ index_after o done
-  pub reported : now.collected.reported ≡ reported_after o done
-  pub tells : TellsAfter o done now.collected
+-- Nothing is lost, doubled or changed: each thread holds its unreported word and details, what is collected spells exactly what
+-- is due, and the new details are exactly those that are due.
+pub record StandsAfter (opening : Opening) (done : List Action) (now : SessionState) : Type 0 where
+  pub num_threads : length now.threads ≡ length opening.threads
+  pub threads : (number : ℕ) → number < length opening.threads →
+      slice_index_or now.threads number nobody ≡ thread_after opening done number
+  pub collected : SpellsDue now.collected.streams (due opening done)
+  pub index : now.collected.index ≡ index_after opening done
+  pub reported : now.collected.reported ≡ reported_after opening done
+  pub tells : TellsAfter opening done now.collected

@@ -15,7 +15,7 @@ ghost use Rattle.puffin_collector.specs.Collector.State.{AcceptsReport, IsReport
 ghost use Rattle.puffin_collector.specs.Collector.Collecting.{Collects, TellsIds, KeepsPending};
 ghost use Rattle.puffin_collector.specs.Collector.Registering.{Adds, AddsSome};
 ghost use Rattle.puffin_session.specs.Session.{new_session};
-ghost use Rattle.puffin_session.specs.Session.Runs.{Records, HasIds};
+ghost use Rattle.puffin_session.specs.Session.Runs.{LeadsTo, HasIds};
 ghost use Rattle.puffin_session.specs.Session.Actions.{details_given, user_details};
 ghost use Rattle.puffin_session.specs.inner.Serving.{session_thread, session_with_thread, session_with_collected, EndsInnermost, Continues};
 
@@ -112,7 +112,7 @@ impl Session {
     /// Fails only with `Memory`, before any command has run.
     pub fn run(&mut self, commands: &[Command]) -> Result<Vec<Reply>>
         ensures run { IfOk result (λ replies.
-            Records self.old self.new commands.now replies.items) }
+            LeadsTo self.old self.new commands.now replies.items) }
         // All details that a frame lists have ids.
         ensures ids { IfOk result (λ replies. All HasIds replies.items) }
         ensures err { OnErr result (self.new ≡ self.old) }
@@ -180,6 +180,8 @@ impl Session {
         }
     }
 
+    /// Begins a scope of this thread at this time, and returns the offset of its size. Fails with `NoThread` or `Memory`; nothing
+    /// changes then.
     fn begin(&mut self, thread: usize, at: NanoSecond, id: ScopeId, text: &str) -> Result<usize>
         ensures ok { IfOk result (λ offset.
             (thread < length self.old.threads)
@@ -199,6 +201,8 @@ impl Session {
         }
     }
 
+    /// Ends, at this time, the open scope of this thread that has `back` open scopes within it. Fails with `NoThread`, or with
+    /// `MismatchedEnd` if no scope is open or `back` isn't 0; nothing changes then.
     fn end(&mut self, thread: usize, at: NanoSecond, back: usize) -> Result<Closed>
         ensures ids { OnOk result (AllHaveIds (session_thread self.old thread).details) }
         ensures ok { IfOk result (λ closed.
@@ -221,6 +225,8 @@ impl Session {
         }
     }
 
+    /// Registers a scope's details with this thread under a newly drawn id, and returns the id. Fails with `NoThread`,
+    /// `IdsExhausted` or `Memory`; nothing changes then.
     fn register(
         &mut self,
         thread: usize,
@@ -248,6 +254,7 @@ impl Session {
         }
     }
 
+    /// Registers the caller's own scopes by their names, and returns their ids. If it fails, the first few may be registered.
     fn register_user(&mut self, names: &[String]) -> Result<Vec<ScopeId>>
         ensures ok { IfOk result (λ ids.
             Adds self.old.collected (user_details names.now) ids.items self.new.collected) }
@@ -259,25 +266,27 @@ impl Session {
         self.collector.register_user_scopes(&self.ids, &details)
     }
 
+    /// Walks a stream, and reports its scopes under this info. Fails with the stream's fault, or as a thread's report does;
+    /// nothing changes then.
     fn report_user(&mut self, info: &ThreadInfo, stream: &Stream) -> Result<()>
         ensures ok { OnOk result (
-            (r : StreamFacts)
-            × (f : Forest)
-            × AreHonestFacts r f
-            × (r.form ≡ stream.now.form)
-            × (r.bytes ≡ stream.now.bytes)
-            × AcceptsReport self.old.collected (key_of info.now) [] r self.new.collected
+            (facts : StreamFacts)
+            × (forest : Forest)
+            × AreHonestFacts facts forest
+            × (facts.form ≡ stream.now.form)
+            × (facts.bytes ≡ stream.now.bytes)
+            × AcceptsReport self.old.collected (key_of info.now) [] facts self.new.collected
             × (self.new ≡ session_with_collected self.old self.new.collected)) }
         ensures err { OnErr result (self.new ≡ self.old) }
         ensures cause { IfErr result (λ e.
             (e ≡ Error.Memory)
             ⊎ IsFault stream.now.form stream.now.bytes e
-            ⊎ ((r : StreamFacts)
-            × (f : Forest)
-            × AreHonestFacts r f
-            × (r.form ≡ stream.now.form)
-            × (r.bytes ≡ stream.now.bytes)
-            × IsReportRefusal self.old.collected (key_of info.now) [] r e)) }
+            ⊎ ((facts : StreamFacts)
+            × (forest : Forest)
+            × AreHonestFacts facts forest
+            × (facts.form ≡ stream.now.form)
+            × (facts.bytes ≡ stream.now.bytes)
+            × IsReportRefusal self.old.collected (key_of info.now) [] facts e)) }
     {
         let times = StreamInfo::parse(self.alloc, stream.clone()?)?;
         let info = info.clone()?;
@@ -285,6 +294,8 @@ impl Session {
             .report_user_scopes(info, &times.as_stream_into_ref())
     }
 
+    /// Takes what was reported as a frame, or returns `None` if there is no scope. If it fails, nothing that was reported is
+    /// lost, but the first few of the new details may be known.
     fn new_frame(&mut self) -> Result<Option<Arc<FrameData>>>
         ensures ok { IfOk result (λ frame.
             (self.old.collected.index ≢ 2 ^ 64 - 1)

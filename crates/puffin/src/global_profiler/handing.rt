@@ -42,16 +42,8 @@ impl Outcome {
     }
 }
 
-/// Hands a frame to each sink, in ascending order of number. Returns how many sinks didn't take it.
-pub(crate) fn hand_all<R: Wait>(rt: &R, sinks: &mut Vec<SinkEntry>, frame: &Arc<FrameData>) -> usize
-    ensures { HandsOn (λ b. (FrameSink-box b).accepts) (arc_value frame.now) sinks.old.items result
-        sinks.new.items }
-{
-    hand_each(rt, sinks, frame)
-}
-
-/// Hands a frame to each sink of a slice, in order. Returns how many sinks didn't take it.
-fn hand_each<R: Wait>(rt: &R, sinks: &mut [SinkEntry], frame: &Arc<FrameData>) -> usize
+/// Hands a frame to each of these sinks, in order. Returns how many sinks didn't take it.
+pub(crate) fn hand_all<R: Wait>(rt: &R, sinks: &mut [SinkEntry], frame: &Arc<FrameData>) -> usize
     ensures { HandsOn (λ b. (FrameSink-box b).accepts) (arc_value frame.now) sinks.old result
         sinks.new }
 {

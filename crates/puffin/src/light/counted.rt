@@ -4,7 +4,7 @@ ghost use Rattle.std.specs.Prelude.{◌≡◌, ◌<◌, ◌^◌};
 use crate::global_profiler::{Share, SharedReporter};
 use crate::light::meeting::{Meeting, Meets};
 use crate::light::outcome::ThreadCounts;
-use crate::light::ready::Left;
+use crate::light::ready::NotReported;
 use crate::scope_details::ScopeDetails;
 use crate::thread_profiler::{Reporter, ThreadInfo};
 use history::History;
@@ -50,7 +50,7 @@ impl<L: Ledger + History, M: Ledger, R: Wait> Counting<L, M, R> {
 
 impl<L: Ledger + History, M: Ledger, R: Wait + Drop> Counting<L, M, R> {
     /// Returns the share, with the number of scopes that it counts and the numbers of those that were left.
-    pub(crate) fn into_share(self, left: Left) -> CountedShare<L, M>
+    pub(crate) fn into_share(self, left: NotReported) -> CountedShare<L, M>
         ensures share { result.share ≡ self.reporter.share }
         ensures counts { (result.counts.unreported ≡ left.unreported)
             × (result.counts.refused ≡ left.refused)

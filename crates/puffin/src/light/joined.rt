@@ -5,33 +5,15 @@ ghost use Rattle.puffin.specs.Joined.{AreJoined};
 
 use crate::global_profiler::Share;
 use crate::light::counted::CountedShare;
-use crate::light::leader::Led;
+use crate::light::leader::FrameTaker;
 use crate::light::outcome::{Failed, ThreadCounts};
 use crate::light::ready::AnyProgram;
-use crate::light::started::{Worked, Works};
-use crate::light::taker::Taken;
+use crate::light::started::{ThreadPromise, ThreadReturn};
 use history::History;
 use std::io;
+use std::sync::Wait;
 use std::sync::ledger::Ledger;
 use std::thread::{PromisedHandle, Threads};
-
-/// Vectors with room for what all threads return, so that nothing is allocated once the threads have begun.
-#[derive(Drop)]
-pub(crate) struct Room<L: Ledger + History, M: Ledger> {
-    shares: Vec<Share<L, M>>,
-    counts: Vec<ThreadCounts>,
-    ghost none: { (shares.items ≡ []) × (counts.items ≡ []) },
-}
-
-impl<L: Ledger + History, M: Ledger> Room<L, M> {
-    /// Allocates room for this number of threads and the leader, which has two shares.
-    pub(crate) fn new<R: AllocGlobal>(rt: &R, threads: usize) -> io::Result<Room<L, M>> {
-        Ok(Room {
-            shares: Vec::with_capacity(rt.alloc(), threads.saturating_add(2))?,
-            counts: Vec::with_capacity(rt.alloc(), threads)?,
-        })
-    }
-}
 
 /// What all threads returned: every share, what became of each thread's scopes, and what the leader counted.
 #[derive(Drop)]
@@ -61,33 +43,41 @@ fn failure(number: usize, ended: io::Result<()>) -> Option<Failed>
     Some(Failed { number, error })
 }
 
-/// Joins all threads, and appends their shares to the leader's two.
-pub(crate) fn join_all<L: Ledger + History, M: Ledger, R: Threads, T, W: AnyProgram<T>>(
+/// Joins all threads, and appends their shares to the leader's two. The vectors have room for what all threads return, so that
+/// nothing is allocated once the threads have begun.
+pub(crate) fn join_all<
+    L: Ledger + History,
+    M: Ledger,
+    R: Threads + Wait + Copy,
+    T,
+    W: AnyProgram<T>,
+>(
     rt: &R,
-    started: Vec<PromisedHandle<Worked<L, M>, Works<T, W>>>,
-    led: Led<L, M>,
-    room: Room<L, M>,
+    started: Vec<PromisedHandle<ThreadReturn<L, M>, ThreadPromise<T, W>>>,
+    taker: FrameTaker<'_, L, M, R>,
+    counted: CountedShare<L, M>,
+    mut shares: Vec<Share<L, M>>,
+    mut counts: Vec<ThreadCounts>,
 ) -> io::Result<Joined<L, M>>
+    requires none { (shares.items ≡ []) × (counts.items ≡ []) }
     ensures threads { IfOk result (λ joined. vec_len joined.counts ≡ vec_len started) }
-    ensures leader { IfOk result (λ joined. joined.leader ≡ led.counted.counts) }
+    ensures leader { IfOk result (λ joined. joined.leader ≡ counted.counts) }
     ensures frames { IfOk result (λ joined.
-        (joined.frames ≡ led.taken.frames) × (joined.missed ≡ led.taken.missed)) }
+        (joined.frames ≡ taker.entry.frames) × (joined.missed ≡ taker.entry.missed)) }
     ensures each { IfOk result (λ joined.
-        AreJoined W.tells started.items led.taken.share led.counted.share joined.failed
+        AreJoined W.tells started.items taker.entry.share counted.share joined.failed
         joined.counts.items joined.shares.items) }
     ensures handed { IfOk result (λ joined.
-        all_handed joined.shares.items ≡ led.taken.share.counts.handed) }
+        all_handed joined.shares.items ≡ taker.entry.share.counts.handed) }
 {
-    let Room {
-        mut shares,
-        mut counts,
-    } = room;
-    let Led { taken, counted } = led;
-    let Taken {
+    let FrameTaker {
+        rt: _,
+        profiler: _,
         share,
         frames,
         missed,
-    } = taken;
+        gate: _,
+    } = taker;
     let CountedShare {
         share: own,
         counts: leader,
@@ -96,7 +86,7 @@ pub(crate) fn join_all<L: Ledger + History, M: Ledger, R: Threads, T, W: AnyProg
     shares.push(share)?;
     shares.push(own)?;
     for thread in started {
-        let Worked { counted, ended } = thread.join(rt);
+        let ThreadReturn { counted, ended } = thread.join(rt);
         failed = failed.or(failure(counts.len(), ended.result));
         shares.push(counted.share)?;
         counts.push(counted.counts)?;

@@ -1,19 +1,24 @@
 //! A program's leader: it takes frames through one share, and reports its own scopes through another.
-ghost use Rattle.std.specs.Prelude.{[]};
+ghost use Rattle.std.specs.Prelude.{◌≡◌, ◌≤◌, []};
 ghost use Rattle.puffin.specs.Members.{IsNewMember};
+ghost use Rattle.puffin.specs.Taking.{CountsTaken, TookAll};
 
-use crate::global_profiler::{Share, SharedProfiler, SharedReporter};
+use crate::global_profiler::{Emitted, Share, SharedProfiler, SharedReporter};
 use crate::light::counted::{CountedShare, Counting};
+use crate::light::gate::Gate;
+use crate::light::meeting::{Gathers, Meeting};
+use crate::light::program::Frames;
 use crate::light::ready::AnyProgram;
-use crate::light::taker::{Taken, Taker};
 use history::History;
+use puffin_data::Result;
 use std::rt::Clock;
 use std::sync::Wait;
 use std::sync::ledger::Ledger;
+use std::time::Duration;
 
 /// What a leader works with: two handles to the profiler, each with a share that counts nothing yet.
 #[derive(Drop)]
-pub(crate) struct Seat<L: Ledger + History, M: Ledger> {
+pub(crate) struct LeaderShares<L: Ledger + History, M: Ledger> {
     /// The handle and the share with which it takes frames.
     pub(crate) frames: SharedProfiler<L, M>,
     pub(crate) taking: Share<L, M>,
@@ -24,46 +29,134 @@ pub(crate) struct Seat<L: Ledger + History, M: Ledger> {
     ghost reporting_new: { IsNewMember reporting },
 }
 
-/// What a leader returned: what it took, and what became of its thread's scopes.
-#[derive(Drop)]
-pub(crate) struct Led<L: Ledger + History, M: Ledger> {
-    pub(crate) taken: Taken<L, M>,
-    pub(crate) counted: CountedShare<L, M>,
-}
-
-/// Runs a program's leader on this thread, with what its seat holds.
-pub(crate) fn lead<L: Ledger + History, M: Ledger, R: Wait + Clock + Copy, T, W: AnyProgram<T>>(
+/// Runs a program's leader on this thread, with its shares. Returns what it took frames with, and its thread's share.
+pub(crate) fn lead<'p, L: Ledger + History, M: Ledger, R: Wait + Clock + Copy, T, W: AnyProgram<T>>(
     rt: R,
-    seat: Seat<L, M>,
+    shares: LeaderShares<L, M>,
     leader: T,
-    program: &W,
-) -> Led<L, M>
-    ensures tells { W.leads leader program.now result.counted.counts.unreported []
-        result.counted.share.own }
-    ensures takes { W.takes leader program.now result.taken.share.own }
+    program: &'p W,
+) -> (FrameTaker<'p, L, M, R>, CountedShare<L, M>)
+    ensures tells { W.leads leader program.now result.1.counts.unreported [] result.1.share.own }
+    ensures takes { W.takes leader program.now result.0.share.own }
 {
-    let Seat {
+    let LeaderShares {
         frames,
         taking,
         reports,
         reporting,
-    } = seat;
-    let mut taker = Taker {
+    } = shares;
+    let mut taker = FrameTaker {
         rt,
         profiler: frames,
-        taken: Taken::new(taking),
+        share: taking,
+        frames: 0,
+        missed: 0,
         gate: program.gate(),
     };
     let reporter = Counting::new(SharedReporter::new(rt, reports, reporting));
     let (left, reporter) = program.lead(&rt, leader, reporter, &mut taker);
-    let Taker {
-        rt: _,
-        profiler: _,
-        taken,
-        gate: _,
-    } = taker;
-    Led {
-        taken,
-        counted: reporter.into_share(left),
+    (taker, reporter.into_share(left))
+}
+
+/// Takes frames of a shared profiler, whose only sink is a view, while the threads of a program work, and counts them.
+pub(crate) struct FrameTaker<'p, L: Ledger + History, M: Ledger, R: Wait> {
+    pub(crate) rt: R,
+    pub(crate) profiler: SharedProfiler<L, M>,
+    /// The share with which frames are taken.
+    pub(crate) share: Share<L, M>,
+    /// The number of frames that were handed out.
+    pub(crate) frames: u64,
+    /// The number of these that the view didn't take.
+    pub(crate) missed: u64,
+    pub(crate) gate: &'p Gate,
+    ghost none_reported: { share.counts.reported ≡ 0 },
+    ghost none_handed: { frames ≡ 0 → share.counts.handed ≡ 0 },
+    ghost some_each: { frames ≤ share.counts.handed },
+    ghost some: { missed ≤ frames },
+    ghost took: { TookAll share frames },
+}
+
+/// Counts a frame, if one was handed out. Returns the numbers of frames and of missed frames.
+fn counted(emitted: &Emitted, frames: u64, missed: u64) -> (u64, u64)
+    requires { missed ≤ frames }
+    ensures counts { CountsTaken emitted.now.frame emitted.now.refused (frames, missed) result }
+    ensures some { result.1 ≤ result.0 }
+{
+    if emitted.frame.is_none() {
+        return (frames, missed);
     }
+    if emitted.refused == 0 {
+        return (frames.saturating_add(1), missed);
+    }
+    (frames.saturating_add(1), missed.saturating_add(1))
+}
+
+impl<L: Ledger + History, M: Ledger, R: Wait + Clock> Frames for FrameTaker<'_, L, M, R> {
+    ghost use Rattle.std.specs.Prelude.{◌≡◌, IfOk, IfErr, OnErr};
+    ghost use Rattle.puffin.specs.SharedCauses.{IsFrameCause};
+    ghost use Rattle.puffin.specs.Shares.{SpellsItsScopes, CountsFrame};
+    ghost use Rattle.puffin.specs.Members.{TakesFrame};
+    ghost use Rattle.puffin.specs.Happenings.{frames_in};
+    ghost use Rattle.puffin.specs.Taking.{CountsTaken, IsTaken};
+
+    ghost taken = { λ taker. frames_in taker.share.own };
+
+    fn new_frame(&mut self) -> Result<Emitted>
+        ensures spells { IfOk result (λ emitted. SpellsItsScopes emitted.frame) }
+        ensures cause { IfErr result IsFrameCause }
+        ensures share { IfOk result (λ emitted.
+            CountsFrame self.old.share.counts emitted.frame self.new.share.counts) }
+        ensures share_takes { IfOk result (λ emitted.
+            TakesFrame self.old.share emitted.frame self.new.share) }
+        ensures taken { IfOk result (λ emitted.
+            IsTaken (frames_in self.old.share.own) emitted.frame
+            (frames_in self.new.share.own)) }
+        ensures counts { IfOk result (λ emitted. CountsTaken emitted.frame emitted.refused
+            (self.old.frames, self.old.missed)
+            (self.new.frames, self.new.missed)) }
+        ensures unchanged { OnErr result (
+            (self.new.share ≡ self.old.share)
+            × (self.new.frames ≡ self.old.frames)
+            × (self.new.missed ≡ self.old.missed)) }
+        ensures untaken { OnErr result (
+            frames_in self.new.share.own ≡ frames_in self.old.share.own) }
+    {
+        let emitted = self.profiler.new_frame(&self.rt, &mut self.share)?;
+        (self.frames, self.missed) = counted(&emitted, self.frames, self.missed);
+        Ok(emitted)
+    }
+
+    fn emit_scope_snapshot(&self) {
+        self.profiler.emit_scope_snapshot(&self.rt);
+    }
+
+    fn num_working(&self) -> usize {
+        self.gate.num_working(&self.rt)
+    }
+
+    fn wait(&self, limit: Duration) -> bool {
+        self.gate.wait(&self.rt, limit)
+    }
+}
+
+impl<L: Ledger + History, M: Ledger, R: Wait + Clock> Gathers for FrameTaker<'_, L, M, R> {
+    ghost use Rattle.std.proofs.Common.{refl};
+
+    ghost told = { λ taker. taker.share.own };
+
+    fn wait_arrived(&mut self, meeting: &Meeting, parts: u64) {
+        self.profiler
+            .wait_arrived(&self.rt, &mut self.share, &meeting.arrived, parts);
+    }
+
+    fn take(&mut self) -> Result<Emitted> {
+        self.new_frame()
+    }
+
+    fn release(&mut self, meeting: &Meeting) {
+        self.profiler.release(&self.rt, &mut self.share);
+        meeting.released.notify_all();
+    }
+
+    ghost taken_is = { λ frames. refl };
 }

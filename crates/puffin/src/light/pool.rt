@@ -10,7 +10,7 @@ use crate::light::guard::Records;
 use crate::light::meeting::{Gathers, Meets};
 use crate::light::outcome::Outcome;
 use crate::light::program::{Frames, run_named};
-use crate::light::ready::{AnyProgram, Ended, Left, Ready, end};
+use crate::light::ready::{AnyProgram, NotReported, Ready, ThreadEnd, end};
 use crate::light::scopes::Scopes;
 use crate::light::settings::Settings;
 use crate::thread_profiler::SystemClock;
@@ -130,7 +130,7 @@ impl<C: Clock + Copy + Drop, W: Pool> AnyProgram<Ready<SystemClock<C>>> for Jobs
         _number: usize,
         thread: Ready<SystemClock<C>>,
         reporter: P,
-    ) -> (Ended, P) {
+    ) -> (ThreadEnd, P) {
         let mut reporter = reporter;
         let Ready {
             alloc,
@@ -139,23 +139,23 @@ impl<C: Clock + Copy + Drop, W: Pool> AnyProgram<Ready<SystemClock<C>>> for Jobs
             mut scopes,
             max_bytes,
         } = thread;
-        let mut left = Left::none();
+        let mut left = NotReported::none();
         if !self.gate.may_begin(rt) {
             let result = Err(io::Error::from(io::ErrorKind::Interrupted));
-            return (Ended { result, left }, reporter);
+            return (ThreadEnd { result, left }, reporter);
         }
         for _ in rt.forever() {
             let (name, job) = match self.pool.next(rt) {
                 Ok(Some(next)) => next,
                 Ok(None) => return (
-                    Ended {
+                    ThreadEnd {
                         result: Ok(()),
                         left,
                     },
                     reporter,
                 ),
                 Err(e) => return (
-                    Ended {
+                    ThreadEnd {
                         result: Err(e),
                         left,
                     },
@@ -172,7 +172,7 @@ impl<C: Clock + Copy + Drop, W: Pool> AnyProgram<Ready<SystemClock<C>>> for Jobs
             match result {
                 Ok(()) => {}
                 Err(e) => return (
-                    Ended {
+                    ThreadEnd {
                         result: Err(e),
                         left,
                     },
@@ -189,7 +189,7 @@ impl<C: Clock + Copy + Drop, W: Pool> AnyProgram<Ready<SystemClock<C>>> for Jobs
         thread: Ready<SystemClock<C>>,
         reporter: P,
         frames: &mut F,
-    ) -> (Left, P) {
+    ) -> (NotReported, P) {
         let mut thread = thread.start(reporter);
         self.pool.lead(rt, &mut thread, frames);
         let (left, reporter, _scopes) = end(thread);

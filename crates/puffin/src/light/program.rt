@@ -12,7 +12,7 @@ use crate::light::gate::Gate;
 use crate::light::guard::Records;
 use crate::light::meeting::{Gathers, Meets};
 use crate::light::outcome::Outcome;
-use crate::light::ready::{AnyProgram, Crew, Ended, Left, Ready, end};
+use crate::light::ready::{AnyProgram, NotReported, Ready, ReadyThreads, ThreadEnd, end};
 use crate::light::scopes::Scopes;
 use crate::light::settings::Settings;
 use crate::light::started::run;
@@ -210,11 +210,11 @@ impl<C: NsSource + Drop, W: Program> AnyProgram<Ready<C>> for Gated<'_, W> {
         number: usize,
         thread: Ready<C>,
         reporter: P,
-    ) -> (Ended, P) {
+    ) -> (ThreadEnd, P) {
         let mut thread = thread.start(reporter);
         let result = self.work(rt, number, &mut thread);
         let (left, reporter, _scopes) = end(thread);
-        (Ended { result, left }, reporter)
+        (ThreadEnd { result, left }, reporter)
     }
 
     fn lead<R: Wait, P: Meets, F: Gathers>(
@@ -223,7 +223,7 @@ impl<C: NsSource + Drop, W: Program> AnyProgram<Ready<C>> for Gated<'_, W> {
         thread: Ready<C>,
         reporter: P,
         frames: &mut F,
-    ) -> (Left, P) {
+    ) -> (NotReported, P) {
         let mut thread = thread.start(reporter);
         self.program.lead(rt, &mut thread, frames);
         let (left, reporter, _scopes) = end(thread);
@@ -259,7 +259,7 @@ fn all_ready<R: AllocGlobal + Clock + Copy>(
     settings: &Settings,
     names: &[&str],
     scopes: &Scopes,
-) -> io::Result<Crew<Ready<SystemClock<R>>>>
+) -> io::Result<ReadyThreads<Ready<SystemClock<R>>>>
     ensures threads { IfOk result (λ crew. vec_len crew.threads ≡ length names.now) }
     ensures clocks { IfOk result (λ crew.
         AgreeWith (λ thread. thread.clock) crew.leader.clock crew.threads.items) }
@@ -276,7 +276,7 @@ fn all_ready<R: AllocGlobal + Clock + Copy>(
         threads.push(ready(rt, name, &clock, scopes, settings)?)?;
     }
     let leader = ready(rt, settings.leader, &clock, scopes, settings)?;
-    Ok(Crew { leader, threads })
+    Ok(ReadyThreads { leader, threads })
 }
 
 /// Runs a program or a pool with a thread for each of these names, and a leader.

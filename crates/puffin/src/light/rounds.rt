@@ -11,7 +11,7 @@ use crate::light::guard::Records;
 use crate::light::meeting::{Gathers, Meeting, Meets};
 use crate::light::outcome::Outcome;
 use crate::light::program::{Frames, run_named};
-use crate::light::ready::{AnyProgram, Ended, Left, Ready, end};
+use crate::light::ready::{AnyProgram, NotReported, Ready, ThreadEnd, end};
 use crate::light::scopes::Scopes;
 use crate::light::settings::Settings;
 use crate::thread_profiler::NsSource;
@@ -122,7 +122,7 @@ impl<C: NsSource + Drop, W: Rounds> AnyProgram<Ready<C>> for InRounds<'_, W> {
         number: usize,
         thread: Ready<C>,
         reporter: P,
-    ) -> (Ended, P) {
+    ) -> (ThreadEnd, P) {
         let mut thread = thread.start(reporter);
         let mut state = Err(io::Error::from(io::ErrorKind::Interrupted));
         if self.gate.may_begin(rt) {
@@ -153,7 +153,7 @@ impl<C: NsSource + Drop, W: Rounds> AnyProgram<Ready<C>> for InRounds<'_, W> {
             Ok(_) => Ok(()),
             Err(e) => Err(e),
         };
-        (Ended { result, left }, reporter)
+        (ThreadEnd { result, left }, reporter)
     }
 
     fn lead<R: Wait, P: Meets, F: Gathers>(
@@ -162,7 +162,7 @@ impl<C: NsSource + Drop, W: Rounds> AnyProgram<Ready<C>> for InRounds<'_, W> {
         thread: Ready<C>,
         reporter: P,
         frames: &mut F,
-    ) -> (Left, P) {
+    ) -> (NotReported, P) {
         let mut thread = thread.start(reporter);
         for round in 0..self.meeting.most(self.rounds) {
             self.program.lead(rt, round, &mut thread);

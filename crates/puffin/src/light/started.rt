@@ -14,10 +14,10 @@ use crate::global_profiler::{
     Event, GlobalFrameView, GlobalProfiler, Share, SharedProfiler, SharedReporter,
 };
 use crate::light::counted::{CountedShare, Counting};
-use crate::light::joined::{Joined, Room, join_all};
-use crate::light::leader::{Seat, lead};
+use crate::light::joined::{Joined, join_all};
+use crate::light::leader::{LeaderShares, lead};
 use crate::light::outcome::Outcome;
-use crate::light::ready::{AnyProgram, Crew, Ended};
+use crate::light::ready::{AnyProgram, ReadyThreads, ThreadEnd};
 use crate::light::scopes::Scopes;
 use crate::light::settings::Settings;
 use history::{History, NewLog};
@@ -30,20 +30,21 @@ use std::{io, thread};
 
 /// What a thread returned: its share and what became of its scopes, and what its work returned.
 #[derive(Drop)]
-pub(crate) struct Worked<L: Ledger + History, M: Ledger> {
+pub(crate) struct ThreadReturn<L: Ledger + History, M: Ledger> {
     pub(crate) counted: CountedShare<L, M>,
-    pub(crate) ended: Ended,
+    pub(crate) ended: ThreadEnd,
 }
 
 /// What a thread that was started returns: what it tells is all that happened through its share.
 #[derive(Drop)]
-pub(crate) struct Works<T, W> {
+pub(crate) struct ThreadPromise<T, W> {
     thread: Snapshot<T>,
     number: usize,
     program: Snapshot<W>,
 }
 
-impl<L: Ledger + History, M: Ledger, T, W: AnyProgram<T>> Promise<Worked<L, M>> for Works<T, W> {
+impl<L: Ledger + History, M: Ledger, T, W: AnyProgram<T>> Promise<ThreadReturn<L, M>>
+    for ThreadPromise<T, W> {
     ghost use Rattle.std.specs.Prelude.{◌≡◌, []};
 
     ghost kept_by = { λ works worked.
@@ -60,7 +61,7 @@ fn work<L: Ledger + History, M: Ledger, R: Wait + Copy, T, W: AnyProgram<T>>(
     share: Share<L, M>,
     thread: T,
     program: &W,
-) -> Worked<L, M>
+) -> ThreadReturn<L, M>
     requires { IsNewMember share }
     ensures tells { W.tells thread program.now number result.ended []
         result.counted.share.own }
@@ -69,7 +70,7 @@ fn work<L: Ledger + History, M: Ledger, R: Wait + Copy, T, W: AnyProgram<T>>(
     let reporter = Counting::new(SharedReporter::new(rt, profiler, share));
     let (ended, reporter) = program.run(&rt, number, thread, reporter);
     program.gate().leave(&rt);
-    Worked {
+    ThreadReturn {
         counted: reporter.into_share(ended.left),
         ended,
     }
@@ -92,20 +93,20 @@ fn start<
     share: Share<L, M>,
     thread: T,
     program: &'s W,
-) -> io::Result<PromisedHandle<Worked<L, M>, Works<T, W>>>
+) -> io::Result<PromisedHandle<ThreadReturn<L, M>, ThreadPromise<T, W>>>
     requires { IsNewMember share }
     ensures thread { IfOk result (λ handle. handle.promise.thread.value ≡ thread) }
     ensures number { IfOk result (λ handle. handle.promise.number ≡ number) }
     ensures program { IfOk result (λ handle. handle.promise.program.value ≡ program.now) }
 {
-    let works = Works {
+    let works = ThreadPromise {
         thread: Snapshot::of(&thread),
         number,
         program: Snapshot::of(program),
     };
     Ok(scope.spawn_with(
         works,
-        move || -> Worked<L, M>
+        move || -> ThreadReturn<L, M>
             requires { IsNewMember share }
             ensures tells { W.tells thread program.entry.now number result.ended []
                 result.counted.share.own }
@@ -136,7 +137,7 @@ fn start_all<
     shares: Vec<Share<L, M>>,
     threads: Vec<T>,
     program: &'s W,
-) -> io::Result<Vec<PromisedHandle<Worked<L, M>, Works<T, W>>>>
+) -> io::Result<Vec<PromisedHandle<ThreadReturn<L, M>, ThreadPromise<T, W>>>>
     requires { All IsNewMember shares.items }
     ensures started { IfOk result (λ started. vec_len started ≡ vec_len threads) }
     ensures each { IfOk result (λ started.
@@ -172,9 +173,9 @@ fn run_all<
     rt: R,
     scope: &Scope<'s, E>,
     profiler: &SharedProfiler<L, M>,
-    seat: Seat<L, M>,
+    leader_shares: LeaderShares<L, M>,
     shares: Vec<Share<L, M>>,
-    crew: Crew<T>,
+    crew: ReadyThreads<T>,
     program: &'s W,
 ) -> io::Result<Joined<L, M>>
     requires { All IsNewMember shares.items }
@@ -183,13 +184,14 @@ fn run_all<
         AreTold W.tells W.leads W.takes crew.threads.items crew.leader program.now joined.failed
         joined.counts.items joined.leader joined.frames joined.shares.items) }
 {
-    let Crew { leader, threads } = crew;
-    let room = Room::new(&rt, threads.len())?;
+    let ReadyThreads { leader, threads } = crew;
+    let back = Vec::with_capacity(rt.alloc(), threads.len().saturating_add(2))?;
+    let counts = Vec::with_capacity(rt.alloc(), threads.len())?;
     let started = start_all(rt, scope, profiler, shares, threads, program);
     program.gate().open(&rt, started.is_ok());
     let started = started?;
-    let led = lead(rt, seat, leader, program);
-    join_all(&rt, started, led, room)
+    let (taker, counted) = lead(rt, leader_shares, leader, program);
+    join_all(&rt, started, taker, counted, back, counts)
 }
 
 /// Calls [`run_all`] in a thread scope.
@@ -202,9 +204,9 @@ fn scoped<
 >(
     rt: R,
     profiler: &SharedProfiler<L, M>,
-    seat: Seat<L, M>,
+    leader_shares: LeaderShares<L, M>,
     shares: Vec<Share<L, M>>,
-    crew: Crew<T>,
+    crew: ReadyThreads<T>,
     program: &W,
 ) -> io::Result<Joined<L, M>>
     requires { All IsNewMember shares.items }
@@ -224,15 +226,15 @@ fn scoped<
                 AreTold W.tells W.leads W.takes crew.threads.items crew.leader
                 program.entry.now joined.failed joined.counts.items joined.leader
                 joined.frames joined.shares.items) }
-        { run_all(rt, scope, profiler, seat, shares, crew, program) },
+        { run_all(rt, scope, profiler, leader_shares, shares, crew, program) },
     )
 }
 
-/// A shared profiler with its view, the leader's seat and a share for each thread.
+/// A shared profiler with its view, the leader's two shares and a share for each thread.
 struct Opened<L: Ledger + History, M: Ledger> {
     profiler: SharedProfiler<L, M>,
     view: GlobalFrameView,
-    seat: Seat<L, M>,
+    leader_shares: LeaderShares<L, M>,
     shares: Vec<Share<L, M>>,
     ghost all_new: { All IsNewMember shares.items },
 }
@@ -286,7 +288,7 @@ impl<L: Ledger + History, M: Ledger> Opened<L, M> {
         Ok(Opened {
             profiler,
             view,
-            seat: Seat {
+            leader_shares: LeaderShares {
                 frames,
                 taking,
                 reports,
@@ -348,7 +350,7 @@ pub(crate) fn run<
     rt: R,
     scopes: &Scopes,
     settings: &Settings,
-    crew: Crew<T>,
+    crew: ReadyThreads<T>,
     program: &W,
     parts: usize,
     reported: Blank,
@@ -368,9 +370,9 @@ pub(crate) fn run<
     let Opened {
         profiler,
         view,
-        seat,
+        leader_shares,
         shares,
     } = opened;
-    let joined = scoped(rt, &profiler, seat, shares, crew, program)?;
+    let joined = scoped(rt, &profiler, leader_shares, shares, crew, program)?;
     Ok(settled(&rt, &profiler, view, joined))
 }

@@ -21,7 +21,7 @@ signed_moment_in (byte ∷ bytes) =
 abbrev pub start_in : List ℕ → Option (Option ℤ)
 start_in word =
     if bytes_eq word (codes "-") then Some None
-    else option_map (λ t. Some t) (signed_moment_in word)
+    else option_map (λ time. Some time) (signed_moment_in word)
 
 abbrev pub is_colon : ℕ → Bool
 is_colon byte = byte == 58
@@ -42,9 +42,11 @@ pub data Request : Type 0 where
   replay : List ℕ → List ℕ → Request
   report : List ℕ → ThreadKey → Request
 
+-- the report of this file for the thread in this word
 abbrev pub report_by : List ℕ → List ℕ → Option Request
 report_by file thread = option_map (report file) (thread_of_word thread)
 
+-- the request in the program's arguments
 abbrev pub request_in : List (List ℕ) → Option Request
 request_in (word ∷ []) = if bytes_eq word (codes "count") then Some count else None
 request_in (word ∷ (first ∷ (second ∷ []))) =

@@ -18,6 +18,7 @@ use Rattle.puffin_report.specs.Summary.{NoneLacksIds}
 
 -- ---- the frames of a run
 
+-- the frame, if there is one
 abbrev pub frame_in : Option (Arc FrameData Global) → List Frame
 frame_in None = []
 frame_in (Some frame) = shared_frame frame ∷ []
@@ -53,11 +54,12 @@ pub record TakesSome (frames : List Frame) (old new : FrameView) : Type 0 where
 -- a view that took a list of frames has taken these as well
 abbrev pub TookAlso : List Frame → View → View → Type 0
 TookAlso frames old new =
-    (cs : List PacketFields) → Took cs old → Took (cs ++ map fields_of frames) new
+    (earlier : List PacketFields) → Took earlier old → Took (earlier ++ map fields_of frames) new
 
--- if all details that a view held had ids, then so do those that it holds now, and those that its file lists
+-- if all details that a view held had ids, then so do those that it holds now
 abbrev pub HoldsIds : View → View → Type 0
 HoldsIds old new = NoneLacksIds (fields_held old) → NoneLacksIds (fields_held new)
 
+-- and so do those that its file lists
 abbrev pub ListsIds : View → View → Type 0
 ListsIds old new = NoneLacksIds (fields_held old) → NoneLacksIds (fields_in new)

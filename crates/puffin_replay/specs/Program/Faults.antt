@@ -12,6 +12,7 @@ fault_line (fault.Line number) = codes "puffin-tool: script line " ++ decimal nu
 fault_line (fault.Cause cause) = codes "puffin-tool: " ++ error_name cause ++ codes "\n"
 fault_line (fault.File cause) = codes "puffin-tool: " ++ file_error_text cause ++ codes "\n"
 
+-- the output for a fault, if there is one
 abbrev pub fault_text : Option ToolFault → List ℕ
 fault_text None = []
 fault_text (Some fault) = fault_line fault

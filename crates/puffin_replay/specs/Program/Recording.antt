@@ -1,7 +1,10 @@
 -- What recording a run leaves of a session, a view and its file.
-use Rattle.std.specs.Prelude.{◌≡◌, ◌⊎◌, ℕ, List, [], Option}
+use Rattle.std.specs.Prelude.{◌≡◌, ◌⊎◌, ℕ, List, [], map, Option}
 use Rattle.std.specs.List.{AllByRecursion}
 use Rattle.std.specs.Io.KnownBytes.{Appends}
+use Rattle.std.specs.String.{string_bytes}
+use Rattle.std.specs.declared.string.String.{String}
+use Rattle.puffin_data.specs.declared.data.form.Form.TheVariants.{Short}
 use Rattle.puffin_data.specs.declared.file_error.FileError.{FileError}
 use Rattle.puffin_data.specs.declared.file_error.FileError.TheVariants as file
 use Rattle.puffin_data.specs.Device.{WritesBeginning}
@@ -11,10 +14,14 @@ use Rattle.puffin_view.specs.View.Known.{view_of}
 use Rattle.puffin_view.specs.View.File.{file_of, fields_in}
 use Rattle.puffin_session.specs.declared.command.Command.{Command}
 use Rattle.puffin_session.specs.declared.command.Reply.{Reply}
-use Rattle.puffin_session.specs.Session.{SessionState}
-use Rattle.puffin_session.specs.Session.Runs.{Records}
+use Rattle.puffin_session.specs.Session.{SessionState, new_session}
+use Rattle.puffin_session.specs.Session.Runs.{LeadsTo}
 use Rattle.puffin_replay.specs.Program.EmittedFrames.{frames_emitted, Takes, TakesSome, TookAlso, HoldsIds, ListsIds}
 use Rattle.puffin_replay.specs.Promise.{EmitsDue}
+
+-- a new session whose threads have these names and the short form
+abbrev pub session_named : {A : Type 0} → List (String A) → SessionState
+session_named names = new_session (map (λ name. (string_bytes name, Short)) names)
 
 -- the file of a view
 abbrev pub file_of_view : FrameView → List ℕ
@@ -47,7 +54,8 @@ pub record IsRecorded (start end : SessionState) (commands : List Command) (repl
 abbrev pub IsWriteFault : FileError → Type 0
 IsWriteFault fault = (fault ≡ file.PartTooLong) ⊎ (fault ≡ file.Memory) ⊎ (fault ≡ file.Io)
 
--- The state after a recording that failed: its session went from start to end, its view from old to new, and what is written from before to after.
+-- The state after a recording that failed: its session went from start to end, its view from old to new, and what is written
+-- from before to after.
 module _ (start end : SessionState) (commands : List Command) (old new : FrameView)
     (before after : Option (List ℕ)) where
   -- there was no memory to run the commands, and nothing changed or was written
@@ -59,7 +67,7 @@ module _ (start end : SessionState) (commands : List Command) (old new : FrameVi
   abbrev pub HasNotTaken : FileError → Type 0
   HasNotTaken fault =
       (replies : List Reply)
-      × Records start end commands replies
+      × LeadsTo start end commands replies
       × TakesSome (frames_emitted replies) old new
       × (fault ≡ file.Memory)
       × Appends before after []
@@ -68,7 +76,7 @@ module _ (start end : SessionState) (commands : List Command) (old new : FrameVi
   abbrev pub HasNotWritten : FileError → Type 0
   HasNotWritten fault =
       (replies : List Reply)
-      × Records start end commands replies
+      × LeadsTo start end commands replies
       × Takes (frames_emitted replies) old new
       × WritesBeginning before after (file_of_view new)
       × IsWriteFault fault

@@ -16,6 +16,7 @@ use Rattle.std.specs.FinMap.{len}
 use Rattle.std.specs.declared.sync.Arc.{Arc}
 use Rattle.std.specs.declared.alloc.Global.{Global}
 
+-- the two halves of the line of a frame that was taken
 abbrev pub frame_text : ℕ → ℕ → ℕ → List ℕ
 frame_text index threads scopes =
     codes "frame " ++ (decimal index
@@ -41,18 +42,21 @@ abbrev pub kept_line : ℕ → Error → List ℕ
 kept_line number cause =
     codes "kept " ++ (decimal number ++ (codes " " ++ (error_name cause ++ codes "\n")))
 
+-- the line of a scope's end, if its report was refused
 abbrev pub ended_line : ℕ → Closed → Option (List ℕ)
 ended_line number (closed.Kept cause) = Some (kept_line number cause)
 ended_line number _ = None
 
--- the number of threads of a frame that is held unpacked, like a frame that was just taken
+-- how many threads have one of the streams of a frame, if it is held unpacked
 abbrev pub threads_held : Option Streams → ℕ
 threads_held None = 0
 threads_held (Some streams) = len streams
 
+-- how many threads have a stream in a frame that was just taken
 abbrev pub thread_count : FrameData → ℕ
 thread_count frame = threads_held (holding_of frame).unpacked
 
+-- the line of a command for a frame, with or without a frame
 abbrev pub emitted_line : Option (Arc FrameData Global) → List ℕ
 emitted_line (Some frame) =
     taken_line (thread_count (arc_value frame)) (frame_meta (arc_value frame))

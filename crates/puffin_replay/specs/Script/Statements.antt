@@ -5,6 +5,7 @@ use Rattle.std.specs.Option.{option_and_then}
 use Rattle.std.specs.Str.{bytes_eq, all_ascii_digits}
 use Rattle.std.specs.Str.Parse.{digits_value}
 
+-- what a line says
 pub data Meaning : Type 0 where
   -- makes the form of a thread long
   makes_long : (thread : List ℕ) → Meaning
@@ -45,10 +46,11 @@ number_in [] = None
 number_in (byte ∷ bytes) =
     if all_ascii_digits (byte ∷ bytes) then Some (digits_value 10 (byte ∷ bytes)) else None
 
+-- the number, if it is below a limit
 abbrev pub if_below : ℕ → ℕ → Option ℕ
-if_below limit n = if nat_lt n limit then Some n else None
+if_below limit number = if nat_lt number limit then Some number else None
 
--- such a number below a limit
+-- a decimal number without a sign, below a limit
 abbrev pub number_of : ℕ → List ℕ → Option ℕ
 number_of limit word = option_and_then (if_below limit) (number_in word)
 
@@ -60,8 +62,9 @@ moment_in word = option_map pos (number_of (2 ^ 63) word)
 abbrev pub line_of : List ℕ → Option ℕ
 line_of word = number_of (2 ^ 32) word
 
+-- the number, if it isn't 0
 abbrev pub unless_zero : ℕ → Option ℕ
-unless_zero n = if n == 0 then None else Some n
+unless_zero number = if number == 0 then None else Some number
 
 -- a scope's id
 abbrev pub id_of : List ℕ → Option ℕ
@@ -69,52 +72,64 @@ id_of word = option_and_then unless_zero (line_of word)
 
 -- ---- lines, by the words after the first
 
+-- `THREAD TIME ID`, and a text if there is one: the rest of the line
 abbrev pub begin_of : List (List ℕ) → Option Meaning
-begin_of (thread ∷ time ∷ id ∷ text) =
+begin_of (first ∷ second ∷ third ∷ text) =
     option_and_then
-    (λ t.
-    option_and_then (λ at. option_map (λ n. begins t at n (joined_words text)) (id_of id))
-    (moment_in time))
-    (name_in thread)
+    (λ thread.
+    option_and_then
+    (λ at. option_map (λ id. begins thread at id (joined_words text)) (id_of third))
+    (moment_in second))
+    (name_in first)
 begin_of _ = None
 
+-- `THREAD`
 abbrev pub long_of : List (List ℕ) → Option Meaning
-long_of (thread ∷ []) = option_map (λ t. makes_long t) (name_in thread)
+long_of (word ∷ []) = option_map (λ thread. makes_long thread) (name_in word)
 long_of _ = None
 
+-- `THREAD TIME`
 abbrev pub end_of : List (List ℕ) → Option Meaning
-end_of (thread ∷ time ∷ []) =
-    option_and_then (λ t. option_map (λ at. ends t at) (moment_in time)) (name_in thread)
+end_of (first ∷ second ∷ []) =
+    option_and_then (λ thread. option_map (λ at. ends thread at) (moment_in second))
+    (name_in first)
 end_of _ = None
 
+-- `FUNCTION FILE LINE`, for this thread and with this name of the scope
 abbrev pub registration_of : List ℕ → Option (List ℕ) → List (List ℕ) → Option Meaning
-registration_of thread name (function ∷ file ∷ line ∷ []) =
+registration_of thread name (first ∷ second ∷ third ∷ []) =
     option_and_then
-    (λ f.
+    (λ function.
     option_and_then
-    (λ path. option_map (λ n. registers thread name f path n) (line_of line))
-    (name_in file))
-    (name_in function)
+    (λ path. option_map (λ line. registers thread name function path line) (line_of third))
+    (name_in second))
+    (name_in first)
 registration_of thread name _ = None
 
+-- `THREAD FUNCTION FILE LINE`
 abbrev pub function_of : List (List ℕ) → Option Meaning
-function_of (thread ∷ words) = option_and_then (λ t. registration_of t None words) (name_in thread)
+function_of (first ∷ words) =
+    option_and_then (λ thread. registration_of thread None words) (name_in first)
 function_of [] = None
 
+-- `THREAD NAME FUNCTION FILE LINE`
 abbrev pub scope_of : List (List ℕ) → Option Meaning
-scope_of (thread ∷ name ∷ words) =
-    option_and_then (λ t. option_and_then (λ n. registration_of t (Some n) words) (name_in name))
-    (name_in thread)
+scope_of (first ∷ second ∷ words) =
+    option_and_then
+    (λ thread.
+    option_and_then (λ name. registration_of thread (Some name) words) (name_in second))
+    (name_in first)
 scope_of _ = None
 
+-- `NAME`
 abbrev pub user_of : List (List ℕ) → Option Meaning
-user_of (name ∷ []) = option_map (λ n. registers_user n) (name_in name)
+user_of (word ∷ []) = option_map (λ name. registers_user name) (name_in word)
 user_of _ = None
 
--- a line of one word
+-- no word, in a line that means this
 abbrev pub meaning_alone : Meaning → List (List ℕ) → Option Meaning
-meaning_alone what [] = Some what
-meaning_alone what (word ∷ words) = None
+meaning_alone meaning [] = Some meaning
+meaning_alone meaning (word ∷ words) = None
 
 -- the meaning of a line, by its words
 abbrev pub line_meaning : List (List ℕ) → Option Meaning

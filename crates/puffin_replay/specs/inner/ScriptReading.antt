@@ -33,13 +33,15 @@ meaning_of (statement.Long thread) = makes_long thread.now
 meaning_of (statement.Begin thread at id text) = begins thread.now at id text.now
 meaning_of (statement.End thread at) = ends thread.now at
 meaning_of (statement.Register thread name function file line) =
-    registers thread.now (option_map (λ (n : Bor (List ℕ)). n.now) name) function.now file.now line
+    registers thread.now (option_map (λ (scope : Bor (List ℕ)). scope.now) name) function.now
+    file.now line
 meaning_of (statement.RegisterUser name) = registers_user name.now
 meaning_of statement.Snapshot = tells_all
 meaning_of statement.NewFrame = takes_frame
 
 -- ---- a script
 
+-- the remaining lines of a script
 abbrev pub lines_behind : Option (Bor (List ℕ)) → List (List ℕ)
 lines_behind None = []
 lines_behind (Some bytes) = lines_in bytes.now
@@ -47,6 +49,7 @@ lines_behind (Some bytes) = lines_in bytes.now
 abbrev pub lines_left : Lines → List (List ℕ)
 lines_left lines = lines_behind lines.left
 
+-- the names of the threads, by their numbers
 abbrev pub names_in : Threads → List (List ℕ)
 names_in threads = map string_bytes threads.names.items
 
@@ -59,22 +62,23 @@ IsNumbered threads =
 
 -- a command has the meaning of a line; if there is no command, the line isn't one
 abbrev pub Asks : List (List ℕ) → Option Command → Meaning → Type 0
-Asks names None s = is_command s ≡ false
-Asks names (Some c) s = (is_command s ≡ true) × (command_said names c ≡ Some s)
+Asks names None meaning = is_command meaning ≡ false
+Asks names (Some command) meaning =
+    (is_command meaning ≡ true) × (command_said names command ≡ Some meaning)
 
 -- the threads after a line with this meaning, and its command
 abbrev pub Follows : Threads → Threads → Option Command → Meaning → Type 0
-Follows old new command s =
+Follows old new command meaning =
     IsNumbered new
-    × (names_in new ≡ with_thread_of (names_in old) s)
-    × (new.forms.items ≡ with_form_of (names_in old) old.forms.items s)
-    × Asks (names_in new) command s
+    × (names_in new ≡ with_thread_of (names_in old) meaning)
+    × (new.forms.items ≡ with_form_of (names_in old) old.forms.items meaning)
+    × Asks (names_in new) command meaning
 
--- what was read so far
+-- These are the meanings of the lines that were read so far, without those that are skipped.
 pub record IsReading (reading : Reading) (statements : List (ℕ × Meaning)) : Type 0 where
   pub numbered : IsNumbered reading.threads
-  pub lines : reading.lines.items ≡ map (λ s. s.0) (commands_in statements)
+  pub lines : reading.lines.items ≡ map (λ told. told.0) (commands_in statements)
   pub names : names_in reading.threads ≡ threads_after [] statements
   pub forms : reading.threads.forms.items ≡ forms_after [] [] statements
   pub commands : map (command_said (names_in reading.threads)) reading.commands.items
-      ≡ map (λ s. Some s.1) (commands_in statements)
+      ≡ map (λ told. Some told.1) (commands_in statements)

@@ -9,11 +9,11 @@ ghost use Rattle.puffin_frames.specs.Packet.Writing.{HasLongPart};
 ghost use Rattle.puffin_view.specs.View.{Took};
 ghost use Rattle.puffin_view.specs.View.Known.{view_of};
 ghost use Rattle.puffin_view.specs.View.File.{fields_in};
-ghost use Rattle.puffin_session.specs.Session.{SessionState, new_session};
+ghost use Rattle.puffin_session.specs.Session.{SessionState};
 ghost use Rattle.puffin_session.specs.Session.Runs.{HasIds};
 ghost use Rattle.puffin_replay.specs.Script.{threads_said};
 ghost use Rattle.puffin_replay.specs.Program.EmittedFrames.{frame_in, emitted_by, frames_emitted, Takes, TakesSome, TookAlso};
-ghost use Rattle.puffin_replay.specs.Program.Recording.{IsTaken, IsRecorded, IsBroken};
+ghost use Rattle.puffin_replay.specs.Program.Recording.{session_named, IsTaken, IsRecorded, IsBroken};
 ghost use Rattle.puffin_replay.specs.Program.ScriptRun.{loose_view, IsReplayed, IsUnfinished};
 ghost use Rattle.puffin_replay.specs.Promise.{IsNotRun, IsNotTaken};
 
@@ -123,9 +123,11 @@ pub fn record_session<D: Drain>(
         (D.contents drain.old) (D.contents drain.new)) }
     ensures failures { OnOk result (D.failures drain.new ≡ D.failures drain.old) }
 
+    // Nothing was run; or the view didn't take all of the frames; or only a prefix of its file was written.
     ensures broken { IfErr result (λ e.
         IsBroken session.old session.new commands.now view.old view.new (D.contents drain.old)
         (D.contents drain.new) e) }
+    // The writer failed in this call, or took no byte.
     ensures io { (result ≡ Err FileError.Io) →
         (D.failures drain.new ≡ D.failures drain.old + 1) ⊎ TookNothing D.takes drain.new }
     ensures too_long { (result ≡ Err FileError.PartTooLong) →
@@ -157,17 +159,18 @@ pub fn record<D: Drain>(
     drain: &mut D,
 ) -> Result<Vec<Reply>, FileError>
     requires { CanFail D.failures drain.old }
+    // The commands were run, each emitted frame has what was due, the view took these frames, and its file was written.
     ensures recorded { IfOk result (λ replies.
         (end : SessionState)
-        × IsRecorded (new_session (map (λ name. (string_bytes name, Short)) names.items)) end
-        commands.now replies.items view.old view.new (D.contents drain.old)
-        (D.contents drain.new)) }
+        × IsRecorded (session_named names.items) end commands.now replies.items view.old view.new
+        (D.contents drain.old) (D.contents drain.new)) }
     ensures failures { OnOk result (D.failures drain.new ≡ D.failures drain.old) }
 
+    // Nothing was run; or the view didn't take all of the frames; or only a prefix of its file was written.
     ensures broken { IfErr result (λ e.
         (end : SessionState)
-        × IsBroken (new_session (map (λ name. (string_bytes name, Short)) names.items)) end
-        commands.now view.old view.new (D.contents drain.old) (D.contents drain.new) e) }
+        × IsBroken (session_named names.items) end commands.now view.old view.new
+        (D.contents drain.old) (D.contents drain.new) e) }
     // The writer failed in this call, or took no byte.
     ensures io { (result ≡ Err FileError.Io) →
         (D.failures drain.new ≡ D.failures drain.old + 1) ⊎ TookNothing D.takes drain.new }
@@ -231,8 +234,8 @@ pub fn run_script<D: Drain, E: Drain>(
         IsReplayed script.now (D.contents out.old) (D.contents out.new) (E.contents lines.old)
         (E.contents lines.new)) }
     ensures fails { IfErr result (λ e.
-        IsUnfinished script.now e (D.contents out.old) (D.contents out.new)
-        (E.contents lines.old) (E.contents lines.new)) }
+        IsUnfinished script.now (D.contents out.old) (D.contents out.new) (E.contents lines.old)
+        (E.contents lines.new) e) }
     // One of the writers failed in this call, or took no byte.
     ensures io { (result ≡ Err FileError.Io) →
         ((D.failures out.new ≡ D.failures out.old + 1) ⊎ TookNothing D.takes out.new)

@@ -68,9 +68,9 @@ fn limited_view(alloc: Global, limits: Limits) -> FrameView
 /// Reads the file of a view. Fails with `Memory`, or with `Refused(MissingId)` if details have no id.
 fn read_file(alloc: Global, bytes: &[u8]) -> Result<FrameView, FileError>
     ensures ok { IfOk result (λ read.
-        (v : View) → IsFileOf bytes.now v → IsReadOf (fields_in v) read) }
+        (view : View) → IsFileOf bytes.now view → IsReadOf (fields_in view) read) }
     ensures fault { IfErr result (λ e.
-        (v : View) → IsFileOf bytes.now v → IsReadFault (fields_in v) e) }
+        (view : View) → IsFileOf bytes.now view → IsReadFault (fields_in view) e) }
 {
     match FrameView::read(alloc, &mut Buffered::new(bytes)) {
         Ok(view) => Ok(view),

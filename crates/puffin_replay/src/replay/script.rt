@@ -9,7 +9,7 @@ ghost use Rattle.puffin_replay.specs.inner.ScriptReading.{meaning_of, lines_left
 ghost use Rattle.puffin_replay.specs.Script.{is_line_feed, is_skipped, told_by, with_name, with_form, is_late, command_said, IsScript, IsLineFault};
 
 use crate::replay::fault::ToolFault;
-use crate::replay::statement::{Statement, read_statement};
+use crate::replay::statement::{Statement, parse_statement};
 use puffin_data::data::{Form, ScopeId, Source, read_to_end};
 use puffin_data::{FileError, NanoSecond};
 use puffin_session::Command;
@@ -40,6 +40,7 @@ struct Threads<'s> {
 }
 
 impl<'s> Threads<'s> {
+    /// Makes the threads of a script of which nothing was read.
     fn new(alloc: Global) -> Threads<'s>
         ensures none { names_in result ≡ [] }
         ensures no_forms { result.forms.items ≡ [] }
@@ -201,6 +202,7 @@ fn line_end(bytes: &[u8]) -> Option<usize>
 }
 
 impl<'s> Lines<'s> {
+    /// Returns the next line, which may be empty.
     fn next(&mut self) -> Option<&'s [u8]>
         ensures { MatchOption result (lines_left self.old ≡ []) (λ line.
             lines_left self.old ≡ line.now ∷ lines_left self.new) }
@@ -241,7 +243,7 @@ fn parse_line(number: u64, line: &[u8]) -> Result<Option<Statement<'_>>, ToolFau
     if is_skipped(line) {
         return Ok(None);
     }
-    match read_statement(text) {
+    match parse_statement(text) {
         Some(statement) => Ok(Some(statement)),
         None => Err(ToolFault::Line(number)),
     }
@@ -256,6 +258,7 @@ struct Reading<'s> {
 }
 
 impl<'s> Reading<'s> {
+    /// Makes a script of which nothing was read.
     fn new(alloc: Global) -> Reading<'s>
         ensures { IsReading result [] }
     {
@@ -266,6 +269,7 @@ impl<'s> Reading<'s> {
         }
     }
 
+    /// Returns the threads and the commands that were read.
     fn into_script(self) -> Script
         ensures names { map string_bytes result.names.items ≡ names_in self.entry.threads }
         ensures forms { result.forms ≡ self.entry.threads.forms }
@@ -327,7 +331,7 @@ fn script_of(alloc: Global, bytes: &[u8]) -> Result<Script, ToolFault>
 }
 
 /// Reads a script to its end. `docs/FORMAT.md` lists the commands. Each line is a command, except for lines that are empty or
-/// begin with `#`, and for `long T`, which makes the form of thread `T` long and must be the first line that names it.
+/// begin with `#`, and for `long THREAD`, which makes the thread's form long and must be the first line that names it.
 ///
 /// Fails with `Io` if the reader fails, or with `Memory`; how far it read is then unspecified. Once the whole script is read,
 /// fails with `Line` and the number of the first line that isn't UTF-8 or isn't valid at its place.

@@ -93,7 +93,7 @@ impl<'l> Words<'l> {
 }
 
 /// Parses a decimal number without a sign, below `2^64`.
-fn number(word: &str) -> Option<u64>
+fn parse_number(word: &str) -> Option<u64>
     ensures { result ≡ number_of (2 ^ 64) word.now }
 {
     if word.starts_with('+') {
@@ -103,40 +103,40 @@ fn number(word: &str) -> Option<u64>
 }
 
 /// Parses a time, in nanoseconds.
-fn time(word: &str) -> Option<NanoSecond>
+fn parse_time(word: &str) -> Option<NanoSecond>
     ensures { result ≡ moment_in word.now }
 {
-    i64::try_from(number(word)?).ok()
+    i64::try_from(parse_number(word)?).ok()
 }
 
 /// Parses a scope's id.
-fn scope_id(word: &str) -> Option<ScopeId>
+fn parse_id(word: &str) -> Option<ScopeId>
     ensures { result ≡ id_of word.now }
 {
-    ScopeId::new(line_number(word)?)
+    ScopeId::new(parse_line_number(word)?)
 }
 
 /// Parses the number of a line of code.
-fn line_number(word: &str) -> Option<u32>
+fn parse_line_number(word: &str) -> Option<u32>
     ensures { result ≡ line_of word.now }
 {
-    u32::try_from(number(word)?).ok()
+    u32::try_from(parse_number(word)?).ok()
 }
 
 /// Returns the word unless it is empty.
-fn name(word: &str) -> Option<&str>
-    ensures { option_map (λ x. x.now) result ≡ name_in word.now }
+fn parse_name(word: &str) -> Option<&str>
+    ensures { option_map (λ name. name.now) result ≡ name_in word.now }
 {
     if word.is_empty() { None } else { Some(word) }
 }
 
-/// Parses `T TIME ID`, and a text if there is one: the rest of the line.
-fn begin<'l>(mut words: Words<'l>) -> Option<Statement<'l>>
+/// Parses what follows `begin`: `THREAD TIME ID`, and a text if there is one, which is the rest of the line.
+fn parse_begin<'l>(mut words: Words<'l>) -> Option<Statement<'l>>
     ensures { option_map meaning_of result ≡ begin_of (words_left words.entry) }
 {
-    let thread = name(words.next()?)?;
-    let at = time(words.next()?)?;
-    let id = scope_id(words.next()?)?;
+    let thread = parse_name(words.next()?)?;
+    let at = parse_time(words.next()?)?;
+    let id = parse_id(words.next()?)?;
     let text = words.rest();
     Some(Statement::Begin {
         thread,
@@ -146,88 +146,88 @@ fn begin<'l>(mut words: Words<'l>) -> Option<Statement<'l>>
     })
 }
 
-/// Parses `T TIME`.
-fn end<'l>(mut words: Words<'l>) -> Option<Statement<'l>>
+/// Parses what follows `end`: `THREAD TIME`.
+fn parse_end<'l>(mut words: Words<'l>) -> Option<Statement<'l>>
     ensures { option_map meaning_of result ≡ end_of (words_left words.entry) }
 {
-    let thread = name(words.next()?)?;
-    let at = time(words.next()?)?;
+    let thread = parse_name(words.next()?)?;
+    let at = parse_time(words.next()?)?;
     words.end()?;
     Some(Statement::End { thread, at })
 }
 
-/// Parses `FUNCTION FILE LINE`.
-fn details<'l>(
+/// Parses the rest of a line of `function` or `scope`: `FUNCTION FILE LINE`. A scope has a name of its own.
+fn parse_details<'l>(
     thread: &'l str,
-    scope: Option<&'l str>,
+    name: Option<&'l str>,
     mut words: Words<'l>,
 ) -> Option<Statement<'l>>
     ensures { option_map meaning_of result
-        ≡ registration_of thread.now (option_map (λ n. n.now) scope.entry) (
+        ≡ registration_of thread.now (option_map (λ n. n.now) name.entry) (
         words_left words.entry) }
 {
-    let function = name(words.next()?)?;
-    let file = name(words.next()?)?;
-    let line = line_number(words.next()?)?;
+    let function = parse_name(words.next()?)?;
+    let file = parse_name(words.next()?)?;
+    let line = parse_line_number(words.next()?)?;
     words.end()?;
     Some(Statement::Register {
         thread,
-        name: scope,
+        name,
         function,
         file,
         line,
     })
 }
 
-/// Parses `T FUNCTION FILE LINE`.
-fn function<'l>(mut words: Words<'l>) -> Option<Statement<'l>>
+/// Parses what follows `function`: `THREAD FUNCTION FILE LINE`.
+fn parse_function<'l>(mut words: Words<'l>) -> Option<Statement<'l>>
     ensures { option_map meaning_of result ≡ function_of (words_left words.entry) }
 {
-    let thread = name(words.next()?)?;
-    details(thread, None, words)
+    let thread = parse_name(words.next()?)?;
+    parse_details(thread, None, words)
 }
 
-/// Parses `T NAME FUNCTION FILE LINE`.
-fn scope<'l>(mut words: Words<'l>) -> Option<Statement<'l>>
+/// Parses what follows `scope`: `THREAD NAME FUNCTION FILE LINE`.
+fn parse_scope<'l>(mut words: Words<'l>) -> Option<Statement<'l>>
     ensures { option_map meaning_of result ≡ scope_of (words_left words.entry) }
 {
-    let thread = name(words.next()?)?;
-    let scope = name(words.next()?)?;
-    details(thread, Some(scope), words)
+    let thread = parse_name(words.next()?)?;
+    let name = parse_name(words.next()?)?;
+    parse_details(thread, Some(name), words)
 }
 
-/// Parses `T`.
-fn long<'l>(mut words: Words<'l>) -> Option<Statement<'l>>
+/// Parses what follows `long`: `THREAD`.
+fn parse_long<'l>(mut words: Words<'l>) -> Option<Statement<'l>>
     ensures { option_map meaning_of result ≡ long_of (words_left words.entry) }
 {
-    let thread = name(words.next()?)?;
+    let thread = parse_name(words.next()?)?;
     words.end()?;
     Some(Statement::Long { thread })
 }
 
-/// Parses `NAME`.
-fn user<'l>(mut words: Words<'l>) -> Option<Statement<'l>>
+/// Parses what follows `user`: `NAME`.
+fn parse_user<'l>(mut words: Words<'l>) -> Option<Statement<'l>>
     ensures { option_map meaning_of result ≡ user_of (words_left words.entry) }
 {
-    let name = name(words.next()?)?;
+    let name = parse_name(words.next()?)?;
     words.end()?;
     Some(Statement::RegisterUser { name })
 }
 
-/// Parses a line. Returns `None` if it isn't valid.
-pub(crate) fn read_statement(line: &str) -> Option<Statement<'_>>
+/// Parses a line by its first word. Returns `None` if it isn't valid.
+pub(crate) fn parse_statement(line: &str) -> Option<Statement<'_>>
     ensures { option_map meaning_of result ≡ line_meaning (words_in line.now) }
 {
     let mut words = Words { left: Some(line) };
     match words.next()? {
-        "begin" => begin(words),
-        "end" => end(words),
-        "function" => function(words),
-        "scope" => scope(words),
-        "user" => user(words),
+        "begin" => parse_begin(words),
+        "end" => parse_end(words),
+        "function" => parse_function(words),
+        "scope" => parse_scope(words),
+        "user" => parse_user(words),
         "snapshot" => words.end().map(|()| Statement::Snapshot),
         "frame" => words.end().map(|()| Statement::NewFrame),
-        "long" => long(words),
+        "long" => parse_long(words),
         _ => None,
     }
 }

@@ -19,7 +19,7 @@ pub enum Task {
 }
 
 /// Parses a time, in nanoseconds, which may be negative.
-fn signed_time(word: &str) -> Option<NanoSecond>
+fn parse_signed_time(word: &str) -> Option<NanoSecond>
     ensures { result ≡ signed_moment_in word.now }
 {
     if word.starts_with('+') {
@@ -29,13 +29,13 @@ fn signed_time(word: &str) -> Option<NanoSecond>
 }
 
 /// Parses the start of a thread: a time, or `-` for none.
-fn start(word: &str) -> Option<Option<NanoSecond>>
+fn parse_start(word: &str) -> Option<Option<NanoSecond>>
     ensures { result ≡ start_in word.now }
 {
     if word == "-" {
         return Some(None);
     }
-    Some(Some(signed_time(word)?))
+    Some(Some(parse_signed_time(word)?))
 }
 
 /// Parses `START:NAME`. Returns `None` for any other word.
@@ -44,7 +44,7 @@ fn thread_of(word: &str) -> Option<(Option<NanoSecond>, &str)>
         ≡ thread_of_word word.now }
 {
     let (before, name) = word.split_once(':')?;
-    Some((start(before)?, name))
+    Some((parse_start(before)?, name))
 }
 
 /// Makes the task that prints the report of a file for the thread in `word`. Returns `None` if `word` isn't `START:NAME`.

@@ -23,8 +23,17 @@ IsRead c r =
     IfOk r (λ frame. (info : ThreadKey) → bytes_in info c ≡ Ok (frame_bytes info (arc_value frame)))
     × IfErr r (λ e. (e ≡ file.Memory) ⊎ ((info : ThreadKey) → bytes_in info c ≡ Err e))
 
-pub bytes_read : (c : PacketFields) (r : Result (Arc UnpackedFrameData Global) FileError) → DecidedInMemory (λ frame. streams_held (arc_value frame)) r (streams_in_fields c) → IfOk r (λ frame. (arc_value frame).meta ≡ c.meta) → IsRead c r
-bytes_read c (Ok frame) is meta = (λ info. ap (bytes_under info c) is ∙ ap (λ (m : FrameMeta). Ok (record { start = m.range_ns.0; stream = option_map stream_in (tree.get (streams_held (arc_value frame)) info) })) (sym meta), tt)
+pub bytes_read : (c : PacketFields) (r : Result (Arc UnpackedFrameData Global) FileError)
+    → DecidedInMemory (λ frame. streams_held (arc_value frame)) r (streams_in_fields c)
+    → IfOk r (λ frame. (arc_value frame).meta ≡ c.meta) → IsRead c r
+bytes_read c (Ok frame) is meta = (
+  λ info. ap (bytes_under info c) is
+      ∙ ap
+      (λ (m : FrameMeta). Ok
+      (record { start = m.range_ns.0; stream = option_map stream_in (tree.get (streams_held (arc_value frame)) info) }))
+      (sym meta),
+  tt,
+)
 bytes_read c (Err e) fault meta = (
   tt,
   elim (not_decided (λ (frame : Arc UnpackedFrameData Global). streams_held (arc_value frame)) e (streams_in_fields c) fault) [

@@ -29,47 +29,52 @@ kept_of stored = rising_end (said_by stored)
 -- ---- how far merging got with the kept frames
 
 -- all of them were unpacked and added
-abbrev pub AreAdded : ThreadKey → List PacketFields → Merger → Type 0
-AreAdded info kept m =
-    (streams : List FrameBytes)
-    × (all_bytes_in info kept ≡ Ok streams)
-    × HasAdded streams m
-    × (merged_info m ≡ info)
+pub record AreAdded (info : ThreadKey) (kept : List PacketFields) (merger : Merger) : Type 0 where
+  pub streams : List FrameBytes
+  pub unpacked : all_bytes_in info kept ≡ Ok streams
+  pub added : HasAdded streams merger
+  pub thread : merged_info merger ≡ info
 
 -- all of them were unpacked, and merging them is refused with this cause, whatever frames follow
-abbrev pub AreRefused : ThreadKey → List PacketFields → Error → Type 0
-AreRefused info kept cause =
-    (streams : List FrameBytes)
-    × (all_bytes_in info kept ≡ Ok streams)
-    × (cause ≡ Memory → ⊥)
-    × ((later : List FrameBytes) → IsMergeRefusal (streams ++ later) cause)
+pub record AreRefused (info : ThreadKey) (kept : List PacketFields) (cause : Error) : Type 0 where
+  pub streams : List FrameBytes
+  pub unpacked : all_bytes_in info kept ≡ Ok streams
+  pub not_memory : cause ≡ Memory → ⊥
+  pub refused : (later : List FrameBytes) → IsMergeRefusal (streams ++ later) cause
 
 -- either of these two, or the fault of the first frame that can't be unpacked
 abbrev pub IsProgress : ThreadKey → List PacketFields → Progress → Type 0
-IsProgress info kept (progress.Merged m) = AreAdded info kept m
+IsProgress info kept (progress.Merged merger) = AreAdded info kept merger
 IsProgress info kept (progress.Refused cause) = AreRefused info kept cause
 IsProgress info kept (progress.NotUnpacked fault) = all_bytes_in info kept ≡ Err fault
 
 -- the progress of some frames, to which one more can be added
-abbrev pub CanGoOn : Progress → Type 0
-CanGoOn p = (info : ThreadKey) × (kept : List PacketFields) × IsProgress info kept p × (length kept < 2 ^ 64 - 1)
+pub record CanGoOn (progress : Progress) : Type 0 where
+  pub info : ThreadKey
+  pub kept : List PacketFields
+  pub so_far : IsProgress info kept progress
+  pub fewer : length kept < 2 ^ 64 - 1
 
 -- the progress of the frames that, followed by this one, are those kept of all
-pub record IsKeptWith (info : ThreadKey) (cs : List PacketFields) (c : PacketFields) (p : Progress) : Type 0 where
+pub record IsKeptWith (info : ThreadKey) (all : List PacketFields) (next : PacketFields)
+    (reached : Progress) : Type 0 where
   pub before : List PacketFields
-  pub fewer : length before ≤ length cs
-  pub progress : IsProgress info before p
-  pub kept : rising_end (cs ++ c ∷ []) ≡ before ++ c ∷ []
+  pub fewer : length before ≤ length all
+  pub progress : IsProgress info before reached
+  pub kept : rising_end (all ++ next ∷ []) ≡ before ++ next ∷ []
 
 -- ---- how far summing up got with the frames that were read
 
-pub record HasSummed (info : ThreadKey) (stored : List Stored) (s : Summing) : Type 0 where
-  pub thread : key_of s.thread.now ≡ info
-  pub last : s.last_index ≡ last_index (said_by stored)
-  pub scopes : s.scopes ≡ with_all_details no_details (flat_map details_stored stored)
-  pub progress : IsProgress info (kept_of stored) s.progress
+-- what was summed up so far is that of these frames
+pub record HasSummed (info : ThreadKey) (stored : List Stored) (sum : Summing) : Type 0 where
+  pub thread : key_of sum.thread.now ≡ info
+  pub last : sum.last_index ≡ last_index (said_by stored)
+  pub scopes : sum.scopes ≡ with_all_details no_details (flat_map details_stored stored)
+  pub progress : IsProgress info (kept_of stored) sum.progress
 
 -- Some frames were read, and one more can be.
-abbrev pub CanTake : Summing → Type 0
-CanTake s =
-    (info : ThreadKey) × (stored : List Stored) × HasSummed info stored s × (length stored < 2 ^ 64 - 1)
+pub record CanTake (sum : Summing) : Type 0 where
+  pub info : ThreadKey
+  pub stored : List Stored
+  pub summed : HasSummed info stored sum
+  pub fewer : length stored < 2 ^ 64 - 1

@@ -45,14 +45,16 @@ action_of (Register thread name function file line) (reply.Registered id) learnt
     (details_given (option_map string_bytes name) (string_bytes function) (string_bytes file) line)
     id)
 action_of (RegisterUser names) (reply.RegisteredUser ids) learnt = adds learnt
-action_of (RegisterUser names) (reply.Refused e) learnt = adds learnt
+action_of (RegisterUser names) (reply.Refused cause) learnt = adds learnt
 action_of (ReportUser info stream) reply.Reported learnt =
     hands (key_of info) (word_in stream.form stream.bytes)
 action_of Snapshot reply.Snapshot learnt = wants
 action_of NewFrame (reply.Frame emitted) learnt = frames (is_some emitted.frame)
-action_of NewFrame (reply.Refused e) learnt = learns learnt
+action_of NewFrame (reply.Refused cause) learnt = learns learnt
 action_of _ _ learnt = nothing
 
+-- what each command did, given its reply and the details that became known
 abbrev pub actions_of : List Command → List Reply → List (List Details) → List Action
-actions_of (c ∷ cs) (r ∷ rs) (l ∷ ls) = action_of c r l ∷ actions_of cs rs ls
+actions_of (command ∷ commands) (reply ∷ replies) (details ∷ learnt) =
+    action_of command reply details ∷ actions_of commands replies learnt
 actions_of _ _ _ = []

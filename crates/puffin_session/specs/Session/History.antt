@@ -55,32 +55,39 @@ pub data Action : Type 0 where
 
 -- ---- the calls of one thread
 
+-- a thread without a name, for a number that no thread has
 abbrev pub nobody : Thread
 nobody = new_thread [] Short
 
+-- the thread with this number, before the commands
 abbrev pub thread_at : Opening → ℕ → Thread
-thread_at o t = slice_index_or o.threads t nobody
+thread_at opening number = slice_index_or opening.threads number nobody
 
 -- an action as a call of this thread, if it is one; a negative time counts as 0
 abbrev pub call_of : ℕ → Action → Option Call
-call_of t (calls u c) =
-    if t == u then Some (record { at = int_max (pos 0) c.at; mark = c.mark }) else None
-call_of t _ = None
+call_of thread (calls caller call) =
+    if thread == caller
+    then Some (record { at = int_max (pos 0) call.at; mark = call.mark })
+    else None
+call_of thread _ = None
 
 abbrev pub calls_of : ℕ → List Action → List Call
-calls_of t done = filter_map (call_of t) done
+calls_of thread done = filter_map (call_of thread) done
 
--- the greatest time of these calls, and of those before
+-- the greatest of this time and those of these calls
 abbrev pub greatest : ℤ → List Call → ℤ
-greatest latest cs = fold (λ time c. int_max time c.at) latest cs
+greatest latest later = fold (λ time call. int_max time call.at) latest later
 
 -- a thread's greatest time so far
 abbrev pub latest_of : Opening → ℕ → List Action → ℤ
-latest_of o t done = greatest (thread_at o t).latest (calls_of t done)
+latest_of opening thread done =
+    greatest (thread_at opening thread).latest (calls_of thread done)
 
 -- ---- lists
 
 -- what comes after the last element that passes a test, or all if none does
 abbrev pub since_last : {X : Type 0} → (X → Bool) → List X → List X
-since_last p [] = []
-since_last p (x ∷ xs) = if list_any p xs then since_last p xs else if p x then xs else x ∷ xs
+since_last passes [] = []
+since_last passes (first ∷ later) =
+    if list_any passes later then since_last passes later
+    else if passes first then later else first ∷ later

@@ -36,113 +36,130 @@ use Rattle.puffin_session.specs.Session.Notes.{due_details, known_after, is_want
 use Rattle.puffin_session.specs.Session.{thread_after, word_of_thread, SpellsDue}
 use Rattle.puffin_session.specs.Session.Actions.{user_details}
 
--- The frame with this index spells what was due, and its meta is that of its streams, which have at least one scope. It is held
--- unpacked only.
-pub record SpellsFrame (frame : FrameData) (index : ℕ) (ds : List Delivery) : Type 0 where
+-- The frame with this index spells what was handed over, and its meta is that of its streams, which have at least one scope. It
+-- is held unpacked only.
+pub record SpellsFrame (frame : FrameData) (index : ℕ) (handed : List Delivery) : Type 0 where
   pub streams : Streams
   pub held : holding_of frame ≡ record { packed = None; unpacked = Some streams }
-  pub spelled : SpellsDue streams ds
+  pub spelled : SpellsDue streams handed
   pub meta : frame_meta frame ≡ meta_of index (values streams)
   pub some : 0 < (frame_meta frame).num_scopes
 
--- The frame lists exactly these new details, in order, and then, if a snapshot was wanted, all known ones; and it states whether it was wanted.
+-- The frame lists exactly these new details, in order, and then, if a snapshot was wanted, all known ones; and it states whether
+-- it was wanted.
 pub record TellsScopes (frame : FrameData) (known : Collection) (new : List Details)
     (wanted : Bool) : Type 0 where
   pub delta : shared_details frame.scope_delta.items ≡ delta_of known new wanted
   pub full : frame.full_delta ≡ wanted
 
-module _ (o : Opening) (done : List Action) where
+module _ (opening : Opening) (done : List Action) where
+  -- a thread has this number
   abbrev pub HasThread : ℕ → Type 0
-  HasThread t = t < length o.threads
+  HasThread thread = thread < length opening.threads
 
+  -- the cause is that no thread has this number
   abbrev pub IsNoThread : ℕ → Error → Type 0
-  IsNoThread t e = (e ≡ NoThread) × (length o.threads ≤ t)
+  IsNoThread thread cause = (cause ≡ NoThread) × (length opening.threads ≤ thread)
 
+  -- how many scopes of a thread are open
   abbrev pub num_open : ℕ → ℕ
-  num_open t = open_after 0 (unreported o t done)
+  num_open thread = open_after 0 (unreported opening thread done)
 
   -- the info and the word of a thread's report, if its last open scope ends at this time
   abbrev pub ending_key : ℕ → ThreadKey
-  ending_key t = key_of_thread (thread_after o done t)
+  ending_key thread = key_of_thread (thread_after opening done thread)
 
   abbrev pub ending_word : ℕ → ℤ → Word
-  ending_word t at = word_of_thread (after_end (thread_after o done t) (int_max (pos 0) at))
+  ending_word thread at =
+      word_of_thread (after_end (thread_after opening done thread) (int_max (pos 0) at))
 
   -- with this word added, the sums over all that is due fit 64 bits, and so does the sum over all that was ever reported
   pub record DueFits (word : Word) : Type 0 where
-    pub bytes : sum_by bytes_delivered (due o done) + word_size word.form word.events < 2 ^ 64
-    pub scopes : sum_by scopes_delivered (due o done) + num_begun word.events < 2 ^ 64
-    pub reported : reported_after o done + num_begun word.events < 2 ^ 64
+    pub bytes :
+        sum_by bytes_delivered (due opening done) + word_size word.form word.events < 2 ^ 64
+    pub scopes : sum_by scopes_delivered (due opening done) + num_begun word.events < 2 ^ 64
+    pub reported : reported_after opening done + num_begun word.events < 2 ^ 64
 
   -- all events that are due, and this word's
   abbrev pub due_with : Word → List Event
-  due_with word = flat_map events_of (due o done) ++ word.events
+  due_with word = flat_map events_of (due opening done) ++ word.events
 
   -- with this word added, the range of all that is due isn't reversed, and its duration doesn't fit i64
   abbrev pub DueIsTooLong : Word → Type 0
   DueIsTooLong word = IsTooLong (least_open (due_with word), greatest_close (due_with word))
 
+  -- scopes are due under this info in another form than this word's
+  abbrev pub HasOtherForm : ThreadKey → Word → Type 0
+  HasOtherForm info word = IsUnlikeDue (due opening done) info word
+
   -- a report of this word under this info may be accepted
   abbrev pub MayReport : ThreadKey → Word → Type 0
-  MayReport i word = (¬ IsUnlikeDue (due o done) i word) × DueFits word × ¬ DueIsTooLong word
+  MayReport info word = (¬ HasOtherForm info word) × DueFits word × ¬ DueIsTooLong word
 
   -- why a report of this word under this info is refused: the first cause that applies
   abbrev pub IsDueRefusal : ThreadKey → Word → Error → Type 0
-  IsDueRefusal i word e =
-      ((e ≡ UnlikeForms) × IsUnlikeDue (due o done) i word)
-      ⊎ ((e ≡ TooLarge) × (¬ IsUnlikeDue (due o done) i word) × ¬ DueFits word)
-      ⊎ ((e ≡ RangeTooLong)
-      × (¬ IsUnlikeDue (due o done) i word)
-      × DueFits word
-      × DueIsTooLong word)
-      ⊎ ((e ≡ Memory) × MayReport i word)
+  IsDueRefusal info word cause =
+      ((cause ≡ UnlikeForms) × HasOtherForm info word)
+      ⊎ ((cause ≡ TooLarge) × (¬ HasOtherForm info word) × ¬ DueFits word)
+      ⊎ ((cause ≡ RangeTooLong) × (¬ HasOtherForm info word) × DueFits word × DueIsTooLong word)
+      ⊎ ((cause ≡ Memory) × MayReport info word)
 
-  -- what ending the innermost of `depth` open scopes leads to, with the report that it may make
+  -- The innermost of `depth` open scopes was ended. If it was the last one, a report of this word under this info was accepted,
+  -- or refused with this cause.
   abbrev pub MayClose : ℕ → ThreadKey → Word → Closed → Type 0
-  MayClose depth i word closed.Inner = 1 < depth
-  MayClose depth i word closed.Reported = (depth ≡ 1) × MayReport i word
-  MayClose depth i word (closed.Kept e) = (depth ≡ 1) × IsDueRefusal i word e
+  MayClose depth info word closed.Inner = 1 < depth
+  MayClose depth info word closed.Reported = (depth ≡ 1) × MayReport info word
+  MayClose depth info word (closed.Kept cause) = (depth ≡ 1) × IsDueRefusal info word cause
 
   -- an emitted frame spells what was due and lists the details that were due; without a frame no scope was due
   abbrev pub FrameIsDue : Emitted → Type 0
   FrameIsDue emitted =
-      MatchOption emitted.frame (NoneDue (due o done)) (λ f.
-      SpellsFrame (arc_value f) (index_after o done) (due o done)
-      × TellsScopes (arc_value f) (known_after o done) (due_details o done) (is_wanted o done))
+      MatchOption emitted.frame (NoneDue (due opening done)) (λ frame.
+      SpellsFrame (arc_value frame) (index_after opening done) (due opening done)
+      × TellsScopes (arc_value frame) (known_after opening done) (due_details opening done)
+      (is_wanted opening done))
 
-  -- After these actions a command may get this reply, with these details becoming known; no other pair is possible. A session sets no
-  -- limits of bytes, so `Memory` means that memory ran out.
+  -- After these actions a command may get this reply, with these details becoming known; no other pair is possible. A session
+  -- sets no limits of bytes, so `Memory` means that memory ran out.
   abbrev pub MayReply : Command → Reply → List Details → Type 0
-  MayReply (Begin t at id text) (reply.Began offset) learnt =
-      HasThread t
-      × (offset ≡ begun_place (thread_after o done t) (string_bytes text))
-  MayReply (Begin t at id text) (reply.Refused e) learnt =
-      IsNoThread t e ⊎ ((e ≡ Memory) × HasThread t)
-  MayReply (End t at back) (reply.Ended closed) learnt =
-      HasThread t × (back ≡ 0) × MayClose (num_open t) (ending_key t) (ending_word t at) closed
-  MayReply (End t at back) (reply.Refused e) learnt =
-      IsNoThread t e ⊎ ((e ≡ MismatchedEnd) × HasThread t × ((0 < back) ⊎ (num_open t ≡ 0)))
-  MayReply (Register t name function file line) (reply.Registered id) learnt = HasThread t
-  MayReply (Register t name function file line) (reply.Refused e) learnt =
-      IsNoThread t e ⊎ (((e ≡ IdsExhausted) ⊎ (e ≡ Memory)) × HasThread t)
+  MayReply (Begin thread at id text) (reply.Began offset) learnt =
+      HasThread thread
+      × (offset ≡ begun_place (thread_after opening done thread) (string_bytes text))
+  MayReply (Begin thread at id text) (reply.Refused cause) learnt =
+      IsNoThread thread cause ⊎ ((cause ≡ Memory) × HasThread thread)
+  MayReply (End thread at back) (reply.Ended closed) learnt =
+      HasThread thread
+      × (back ≡ 0)
+      × MayClose (num_open thread) (ending_key thread) (ending_word thread at) closed
+  MayReply (End thread at back) (reply.Refused cause) learnt =
+      IsNoThread thread cause
+      ⊎ ((cause ≡ MismatchedEnd) × HasThread thread × ((0 < back) ⊎ (num_open thread ≡ 0)))
+  MayReply (Register thread name function file line) (reply.Registered id) learnt =
+      HasThread thread
+  MayReply (Register thread name function file line) (reply.Refused cause) learnt =
+      IsNoThread thread cause
+      ⊎ (((cause ≡ IdsExhausted) ⊎ (cause ≡ Memory)) × HasThread thread)
   MayReply (RegisterUser names) (reply.RegisteredUser ids) learnt =
-      Registers (known_after o done) (user_details names.items) ids.items learnt
-  MayReply (RegisterUser names) (reply.Refused e) learnt =
-      RegistersSome (known_after o done) (user_details names.items) e learnt
+      Registers (known_after opening done) (user_details names.items) ids.items learnt
+  MayReply (RegisterUser names) (reply.Refused cause) learnt =
+      RegistersSome (known_after opening done) (user_details names.items) cause learnt
   MayReply (ReportUser info stream) reply.Reported learnt =
-      (f : Forest)
-      × Spells stream.form stream.bytes f
-      × (events_in stream.form stream.bytes ≡ tour f)
-      × MayReport (key_of info) (record { form = stream.form; events = tour f })
-  MayReply (ReportUser info stream) (reply.Refused e) learnt =
-      (e ≡ Memory)
-      ⊎ IsFault stream.form stream.bytes e
-      ⊎ ((f : Forest) × Spells stream.form stream.bytes f
-      × IsDueRefusal (key_of info) (record { form = stream.form; events = tour f }) e)
+      (forest : Forest)
+      × Spells stream.form stream.bytes forest
+      × (events_in stream.form stream.bytes ≡ tour forest)
+      × MayReport (key_of info) (record { form = stream.form; events = tour forest })
+  MayReply (ReportUser info stream) (reply.Refused cause) learnt =
+      (cause ≡ Memory)
+      ⊎ IsFault stream.form stream.bytes cause
+      ⊎ ((forest : Forest)
+      × Spells stream.form stream.bytes forest
+      × IsDueRefusal (key_of info) (record { form = stream.form; events = tour forest }) cause)
   MayReply Snapshot reply.Snapshot learnt = Unit {0}
   MayReply NewFrame (reply.Frame emitted) learnt =
-      (emitted.refused ≡ 0) × (index_after o done ≢ 2 ^ 64 - 1) × FrameIsDue emitted
-  MayReply NewFrame (reply.Refused e) learnt =
-      ((e ≡ IndexExhausted) × (index_after o done ≡ 2 ^ 64 - 1) × (learnt ≡ []))
-      ⊎ ((e ≡ Memory) × IsPrefix learnt (due_details o done))
+      (emitted.refused ≡ 0)
+      × (index_after opening done ≢ 2 ^ 64 - 1)
+      × FrameIsDue emitted
+  MayReply NewFrame (reply.Refused cause) learnt =
+      ((cause ≡ IndexExhausted) × (index_after opening done ≡ 2 ^ 64 - 1) × (learnt ≡ []))
+      ⊎ ((cause ≡ Memory) × IsPrefix learnt (due_details opening done))
   MayReply _ _ learnt = ⊥

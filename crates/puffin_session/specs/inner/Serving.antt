@@ -21,18 +21,21 @@ use Rattle.puffin_session.specs.Session.Replies.{MayReply}
 
 -- ---- what single calls do
 
+-- the thread with this number
 abbrev pub session_thread : SessionState → ℕ → Thread
-session_thread s t = slice_index_or s.threads t nobody
+session_thread state number = slice_index_or state.threads number nobody
 
--- a session with this thread at this number, and with this collected
+-- the session with this thread at this number, and with this collected
 abbrev pub session_with_thread : SessionState → ℕ → Thread → Collected → SessionState
-session_with_thread s t thread collected =
-    record { threads = slice_set s.threads t thread; collected = collected }
+session_with_thread state number thread collected =
+    record { threads = slice_set state.threads number thread; collected = collected }
 
+-- the session with the same threads, and with this collected
 abbrev pub session_with_collected : SessionState → Collected → SessionState
-session_with_collected s collected = record { threads = s.threads; collected = collected }
+session_with_collected state collected = record { threads = state.threads; collected = collected }
 
--- The innermost scope of a thread was ended. If it was the last open one, the report of the whole word was accepted, or it was refused and what is collected didn't change.
+-- The innermost scope of a thread was ended. If it was the last open one, the report of the whole word was accepted, or it was
+-- refused and what is collected didn't change.
 abbrev pub EndsInnermost : Thread → Thread → ℤ → Collected → Collected → Closed → Type 0
 EndsInnermost old new at before after closed =
     Closes AcceptsReport RefusesReport old new at before after closed
@@ -40,23 +43,26 @@ EndsInnermost old new at before after closed =
 -- ---- what a run keeps
 
 -- The sums over these streams are those over what was handed over, and their range is that of all its events.
-pub record SumsTo (streams : Streams) (ds : List Delivery) : Type 0 where
-  pub bytes : total_bytes (values streams) ≡ sum_by bytes_delivered ds
-  pub scopes : total_scopes (values streams) ≡ sum_by scopes_delivered ds
-  pub start : joined_start (values streams) ≡ least_open (flat_map events_of ds)
-  pub stop : joined_stop (values streams) ≡ greatest_close (flat_map events_of ds)
+pub record SumsTo (streams : Streams) (handed : List Delivery) : Type 0 where
+  pub bytes : total_bytes (values streams) ≡ sum_by bytes_delivered handed
+  pub scopes : total_scopes (values streams) ≡ sum_by scopes_delivered handed
+  pub start : joined_start (values streams) ≡ least_open (flat_map events_of handed)
+  pub stop : joined_stop (values streams) ≡ greatest_close (flat_map events_of handed)
 
 -- the state of a session after a history, in which the sums over what is collected are those over what is due
-pub record Continued (o : Opening) (done : List Action) (now : SessionState) : Type 0 where
-  pub stands : StandsAfter o done now
-  pub sums : SumsTo now.collected.streams (due o done)
+pub record Continued (opening : Opening) (done : List Action) (now : SessionState) : Type 0 where
+  pub stands : StandsAfter opening done now
+  pub sums : SumsTo now.collected.streams (due opening done)
 
--- One command and its reply: some details became known. Whatever history led to the session's old state, that history followed
--- by what the command did leads to the new one.
+-- A command got this reply, and these details became known. Whatever history led to the session's old state, that history
+-- followed by what the command did leads to the new one, and the command may get this reply after it.
 abbrev pub ContinuesBy : SessionState → SessionState → Command → Reply → List Details → Type 0
-ContinuesBy old new c r learnt =
-    (o : Opening) (done : List Action) → Continued o done old →
-    Continued o (done ++ (action_of c r learnt ∷ [])) new × MayReply o done c r learnt
+ContinuesBy old new command reply learnt =
+    (opening : Opening) (done : List Action) → Continued opening done old →
+    Continued opening (done ++ (action_of command reply learnt ∷ [])) new
+    × MayReply opening done command reply learnt
 
+-- the same, with some details that became known
 abbrev pub Continues : SessionState → SessionState → Command → Reply → Type 0
-Continues old new c r = (learnt : List Details) × ContinuesBy old new c r learnt
+Continues old new command reply =
+    (learnt : List Details) × ContinuesBy old new command reply learnt

@@ -10,5 +10,6 @@ pub returns : goal.returns
 returns c = λ f honest.
     let start : least_start f ≤ℤ pos (2 ^ 63 - 1) = least_in_range f in
     let stop : negsuc (2 ^ 63 - 1) ≤ℤ greatest_stop f = greatest_in_range f in
-    let range : IsForest c.args.info.stream.form f → 0 < scope_count f → least_start f ≤ℤ greatest_stop f = ordered c.args.info.stream.form f in
+    let range : IsForest c.args.info.stream.form f → 0 < scope_count f → least_start f ≤ℤ greatest_stop f =
+    ordered c.args.info.stream.form f in
     grind (arith, common_steps)

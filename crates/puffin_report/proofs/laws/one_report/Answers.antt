@@ -1,4 +1,4 @@
--- Two summaries of the same frames tell the same.
+-- Two summaries of the same frames have the same frames, merge and details, and so the same lines.
 use Rattle.std.proofs.Common.{◌≡◌, ◌++◌, List, Result, Ok, sym, subst, ◌∙◌}
 use Rattle.puffin_data.specs.declared.file_error.FileError.{FileError}
 use Rattle.puffin_merge.specs.Merge.FrameBytes.{FrameBytes}
@@ -13,7 +13,10 @@ same_bytes r xs ys a b = cc
 pub returns : goal.returns
 returns c info stored one another sums again =
     let streams = same_bytes _ sums.streams again.streams sums.unpacked again.unpacked in
-    let merged = c.one_outcome.ensures.merged sums.streams (forest_in one.merged.items) (forest_in another.merged.items) sums.merged (subst (λ (fs : List FrameBytes). AreMerged fs (forest_in another.merged.items)) streams again.merged) in
+    let merged =
+    c.one_outcome.ensures.merged sums.streams (forest_in one.merged.items) (forest_in another.merged.items)
+    sums.merged
+    (subst (λ (fs : List FrameBytes). AreMerged fs (forest_in another.merged.items)) streams again.merged) in
     let frames = sums.frames ∙ sym again.frames in
     let scopes : one.scopes ≡ another.scopes = sums.scopes ∙ sym again.scopes in
     λ i. frames_line (frames i) ++ scope_lines (scopes i) 0 (merged i)

@@ -1,4 +1,4 @@
--- What was written where the call ends.
+-- Nothing was written before the summary was made; then its lines were, or a prefix of them.
 use Rattle.std.proofs.Common.{List, ℕ, inl, inr, subst, ◌∙◌}
 use Rattle.std.proofs.lemmas.Result.{err_from_is_err_and, on_ok_weaker}
 use Rattle.std.specs.Io.KnownBytes.{Appends}
@@ -16,14 +16,32 @@ returns-in_err-summary-clause-err g c =
 pub returns-clause-ok : goal.returns-clause-ok
 returns-clause-ok g c =
     let read = c.in_ok-summary.ensures.summary in
-    let summary : HasSummary (key_of c.args.thread.now) (g.S.Source.remaining c.args.source.now) (g.S.Source.remaining c.summarize.new.source) c.in_ok-summary.summary = record { stored = read.0; took = read.1; sums = read.2 } in
+    let summary : HasSummary (key_of c.args.thread.now) (g.S.Source.remaining c.args.source.now)
+    (g.S.Source.remaining c.summarize.new.source) c.in_ok-summary.summary =
+    record { stored = read.0; took = read.1; sums = read.2 } in
     let lines = c.as_bytes.ensures.value ∙ c.in_ok-lines.ensures in
-    on_ok_weaker c.write_all.result (λ written. (c.in_ok-summary.summary, summary, subst (λ (bs : List ℕ). Appends (g.D.Drain.contents c.args.drain.now) (g.D.Drain.contents c.write_all.new.drain) bs) lines written)) c.write_all.ensures.ok
+    on_ok_weaker c.write_all.result
+    (λ written. (
+      c.in_ok-summary.summary,
+      summary,
+      subst
+          (λ (bs : List ℕ). Appends (g.D.Drain.contents c.args.drain.now) (g.D.Drain.contents c.write_all.new.drain) bs)
+          lines written,
+    )) c.write_all.ensures.ok
 
 pub returns-clause-err : goal.returns-clause-err
 returns-clause-err g c =
     let read = c.in_ok-summary.ensures.summary in
-    let summary : HasSummary (key_of c.args.thread.now) (g.S.Source.remaining c.args.source.now) (g.S.Source.remaining c.summarize.new.source) c.in_ok-summary.summary = record { stored = read.0; took = read.1; sums = read.2 } in
+    let summary : HasSummary (key_of c.args.thread.now) (g.S.Source.remaining c.args.source.now)
+    (g.S.Source.remaining c.summarize.new.source) c.in_ok-summary.summary =
+    record { stored = read.0; took = read.1; sums = read.2 } in
     let lines = c.as_bytes.ensures.value ∙ c.in_ok-lines.ensures in
     told-cut _ _ c.write_all.result
-    (λ e io part. inr (io, c.in_ok-summary.summary, summary, subst (λ (bs : List ℕ). WritesBeginning (g.D.Drain.contents c.args.drain.now) (g.D.Drain.contents c.write_all.new.drain) bs) lines part)) c.write_all.ensures.err c.write_all.ensures.io
+    (λ e io part. inr (
+      io,
+      c.in_ok-summary.summary,
+      summary,
+      subst
+          (λ (bs : List ℕ). WritesBeginning (g.D.Drain.contents c.args.drain.now)
+          (g.D.Drain.contents c.write_all.new.drain) bs) lines part,
+    )) c.write_all.ensures.err c.write_all.ensures.io

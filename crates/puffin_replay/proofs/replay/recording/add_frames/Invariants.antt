@@ -10,5 +10,6 @@ use Rattle.puffin_replay.proofs.replay.recording.add_frames.Given as goal
 abbrev pub invariant-loop-reply : goal.invariant-loop-reply
 invariant-loop-reply l = record {
   takes : Takes (frames_emitted (take l.reply-index l.replies)) l.fn.view l.view;
-  took : (cs : List PacketFields) → Took cs (view_of l.fn.view) → Took (cs ++ map fields_of (frames_emitted (take l.reply-index l.replies))) (view_of l.view);
+  took : (cs : List PacketFields) → Took cs (view_of l.fn.view)
+      → Took (cs ++ map fields_of (frames_emitted (take l.reply-index l.replies))) (view_of l.view);
 }

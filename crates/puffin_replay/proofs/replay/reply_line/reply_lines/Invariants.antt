@@ -8,4 +8,6 @@ use Rattle.puffin_replay.proofs.replay.reply_line.reply_lines.Given as goal
 
 abbrev pub invariant-loop-number : goal.invariant-loop-number
 invariant-loop-number l =
-    string_bytes l.lines ++ reply_lines (iter_rest (zip_first l.number-iterator)) (iter_rest (zip_second l.number-iterator)) ≡ reply_lines l.numbers l.replies
+    string_bytes l.lines
+    ++ reply_lines (iter_rest (zip_first l.number-iterator)) (iter_rest (zip_second l.number-iterator))
+    ≡ reply_lines l.numbers l.replies

@@ -1,3 +1,4 @@
+-- A frame that is held unpacked has as many threads as streams.
 use Rattle.std.proofs.Common.{sym, ap, ◌∙◌}
 use Rattle.puffin_replay.specs.Program.ReplyLines.{threads_held}
 use Rattle.puffin_replay.proofs.CountedLines.{len-shared_streams}

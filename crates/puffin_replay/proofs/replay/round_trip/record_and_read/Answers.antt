@@ -15,8 +15,10 @@ returns-in-Ok-clause-promise c =
     let new = c.record_session_and_read.new.view in
     IfOk-weaker c.record_session_and_read.result _ _
     (λ recording keeps.
-    promised threads c.args.commands.now limits.max_recent limits.max_slow limits.packs old new c.limited_view-view.ensures.frames end recording.replies.items recording.view
-    (subst (λ (s : SessionState). KeepsRun s end c.args.commands.now old new recording.replies.items recording.view) c.in-Ok.ensures.new keeps))
+    promised threads c.args.commands.now limits.max_recent limits.max_slow limits.packs old new
+    c.limited_view-view.ensures.frames end recording.replies.items recording.view
+    (subst (λ (s : SessionState). KeepsRun s end c.args.commands.now old new recording.replies.items recording.view)
+    c.in-Ok.ensures.new keeps))
     c.record_session_and_read.ensures.promise
 
 pub returns-in-Ok-clause-refusal : goal.returns-in-Ok-clause-refusal
@@ -28,6 +30,9 @@ returns-in-Ok-clause-refusal c =
     let new = c.record_session_and_read.new.view in
     IfErr-weaker c.record_session_and_read.result _ _
     (λ e unread.
-    refused threads c.args.commands.now limits.max_recent limits.max_slow limits.packs old new c.limited_view-view.ensures.frames end e.fault (option_map (λ rs. rs.items) e.replies)
-    (subst (λ (s : SessionState). IsUnread s end c.args.commands.now old new e.fault (option_map (λ rs. rs.items) e.replies)) c.in-Ok.ensures.new unread))
+    refused threads c.args.commands.now limits.max_recent limits.max_slow limits.packs old new
+    c.limited_view-view.ensures.frames end e.fault (option_map (λ rs. rs.items) e.replies)
+    (subst
+    (λ (s : SessionState). IsUnread s end c.args.commands.now old new e.fault
+    (option_map (λ rs. rs.items) e.replies)) c.in-Ok.ensures.new unread))
     c.record_session_and_read.ensures.refusal

@@ -16,4 +16,12 @@ returns-in_err-replies-clause-refusal c =
 pub returns-in-Err-clause-refusal : goal.returns-in-Err-clause-refusal
 returns-in-Err-clause-refusal c =
     let ran = c.in_ok-replies.ensures.taken in
-    inr (inr (c.in_ok-replies.replies.items, refl, ran.run, ran.view, ran.took, file_fault c.args.view.now c.run_into.new.view c.in-Err.fault ran.ids c.in-Err.ensures.fault))
+    inr
+    (inr (
+      c.in_ok-replies.replies.items,
+      refl,
+      ran.run,
+      ran.view,
+      ran.took,
+      file_fault c.args.view.now c.run_into.new.view c.in-Err.fault ran.ids c.in-Err.ensures.fault,
+    ))

@@ -1,4 +1,4 @@
--- What was written is the file of the view.
+-- What was written is the file of the view, and so what is read has its frames.
 use Rattle.std.proofs.Common.{ℕ, List, Vec, Global, ◌++◌, ap, ◌∙◌, inl}
 use Rattle.std.proofs.lemmas.Result.{IfOk-weaker, IfErr-weaker}
 use Rattle.puffin_view.specs.View.Known.{view_of}
@@ -13,7 +13,8 @@ is_file c =
     let items : Vec ℕ Global → List ℕ = λ v. v.items in
     record {
       file = c.as_slice.ensures.value ∙ ap items c.into_inner.ensures ∙ c.in-Ok.ensures.ok
-          ∙ ap (λ (bs : List ℕ). bs ++ file_of (fields_in (view_of c.args.view.now))) (ap items c.new-file.ensures.device ∙ c.new.ensures.items);
+          ∙ ap (λ (bs : List ℕ). bs ++ file_of (fields_in (view_of c.args.view.now)))
+          (ap items c.new-file.ensures.device ∙ c.new.ensures.items);
       packed = c.in-Ok.ensures.packed;
     }
 
@@ -27,4 +28,5 @@ returns-in-Ok-clause-fault c =
 
 pub returns-in-Err-clause-fault : goal.returns-in-Err-clause-fault
 returns-in-Err-clause-fault c =
-    write_fault (fields_in (view_of c.args.view.now)) c.in-Err.fault c.in_memory.result c.in-Err.ensures.cause c.in-Err.ensures.too_long c.in_memory.ensures.io c.in_memory.ensures.other
+    write_fault (fields_in (view_of c.args.view.now)) c.in-Err.fault c.in_memory.result c.in-Err.ensures.cause
+    c.in-Err.ensures.too_long c.in_memory.ensures.io c.in_memory.ensures.other

@@ -14,8 +14,14 @@ lines-preserved-in-Continue-1 c =
     let (before, reading, left) = c.lines.invariant.so_far in
     let s = meaning_of c.in-Some-statement.statement in
     let told = c.in-Ok.ensures ∙ ap (λ (o : Option Statement). Ok (option_map meaning_of o)) c.in-Some-statement.is in
-    let early = subst (λ (names : List (List ℕ)). is_late names s ≡ false) reading.names (sym (c.is_late.ensures reading.numbered) ∙ c.if-is_late.false) in
+    let early =
+    subst (λ (names : List (List ℕ)). is_late names s ≡ false) reading.names
+    (sym (c.is_late.ensures reading.numbered) ∙ c.if-is_late.false) in
     record {
-      so_far = (before ++ (c.lines.number + 1, s) ∷ [], c.in_ok-push.ensures before reading, left ∙ after_said before (c.lines.number + 1) _ _ _ s c.in-Some.ensures told early);
+      so_far = (
+        before ++ (c.lines.number + 1, s) ∷ [],
+        c.in_ok-push.ensures before reading,
+        left ∙ after_said before (c.lines.number + 1) _ _ _ s c.in-Some.ensures told early,
+      );
       counted = omega (arith, ap length c.in-Some.ensures);
     }

@@ -8,7 +8,9 @@ use Rattle.puffin_replay.proofs.replay.script.script_of.Given as goal
 
 abbrev pub invariant-lines : goal.invariant-lines
 invariant-lines l = record {
-  so_far : (before : List (ℕ × Meaning)) × IsReading l.reading before × (statements_from 1 [] (lines_in l.bytes) ≡ after before (statements_from (l.number + 1) (threads_after [] before) (lines_left l.lines)));
+  so_far : (before : List (ℕ × Meaning)) × IsReading l.reading before
+      × (statements_from 1 [] (lines_in l.bytes)
+      ≡ after before (statements_from (l.number + 1) (threads_after [] before) (lines_left l.lines)));
   counted : l.number + length (lines_left l.lines) ≡ length (lines_in l.bytes);
 }
 

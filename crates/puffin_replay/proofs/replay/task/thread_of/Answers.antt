@@ -1,3 +1,4 @@
+-- A word without a colon names no thread.
 use Rattle.std.proofs.Common.{option_map, ap, ◌∙◌, lit<}
 use Rattle.puffin_replay.proofs.StartWords.{no_thread}
 use Rattle.puffin_replay.proofs.replay.task.thread_of.Goals as goal

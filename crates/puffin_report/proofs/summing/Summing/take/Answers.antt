@@ -1,3 +1,4 @@
+-- One more frame is taken: with it, the frames that are kept are those that a view keeps.
 use Rattle.std.proofs.Common.{ℕ, Some, refl, ap, ◌∙◌}
 use Rattle.puffin_threads.specs.Thread.ThreadKey.{key_of}
 use Rattle.puffin_frames.specs.Frame.Contents.{packet_fields}
@@ -7,12 +8,19 @@ use Rattle.puffin_report.proofs.summing.Summing.take.Goals as goal
 
 pub with-requires : goal.with-requires
 with-requires c =
-    let r = c.requires in
-    let none = none_added r.0 c.new.result c.new.ensures.none (ap key_of c.new.ensures.info ∙ r.2.thread) in
-    can_go_on r.0 r.1 (packet_fields c.args.frame) c.kept_before.result r.3 (c.kept_before.ensures r.0 (said_by r.1) (packet_fields c.args.frame) r.2.last c.frame_index-index.ensures r.2.progress none)
+    let taken = c.requires in
+    let sum = taken.summed in
+    let next = packet_fields c.args.frame in
+    let none = none_added taken.info c.new.result c.new.ensures.none (ap key_of c.new.ensures.info ∙ sum.thread) in
+    can_go_on taken.info taken.stored next c.kept_before.result taken.fewer
+    (c.kept_before.ensures taken.info (said_by taken.stored) next sum.last c.frame_index-index.ensures sum.progress none)
 
 pub returns-clause-ok : goal.returns-clause-ok
 returns-clause-ok c = λ info stored s is h.
     let none = none_added info c.new.result c.new.ensures.none (ap key_of c.new.ensures.info ∙ h.thread) in
-    let kept = c.kept_before.ensures info (said_by stored) (packet_fields c.args.frame) h.last c.frame_index-index.ensures h.progress none in
-    one_taken info stored s c.args.self _ c.args.frame is h refl (ap (λ (i : ℕ). Some i) c.frame_index-index.ensures) c.in_ok-insert_details.ensures.ok c.kept_before.result kept (c.in_ok-progress.ensures.ok info kept.before kept.progress)
+    let kept =
+    c.kept_before.ensures info (said_by stored) (packet_fields c.args.frame) h.last c.frame_index-index.ensures
+    h.progress none in
+    one_taken info stored s c.args.self _ c.args.frame is h refl (ap (λ (i : ℕ). Some i) c.frame_index-index.ensures)
+    c.in_ok-insert_details.ensures.ok c.kept_before.result kept
+    (c.in_ok-progress.ensures.ok info kept.before kept.progress)

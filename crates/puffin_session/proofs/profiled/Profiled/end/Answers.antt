@@ -1,4 +1,4 @@
--- Only the innermost scope's place ends one.
+-- Only the offset of the innermost open scope ends a scope.
 use Rattle.std.proofs.Common.{◌∙◌, ap, length, w64, rules, ◌≡◌, ◌-◌, ℕ, get_or, take, vec_len, reverse, refl, inl, arith}
 use Rattle.std.proofs.lemmas.Result.{err_from_is_err_and}
 use Rattle.puffin_threads.specs.Thread.Calls.{Thread, offsets_of}
@@ -20,15 +20,18 @@ returns-clause-back c =
 
 pub returns-clause-ok : goal.returns-clause-ok
 returns-clause-ok c =
-    let closed = c.in_ok-closed.ensures.closed in
-    Ends-from _ _ _ _ _ closed.0 _ _ _ c.self.view_is (c.set.ensures ∙ to_z-of_z w64 c.args.at c.ranges.at) closed.1.1 closed.3
+    let (time, (asked, answered), sound, closes) = c.in_ok-closed.ensures.closed in
+    let set = c.set.ensures ∙ to_z-of_z w64 c.args.at c.ranges.at in
+    Ends-from _ _ _ _ _ time _ _ _ c.self.view_is set answered closes
 
 pub returns-then-depth-back-clause-cause : goal.returns-then-depth-back-clause-cause
 returns-then-depth-back-clause-cause c =
     let items = c.self.inside.offsets.items in
     let depth : c.len-depth.result ≡ length items = search rules in (
       refl,
-      past_all items c.args.self.now.form c.args.self.now.word c.args.back (c.self.invariant.0 ∙ ap (λ (th : Thread). reverse (offsets_of th)) c.self.view_is) (omega (arith, depth, c.if-depth-back.true)),
+      past_all items c.args.self.now.form c.args.self.now.word c.args.back
+          (c.self.invariant.0 ∙ ap (λ (th : Thread). reverse (offsets_of th)) c.self.view_is)
+          (omega (arith, depth, c.if-depth-back.true)),
     )
 
 pub returns-in_err-closed-clause-cause : goal.returns-in_err-closed-clause-cause
@@ -36,7 +39,9 @@ returns-in_err-closed-clause-cause c =
     let items = c.self.inside.offsets.items in
     let depth : c.len-depth.result ≡ length items = search rules in
     let refused = c.in_err-closed.ensures.innermost.mismatched in
-    let outer = outer_or_none items c.self.inside.profiler.state.form c.self.inside.profiler.state.word c.args.back c.index-offset.result.now
+    let outer =
+    outer_or_none items c.self.inside.profiler.state.form c.self.inside.profiler.state.word c.args.back
+    c.index-offset.result.now
     c.self.invariant.0
     (omega (arith, depth, c.if-depth-back.false))
     (c.index-offset.ensures ∙ ap (λ (n : ℕ). get_or items (n - 1 - c.args.back) c.index-offset.result.now) depth)

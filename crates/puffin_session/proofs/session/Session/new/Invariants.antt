@@ -7,4 +7,7 @@ use Rattle.puffin_threads.specs.Thread.Calls.{new_thread}
 use Rattle.puffin_session.proofs.session.Session.new.Given as goal
 
 abbrev pub invariant-loop-name : goal.invariant-loop-name
-invariant-loop-name l = l.profiled.items ≡ map (λ (thread : List ℕ × Form). new_thread thread.0 thread.1) (map (λ name. (string_bytes name, Short)) l.yielded)
+invariant-loop-name l =
+    l.profiled.items
+    ≡ map (λ (thread : List ℕ × Form). new_thread thread.0 thread.1)
+    (map (λ name. (string_bytes name, Short)) l.yielded)

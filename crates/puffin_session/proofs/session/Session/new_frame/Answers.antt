@@ -1,4 +1,4 @@
--- What the collector takes.
+-- What the collector answers and leaves is what the session answers and leaves.
 use Rattle.puffin_session.proofs.SessionCloses.{Collects-from, KeepsPending-from, last-from}
 use Rattle.puffin_session.proofs.session.Session.new_frame.Goals as goal
 

@@ -1,3 +1,4 @@
+-- The next line ends at the next line feed, or is the last one.
 use Rattle.std.proofs.Common.{ap, ◌∙◌}
 use Rattle.puffin_replay.specs.inner.ScriptReading.{lines_behind}
 use Rattle.puffin_replay.proofs.Scripts.{line_and_rest, last_line}

@@ -1,3 +1,4 @@
+-- A known name keeps its number and its thread's form, and a new one gets the next number.
 use Rattle.std.proofs.Common.{◌≡◌, length, vec_len, rules, sym, ◌∙◌}
 use Rattle.std.proofs.lemmas.List.{length-map}
 use Rattle.std.proofs.lemmas.Map.Text.{btree_map_updates_str}
@@ -18,7 +19,8 @@ returns c = λ numbered.
     let more = named_more _ _ _ name c.in_ok-push.ensures.items c.in_ok-from_str.ensures.ok in
     let size : vec_len c.args.self.now.names ≡ length c.args.self.now.names.items = search rules in
     let next : c.len-number.result ≡ length names = c.len-number.ensures ∙ size ∙ sym (length-map _ _) in (
-      λ q. numbered_more names _ name q c.len-number.result _ _ more next (numbered q) (btree_map_updates_str name c.args.self.now.numbers c.insert.new.self _ c.in_ok-insert.ensures.updates q),
+      λ q. numbered_more names _ name q c.len-number.result _ _ more next (numbered q)
+          (btree_map_updates_str name c.args.self.now.numbers c.insert.new.self _ c.in_ok-insert.ensures.updates q),
       more ∙ new_name names name unknown,
       c.in_ok-push-2.ensures.items ∙ new_form names _ name c.args.form unknown,
       place_of_new names _ name _ more next,

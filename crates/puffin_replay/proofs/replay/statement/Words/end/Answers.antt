@@ -1,3 +1,4 @@
+-- If some text is left, a word is left.
 use Rattle.std.proofs.Common.{ap, ◌∙◌}
 use Rattle.puffin_replay.specs.inner.ScriptReading.{words_behind}
 use Rattle.puffin_replay.proofs.Statements.{some_word}

@@ -1,3 +1,4 @@
+-- The next word ends at the next blank, or is the last one.
 use Rattle.std.proofs.Common.{ap, ◌∙◌, lit<}
 use Rattle.puffin_replay.specs.inner.ScriptReading.{words_behind}
 use Rattle.puffin_replay.specs.Script.Statements.{is_blank}

@@ -1,3 +1,4 @@
+-- The words that are left are joined again to the text that is left.
 use Rattle.std.proofs.Common.{ap, ◌∙◌, sym}
 use Rattle.std.proofs.lemmas.List.Splits.{join_with_byte-slice_split}
 use Rattle.puffin_replay.specs.inner.ScriptReading.{words_behind}

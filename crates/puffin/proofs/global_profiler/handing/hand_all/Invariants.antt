@@ -2,7 +2,7 @@ use Rattle.std.specs.Prelude.{◌≡◌, ◌≤◌, List, take, drop, length, su
 use Rattle.std.specs.Arc.{arc_value}
 use Rattle.puffin.specs.declared.global_profiler.handing.Outcome.{Outcome}
 use Rattle.puffin.specs.Sinks.Handing.{Handed, refusal}
-use Rattle.puffin.proofs.global_profiler.handing.hand_each.Given as goal
+use Rattle.puffin.proofs.global_profiler.handing.hand_all.Given as goal
 
 abbrev pub invariant-loop-entry : goal.invariant-loop-entry
 invariant-loop-entry g l = record {

@@ -1,7 +1,8 @@
+-- Without a plus in front, what is parsed is the time in the word.
 use Rattle.std.proofs.Common.{lit<, ◌∙◌}
 use Rattle.puffin_replay.proofs.Statements.{is_not_plus}
 use Rattle.puffin_replay.proofs.StartWords.{signed_read}
-use Rattle.puffin_replay.proofs.replay.task.signed_time.Goals as goal
+use Rattle.puffin_replay.proofs.replay.task.parse_signed_time.Goals as goal
 
 pub returns : goal.returns
 returns c =
