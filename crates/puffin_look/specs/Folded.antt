@@ -37,7 +37,7 @@ abbrev pub below : Option (List ℕ) → List ℕ → List ℕ
 below path name = front path ++ name
 
 abbrev pub path_with : Collection → Option (List ℕ) → Span → Option (List ℕ)
-path_with known path s = Some (below path (label known s.id))
+path_with known path span = Some (below path (label known span.id))
 
 -- the path of the innermost of these scopes, or nothing if there are none
 abbrev pub path_of : Collection → List Span → Option (List ℕ)
@@ -61,15 +61,15 @@ parts_at outer name time =
     record { path = below outer name; whole = time; nested = 0 } ∷ outer_part outer time
 
 abbrev pub scope_parts : Collection → ScopeInContext → List Part
-scope_parts known s =
-    parts_at (path_of known s.around) (label known s.span.id) (time_of s.span)
+scope_parts known scope =
+    parts_at (path_of known scope.around) (label known scope.span.id) (time_of scope.span)
 
 abbrev pub forest_parts : Collection → Forest → List Part
-forest_parts known f = flat_map (scope_parts known) (nested_in [] f)
+forest_parts known forest = flat_map (scope_parts known) (nested_in [] forest)
 
 -- the scopes of a frame
 abbrev pub frame_parts : Collection → TreeFrame → List Part
-frame_parts known f = flat_map (λ t. forest_parts known t.1) f.trees
+frame_parts known frame = flat_map (λ t. forest_parts known t.1) frame.trees
 
 abbrev pub parts : Collection → List TreeFrame → List Part
 parts known frames = flat_map (frame_parts known) frames
@@ -86,7 +86,7 @@ own_time all path =
 -- ---- lines
 
 abbrev pub with_path : List (List ℕ) → Part → List (List ℕ)
-with_path paths s = if list_any (bytes_eq s.path) paths then paths else paths ++ (s.path ∷ [])
+with_path paths part = if list_any (bytes_eq part.path) paths then paths else paths ++ (part.path ∷ [])
 
 -- each path once, in the order in which they are met
 abbrev pub paths_in : List Part → List (List ℕ)

@@ -87,7 +87,7 @@ lines_with next level outer (Some step) =
 -- The line of the heaviest path below this text, and those of the steps behind it. The first number limits how many.
 abbrev pub step_lines : Form → ℕ → List Row → ℕ → List ℕ → ℕ → List (List ℕ)
 step_lines form zero rows level front outer = []
-step_lines form (suc n) rows level front outer =
+step_lines form (suc limit) rows level front outer =
     lines_with (λ step. step_line form level (length front) step outer
-    ∷ step_lines form n rows (suc level) (step.0 ++ codes ";") step.1) level outer
+    ∷ step_lines form limit rows (suc level) (step.0 ++ codes ";") step.1) level outer
     (heaviest front rows)

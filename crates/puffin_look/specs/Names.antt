@@ -5,5 +5,5 @@ use Rattle.puffin_threads.specs.Details.{Details, name_of}
 
 -- the name in these details, or without details a `#` and the id
 abbrev pub name_or_id : ℕ → Option Details → List ℕ
-name_or_id id (Some d) = name_of d
+name_or_id id (Some details) = name_of details
 name_or_id id None = codes "#" ++ decimal id

@@ -13,10 +13,10 @@ use Rattle.puffin_look.specs.declared.page_choice.PageLimits.{PageLimits}
 use Rattle.puffin_look.specs.declared.page_choice.Row.{Row}
 
 abbrev pub row_of : PacketFields → Row
-row_of c = record {
-  index = c.meta.frame_index;
-  duration_ns = c.meta.range_ns.1 -ℤ c.meta.range_ns.0;
-  bytes = c.meta.num_bytes;
+row_of fields = record {
+  index = fields.meta.frame_index;
+  duration_ns = fields.meta.range_ns.1 -ℤ fields.meta.range_ns.0;
+  bytes = fields.meta.num_bytes;
 }
 
 -- the rows of a file's frames, in order
@@ -30,13 +30,13 @@ duration_of row = row.duration_ns
 
 -- this many, the slowest first, and of equally slow ones the one that comes first in the file
 abbrev pub slowest : ℕ → List Row → List Row
-slowest n rows = fold (λ slow row. take n (with_row_by duration_of slow row)) [] rows
+slowest limit rows = fold (λ slow row. take limit (with_row_by duration_of slow row)) [] rows
 
 -- ---- the last
 
 -- this many, the last first
 abbrev pub recent : ℕ → List Row → List Row
-recent n rows = fold (λ last row. take n (row ∷ last)) [] rows
+recent limit rows = fold (λ last row. take limit (row ∷ last)) [] rows
 
 -- ---- both, as far as there is room
 
@@ -45,13 +45,13 @@ pub record Chosen : Type 0 where
   pub room : ℕ
 
 abbrev pub fits : Chosen → Row → Bool
-fits c row = nat_le row.bytes c.room && not (list_any (λ i. nat_eq i row.index) c.indices)
+fits chosen row = nat_le row.bytes chosen.room && not (list_any (λ i. nat_eq i row.index) chosen.indices)
 
 -- a frame is left out if it was chosen already or has more bytes than there is room for
 abbrev pub with_fitting : Chosen → Row → Chosen
-with_fitting c row =
-    if fits c row then record { indices = c.indices ++ row.index ∷ []; room = c.room - row.bytes }
-    else c
+with_fitting chosen row =
+    if fits chosen row then record { indices = chosen.indices ++ row.index ∷ []; room = chosen.room - row.bytes }
+    else chosen
 
 abbrev pub fitting : ℕ → List Row → List ℕ
 fitting room rows = (fold with_fitting (record { indices = []; room = room }) rows).indices

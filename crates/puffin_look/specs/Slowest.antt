@@ -31,8 +31,8 @@ slowest_first rows = fold with_row [] rows
 
 -- the list of this many slowest frames
 abbrev pub AreSlowestFrames : Form → ℕ → List OpenFrame → List ℕ → Type 0
-AreSlowestFrames form n frames text =
-    text ≡ frame_list form (take n (slowest_first (map frame_row frames)))
+AreSlowestFrames form limit frames text =
+    text ≡ frame_list form (take limit (slowest_first (map frame_row frames)))
 
 -- nothing is printed of any frames
 abbrev pub IsNoText : List OpenFrame → List ℕ → Type 0

@@ -33,14 +33,14 @@ abbrev pub thread_text : ThreadKey → List ℕ
 thread_text key = start_text key.start ++ (codes ":" ++ escaped key.name)
 
 abbrev pub thread_cells : ThreadTotals → List Cell
-thread_cells t =
-    (codes "frames", Number t.frames) ∷ (codes "scopes", Number t.scopes)
-    ∷ (codes "bytes", Number t.bytes) ∷ (codes "start", Moment t.range_ns.0)
-    ∷ (codes "duration", Time (Some (length_of t.range_ns))) ∷ []
+thread_cells totals =
+    (codes "frames", Number totals.frames) ∷ (codes "scopes", Number totals.scopes)
+    ∷ (codes "bytes", Number totals.bytes) ∷ (codes "start", Moment totals.range_ns.0)
+    ∷ (codes "duration", Time (Some (length_of totals.range_ns))) ∷ []
 
 abbrev pub thread_line : Form → ThreadKey × ThreadTotals → List ℕ
-thread_line form e =
-    row_text form (thread_cells e.1) (Some (codes "thread", thread_word e.0))
+thread_line form entry =
+    row_text form (thread_cells entry.1) (Some (codes "thread", thread_word entry.0))
 
 -- the names of the columns
 abbrev pub head_line : List ℕ

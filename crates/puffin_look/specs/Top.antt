@@ -37,8 +37,8 @@ behind_name (byte ∷ bytes) = codes " (" ++ ((byte ∷ bytes) ++ codes ")")
 
 -- a scope's name, with its text if texts are kept apart
 abbrev pub scope_name : Collection → Bool → Span → List ℕ
-scope_name known texts s =
-    name_or_id s.id (tree.get known.by_id s.id) ++ (if texts then behind_name (text_in s.text) else [])
+scope_name known texts span =
+    name_or_id span.id (tree.get known.by_id span.id) ++ (if texts then behind_name (text_in span.text) else [])
 
 -- A call of a scope with this name, or the time of a scope directly within one.
 pub record Piece : Type 0 where
@@ -52,7 +52,7 @@ outer_piece (Some name) time = record { name = name; is_call = false; time = tim
 
 -- the name of the innermost of these scopes
 abbrev pub inner_name : Collection → Bool → Option (List ℕ) → Span → Option (List ℕ)
-inner_name known texts outer s = Some (scope_name known texts s)
+inner_name known texts outer span = Some (scope_name known texts span)
 
 abbrev pub name_around : Collection → Bool → List Span → Option (List ℕ)
 name_around known texts around = fold (inner_name known texts) None around
@@ -62,14 +62,14 @@ pieces_at outer name time =
     record { name = name; is_call = true; time = time } ∷ outer_piece outer time
 
 abbrev pub scope_pieces : Collection → Bool → ScopeInContext → List Piece
-scope_pieces known texts s =
-    pieces_at (name_around known texts s.around) (scope_name known texts s.span) (time_of s.span)
+scope_pieces known texts scope =
+    pieces_at (name_around known texts scope.around) (scope_name known texts scope.span) (time_of scope.span)
 
 abbrev pub forest_pieces : Collection → Bool → Forest → List Piece
-forest_pieces known texts f = flat_map (scope_pieces known texts) (nested_in [] f)
+forest_pieces known texts forest = flat_map (scope_pieces known texts) (nested_in [] forest)
 
 abbrev pub frame_pieces : Collection → Bool → TreeFrame → List Piece
-frame_pieces known texts f = flat_map (λ t. forest_pieces known texts t.1) f.trees
+frame_pieces known texts frame = flat_map (λ t. forest_pieces known texts t.1) frame.trees
 
 abbrev pub pieces : Collection → Bool → List TreeFrame → List Piece
 pieces known texts frames = flat_map (frame_pieces known texts) frames
@@ -132,11 +132,11 @@ AreRowsOf all (name ∷ names) (row ∷ rows) =
 
 -- the durations of frames, together
 abbrev pub with_length : ℕ → TreeFrame → ℕ
-with_length whole f = cut (whole + length_of f.meta.range_ns)
+with_length whole frame = cut (whole + length_of frame.meta.range_ns)
 
 -- the number of frames
 abbrev pub with_one : ℕ → TreeFrame → ℕ
-with_one count f = cut (count + 1)
+with_one count frame = cut (count + 1)
 
 -- ---- a file
 

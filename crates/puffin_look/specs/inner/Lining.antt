@@ -18,8 +18,8 @@ pub record Adds (old new : Lines) (line : List ℕ) : Type 0 where
 -- ---- lines behind others
 
 abbrev pub any_with : Bool → List (List ℕ) → Bool
-any_with any [] = any
-any_with any (line ∷ lines) = true
+any_with follows [] = follows
+any_with follows (line ∷ lines) = true
 
 any_more : (any : Bool) (xs ys : List (List ℕ)) → any_with any (xs ++ ys) ≡ any_with (any_with any xs) ys
 any_more any [] ys = refl
@@ -54,11 +54,11 @@ abbrev pub lines_of : Form → List OpenFrame → List (List ℕ)
 lines_of form frames = map (frame_line form) (map frame_row frames)
 
 -- these frames were added, and this is their text
-pub record TakesFrames (v : FrameList) (frames : List OpenFrame) (text : List ℕ) (u : FrameList) : Type 0 where
-  pub is : text ≡ joined v.lines.separator.now v.lines.has_any (lines_of v.form frames)
-  pub separator : u.lines.separator ≡ v.lines.separator
-  pub any : u.lines.has_any ≡ any_with v.lines.has_any (lines_of v.form frames)
-  pub form : u.form ≡ v.form
+pub record TakesFrames (old : FrameList) (frames : List OpenFrame) (text : List ℕ) (new : FrameList) : Type 0 where
+  pub is : text ≡ joined old.lines.separator.now old.lines.has_any (lines_of old.form frames)
+  pub separator : new.lines.separator ≡ old.lines.separator
+  pub any : new.lines.has_any ≡ any_with old.lines.has_any (lines_of old.form frames)
+  pub form : new.form ≡ old.form
 
 pub frames_none : (v : FrameList) → TakesFrames v [] [] v
 frames_none v = record { is = refl; separator = refl; any = refl; form = refl }
