@@ -40,7 +40,7 @@ module _ (IsText : List OpenFrame → List ℕ → Type 0) (Refuses : List OpenF
     opens = tt;
     text = nothing;
     is = said;
-    outcome = inr (inr (fails, refl, Appends-nil before));
+    outcome = inr (inr ((fails, refl), Appends-nil before));
   }
 
 begins_longer : (before after : Option (List ℕ)) (t more : List ℕ) → WritesBeginning before after t → WritesBeginning before after (t ++ more)

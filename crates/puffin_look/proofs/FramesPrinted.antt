@@ -2,7 +2,7 @@
 use Rattle.std.proofs.Common.{◌≡◌, ℕ, List, ◌++◌, Option, ◌∙◌, append_assoc}
 use Rattle.puffin_look.specs.OpenFrame.{OpenFrame}
 use Rattle.puffin_look.specs.Forms.{joined, opening, closing, separator}
-use Rattle.puffin_look.specs.FrameLines.{head_line, IsFrameList}
+use Rattle.puffin_look.specs.FrameLines.{column_names, IsFrameList}
 use Rattle.puffin_look.specs.Wanted.{frames_within}
 use Rattle.puffin_look.specs.declared.frames.FrameList.{FrameList}
 use Rattle.puffin_look.specs.declared.lines.Form.{Form}
@@ -18,4 +18,4 @@ pub closed : (form : Form) (indices : Option Indices) (old : FrameList) (finish 
 closed form indices old finish end empty frames more v taken =
     let within = frames_within indices frames in
     (λ i. (empty.text i ++ (taken.is ∙ (λ j. joined (empty.separator j) (empty.none j) (lines_of (empty.same j) within))) i) ++ end i)
-    ∙ append_assoc (opening form head_line) (joined (separator form) false (lines_of form within)) (closing form)
+    ∙ append_assoc (opening form column_names) (joined (separator form) false (lines_of form within)) (closing form)

@@ -3,7 +3,7 @@ use Rattle.std.proofs.Common.{◌≡◌, ℕ, ◌+◌, ◌<◌, ◌≤◌, true,
 use Rattle.std.specs.declared.alloc.AllocError.{AllocError}
 use Rattle.std.specs.Prelude.{IfOk}
 use Rattle.std.proofs.lemmas.List.{at_drop_more, at_drop_all}
-use Rattle.puffin_look.specs.Forms.{lead, joined, opening, separator, closing, lines_text, list_text}
+use Rattle.puffin_look.specs.Forms.{separator_if, joined, opening, separator, closing, lines_text, list_text}
 use Rattle.puffin_look.specs.declared.lines.Form.{Form}
 use Rattle.puffin_look.specs.declared.lines.Lines.{Lines}
 use Rattle.puffin_look.specs.inner.Lining.{Adds}
@@ -17,7 +17,7 @@ lists_begun form head lines all text between none = record { so_far = λ i. text
 
 pub lists_more : (old new : Lines) (line : List ℕ) (left : List (List ℕ)) (total : List ℕ) → Adds old new line → Lists old (line ∷ left) total → Lists new left total
 lists_more old new line left total added l =
-    let front = lead old.separator.now old.has_any in
+    let front = separator_if old.separator.now old.has_any in
     let rest = joined old.separator.now true left in
     record {
       so_far = (λ i. added.text i ++ joined (added.separator i).now (added.any i) left)

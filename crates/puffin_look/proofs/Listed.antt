@@ -165,7 +165,7 @@ module _ {L : Type 0} (text : L → List ℕ) (takes : L → List OpenFrame → 
       more = more;
       state = now;
       listed = h.listed;
-      outcome = inr (inl (h.written, refl, at, h.given, inl fails));
+      outcome = inr (inl (h.written, refl, (at, h.given, inl fails)));
     }
 
     -- there are too many frames
@@ -176,7 +176,7 @@ module _ {L : Type 0} (text : L → List ℕ) (takes : L → List OpenFrame → 
       more = more;
       state = now;
       listed = h.listed;
-      outcome = inr (inl (h.written, refl, left, h.given, inr (full, refl)));
+      outcome = inr (inl (h.written, refl, (left, h.given, inr (full, refl))));
     }
 
     -- ---- what is printed
@@ -192,7 +192,7 @@ module _ {L : Type 0} (text : L → List ℕ) (takes : L → List OpenFrame → 
           → (IsOutside fault × WritesBeginning before after (text old ++ h.more)) ⊎ (Appends before after (text old ++ h.more) × HasFaultBehind Refuses unread left h.stored h.listed.frames fault)
       told_behind h = elim (h.outcome) [
         | inl outside ↦ inl (outside.0, outside.1)
-        | inr (inl next) ↦ inr (next.0, inl (next.2, next.3, next.4))
+        | inr (inl next) ↦ inr (next.0, inl next.2)
         | inr (inr added) ↦ elim (added.3) [
           | inl memory ↦ inl (inr memory, whole_begun _ added.0)
           | inr (inl packed) ↦ inr (added.0, inr (added.1, added.2, subst (λ (r : Result OpenFrame FileError). IsRefused Refuses h.listed.frames r fault) (sym packed.0) refl))
@@ -228,5 +228,5 @@ module _ {L : Type 0} (text : L → List ℕ) (takes : L → List OpenFrame → 
         opens = tt;
         text = text old ++ [];
         is = is_text [] [] old (subst (λ (xs : List OpenFrame). takes old xs [] old) (none_within indices) h.none);
-        outcome = inr (inr (h.fails, refl, h.written));
+        outcome = inr (inr ((h.fails, refl), h.written));
       }

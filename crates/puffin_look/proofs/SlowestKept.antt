@@ -5,7 +5,7 @@ use Rattle.std.specs.List.{position_or_len}
 use Rattle.std.proofs.lemmas.Bool.Decides.{nat_tests}
 use Rattle.puffin_look.specs.OpenFrame.{OpenFrame}
 use Rattle.puffin_look.specs.FrameLines.{frame_row}
-use Rattle.puffin_look.specs.Slowest.{is_faster_by, with_row_by, duration_of, with_row}
+use Rattle.puffin_look.specs.Slowest.{is_faster_by, with_row_by, with_row}
 use Rattle.puffin_look.specs.declared.frames.FrameRow.{FrameRow}
 
 module _ {X : Type 0} where
@@ -62,4 +62,4 @@ module _ {X : Type 0} (d : X → ℤ) where
 -- ---- the rows of frames
 
 pub kept_all : (n : ℕ) (frames : List OpenFrame) (xs : List FrameRow) → fold (λ rows frame. take n (with_row rows (frame_row frame))) (take n xs) frames ≡ take n (fold with_row xs (map frame_row frames))
-kept_all n frames xs = kept_by duration_of frame_row n frames xs
+kept_all n frames xs = kept_by (λ (row : FrameRow). row.duration_ns) frame_row n frames xs

@@ -202,7 +202,7 @@ module _ (old new : Tallying) (unread left before mid : Option (List ℕ)) where
     outcome = elim (s.outcome) [
       | inl outside ↦ inl outside.0
       | inr (inl behind) ↦ inr (inl behind.1)
-      | inr (inr letters) ↦ inr (inr (letters.0, letters.1))
+      | inr (inr letters) ↦ inr (inr letters.0)
     ];
   }
 

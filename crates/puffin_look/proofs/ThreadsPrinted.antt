@@ -10,9 +10,9 @@ use Rattle.puffin_data.specs.declared.file_error.FileError.TheVariants as file
 use Rattle.puffin_data.specs.Device.{IsOutside, WritesBeginning}
 use Rattle.puffin_frames.specs.Packet.Stored.{Stored}
 use Rattle.puffin_threads.specs.Thread.ThreadKey.{by_key}
-use Rattle.puffin_view.specs.View.File.{file_at, TookFrames, FailsToRead}
+use Rattle.puffin_view.specs.View.File.{file_at, TookFrames}
 use Rattle.puffin_look.specs.OpenFrame.{OpenFrame, AreOpened}
-use Rattle.puffin_look.specs.Printed.{Begins, HasFaultBehind, IsRefused, IsPrinted, IsStopped, RefusesNone}
+use Rattle.puffin_look.specs.Printed.{Begins, HasFaultBehind, StopsBeforeFrames, IsRefused, IsPrinted, IsStopped, RefusesNone}
 use Rattle.puffin_look.specs.ThreadLines.{totals_of, thread_list, IsThreadList}
 use Rattle.puffin_look.specs.declared.lines.Form.{Form}
 use Rattle.puffin_look.specs.inner.Taken.{TakesTotals, fails_outside}
@@ -43,10 +43,6 @@ module _ (old new : AllTotals) (unread left before mid : Option (List ℕ)) wher
   abbrev pub Finished : Result (Unit {0}) FileError → List Stored → List OpenFrame → Type 0
   Finished (Ok x) stored frames = TookFrames file_at unread left stored
   Finished (Err e) stored frames = IsOutside e ⊎ HasFaultBehind RefusesNone unread left stored frames e
-
-  -- the file doesn't begin with its letters
-  abbrev pub HasNoLetters : FileError → List Stored → Type 0
-  HasNoLetters e stored = FailsToRead file_at unread left e × (stored ≡ [])
 
   module _ (empty : by_key old.totals.entries ≡ tree.empty) where
     totals_read : (frames : List OpenFrame) (more : List ℕ) → TakesTotals old frames more new → by_key new.totals.entries ≡ totals_of frames
@@ -91,7 +87,7 @@ module _ (old new : AllTotals) (unread left before mid : Option (List ℕ)) wher
           | inl memory ↦ absurd (not_memory memory)
           | inr same ↦ (read_of same (unwritten out.1), inl out.0)
         ]
-        | inr (inl next) ↦ (read_of next.1 (subst (Appends before mid) quiet next.0), inr (inl (next.2, next.3, next.4)))
+        | inr (inl next) ↦ (read_of next.1 (subst (Appends before mid) quiet next.0), inr (inl next.2))
         | inr (inr added) ↦ elim (added.3) [
           | inl memory ↦ absurd (not_memory memory)
           | inr (inl packed) ↦ (read_of (sym packed.1) (subst (Appends before mid) quiet added.0), inr (inr (added.1, added.2, subst (λ (r : Result OpenFrame FileError). IsRefused RefusesNone h.listed.frames r e) (sym packed.0) refl)))
@@ -107,7 +103,7 @@ module _ (old new : AllTotals) (unread left before mid : Option (List ℕ)) wher
       ]
 
     module _ (e : FileError) where
-      pub some_read : StopsListing none TakesTotals refused None old new unread left before mid e → (e ≡ file.Memory → ⊥) → (r : AreRead) × (Finished (Err e) r.stored r.frames ⊎ HasNoLetters e r.stored)
+      pub some_read : StopsListing none TakesTotals refused None old new unread left before mid e → (e ≡ file.Memory → ⊥) → (r : AreRead) × (Finished (Err e) r.stored r.frames ⊎ StopsBeforeFrames unread left r.stored e)
       some_read (inl h) not_memory = let q = some_behind e h not_memory in (q.0, inl q.1)
       some_read (inr h) not_memory = (
         record {
@@ -222,7 +218,7 @@ module _ (old new : AllTotals) (unread left before mid : Option (List ℕ)) (emp
 
   -- the frames are those before the end or the first fault
   pub read_to_end : (r : Result (Unit {0}) FileError) → fails_outside r ≡ false → Ends r
-      → (q : AreRead old new unread left before mid) × (TookFrames file_at unread left q.stored ⊎ ((e : FileError) × (HasFaultBehind RefusesNone unread left q.stored q.frames e ⊎ (FailsToRead file_at unread left e × (q.stored ≡ [])))))
+      → (q : AreRead old new unread left before mid) × (TookFrames file_at unread left q.stored ⊎ ((e : FileError) × (HasFaultBehind RefusesNone unread left q.stored q.frames e ⊎ StopsBeforeFrames unread left q.stored e)))
   unfolding Ends
   read_to_end (Ok x) h s = let q = all_read old new unread left before mid empty s.0 in (q.0, inl q.1)
   read_to_end (Err e) h s =

@@ -45,7 +45,8 @@ behind_dot [] = None
 behind_dot (byte ∷ bytes) = if is_dot byte then Some bytes else None
 
 abbrev pub from_to : Option ℕ → Option ℕ → Option Indices
-from_to (Some from) (Some below) = if nat_lt from below then Some (record { first = from; last = below - 1 }) else None
+from_to (Some from) (Some below) =
+    if nat_lt from below then Some (record { first = from; last = below - 1 }) else None
 from_to _ _ = None
 
 -- `A..B`: from A on, and below B

@@ -27,7 +27,8 @@ grouped_moment (negsuc time) = codes "-" ++ grouped (decimal (suc time))
 
 -- hundredths of a unit, with two digits behind the point
 abbrev pub in_hundredths : ℕ → List ℕ → List ℕ
-in_hundredths number unit = grouped (decimal (number / 100)) ++ (46 ∷ digit (number / 10) ∷ digit number ∷ unit)
+in_hundredths number unit =
+    grouped (decimal (number / 100)) ++ (46 ∷ digit (number / 10) ∷ digit number ∷ unit)
 
 -- nanoseconds in the greatest unit of which there is one, rounded down
 abbrev pub readable_time : ℕ → List ℕ

@@ -86,7 +86,8 @@ own_time all path =
 -- ---- lines
 
 abbrev pub with_path : List (List ℕ) → Part → List (List ℕ)
-with_path paths part = if list_any (bytes_eq part.path) paths then paths else paths ++ (part.path ∷ [])
+with_path paths part =
+    if list_any (bytes_eq part.path) paths then paths else paths ++ (part.path ∷ [])
 
 -- each path once, in the order in which they are met
 abbrev pub paths_in : List Part → List (List ℕ)

@@ -58,7 +58,8 @@ nested_line known begin level outer span =
 
 abbrev pub scope_line : Collection → ℤ × ℤ → ScopeInContext → List ℕ
 scope_line known range scope =
-    nested_line known range.0 (length scope.around) (outer_time (length_of range) scope.around) scope.span
+    nested_line known range.0 (length scope.around)
+    (outer_time (length_of range) scope.around) scope.span
 
 -- ---- a frame
 
@@ -88,7 +89,8 @@ head_text meta =
     ++ (range_text meta.range_ns ++ duration_text meta.range_ns)
 
 abbrev pub trees_text : Collection → TreeFrame → List ℕ
-trees_text known frame = head_text frame.meta ++ flat_map (tree_text known frame.meta.range_ns) frame.trees
+trees_text known frame =
+    head_text frame.meta ++ flat_map (tree_text known frame.meta.range_ns) frame.trees
 
 abbrev pub has_trees : Bool → List Tree → Bool
 has_trees before [] = before

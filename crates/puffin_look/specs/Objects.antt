@@ -32,7 +32,8 @@ tenths_token is_negative count = exact_token (count / 10) (minus is_negative ++ 
 
 -- with two
 abbrev pub hundredths : ℕ → List ℕ
-hundredths count = decimal (count / 100) ++ (codes "." ++ (decimal (count / 10 % 10) ++ decimal (count % 10)))
+hundredths count =
+    decimal (count / 100) ++ (codes "." ++ (decimal (count / 10 % 10) ++ decimal (count % 10)))
 
 abbrev pub hundredths_token : ℕ → Token
 hundredths_token count = exact_token (count / 100) (hundredths count)

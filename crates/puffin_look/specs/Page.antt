@@ -49,10 +49,11 @@ details_json details =
     codes "["
     ++ (id_json details.id
     ++ ((codes "," ++ quoted (name_of details))
-    ++ ((codes "," ++ quoted details.file_path) ++ ((codes "," ++ decimal details.line_nr) ++ codes "]"))))
+    ++ ((codes "," ++ quoted details.file_path)
+    ++ ((codes "," ++ decimal details.line_nr) ++ codes "]"))))
 
 abbrev pub details_element : Details → List ℕ
-details_element d = element (codes "details") (details_json d)
+details_element details = element (codes "details") (details_json details)
 
 -- in ascending order of id
 abbrev pub details_elements : Collection → List ℕ
@@ -108,8 +109,9 @@ chosen_streams frames frame =
     if is_chosen frames frame.meta.frame_index then all_streams frame else []
 
 abbrev pub frame_element : PageFrames → TreeFrame → List ℕ
-frame_element frames f =
-    if is_chosen frames f.meta.frame_index then element (codes "frame") (frame_json f) else []
+frame_element frames frame =
+    if is_chosen frames frame.meta.frame_index then element (codes "frame") (frame_json frame)
+    else []
 
 -- the details of all scopes, and the frames of the page in the order of the file
 abbrev pub IsPageData : Collection → PageFrames → List OpenFrame → List ℕ → Type 0

@@ -20,11 +20,12 @@ with_frame totals frame = with_streams totals frame.streams
 abbrev pub totals_of : List OpenFrame → Totals
 totals_of frames = fold with_frame tree.empty frames
 
--- a thread as `report` takes it: its start, or `-` if it is unknown, and its name
+-- a thread's start, or `-` if it is unknown
 abbrev pub start_text : Option ℤ → List ℕ
 start_text None = codes "-"
 start_text (Some start) = signed_decimal start
 
+-- a thread as `report` takes it: its start, a colon and its name
 abbrev pub thread_word : ThreadKey → List ℕ
 thread_word key = start_text key.start ++ (codes ":" ++ key.name)
 
@@ -42,13 +43,13 @@ abbrev pub thread_line : Form → ThreadKey × ThreadTotals → List ℕ
 thread_line form entry =
     row_text form (thread_cells entry.1) (Some (codes "thread", thread_word entry.0))
 
--- the names of the columns
-abbrev pub head_line : List ℕ
-head_line =
+-- the first line of a table
+abbrev pub column_names : List ℕ
+column_names =
     codes "        frames        scopes         bytes                      start    duration  thread\n"
 
 abbrev pub thread_list : Form → List (ThreadKey × ThreadTotals) → List ℕ
-thread_list form entries = list_text form head_line (map (thread_line form) entries)
+thread_list form entries = list_text form column_names (map (thread_line form) entries)
 
 -- the list of the threads of these frames, in the order of the threads
 abbrev pub IsThreadList : Form → List OpenFrame → List ℕ → Type 0

@@ -5,9 +5,9 @@ use Rattle.std.specs.Str.{bytes_eq}
 use Rattle.puffin_data.specs.declared.file_error.FileError.{FileError}
 use Rattle.puffin_threads.specs.Thread.ThreadKey.{ThreadKey}
 use Rattle.puffin_frames.specs.Packet.Stored.{Stored}
-use Rattle.puffin_view.specs.View.File.{file_at, TookFrames, FailsToRead}
+use Rattle.puffin_view.specs.View.File.{file_at, TookFrames}
 use Rattle.puffin_look.specs.OpenFrame.{OpenFrame, AreOpened}
-use Rattle.puffin_look.specs.Printed.{Begins, HasFaultBehind, RefusesNone}
+use Rattle.puffin_look.specs.Printed.{Begins, HasFaultBehind, RefusesNone, StopsBeforeFrames}
 use Rattle.puffin_look.specs.declared.thread_names.Naming.{Naming}
 use Rattle.puffin_look.specs.declared.thread_names.Naming.TheVariants.{Text, Name, Beginning}
 use Rattle.puffin_look.specs.ThreadLines.{thread_text, totals_of}
@@ -40,5 +40,5 @@ pub record AreNamed (word : List ℕ) (unread left : Option (List ℕ)) (found :
   pub opens : AreOpened stored frames
   pub end : TookFrames file_at unread left stored
       ⊎ ((fault : FileError) × (HasFaultBehind RefusesNone unread left stored frames fault
-      ⊎ (FailsToRead file_at unread left fault × (stored ≡ []))))
+      ⊎ StopsBeforeFrames unread left stored fault))
   pub are : found ≡ threads_named word (threads_in frames)

@@ -12,10 +12,10 @@ use Rattle.puffin_data.specs.Text.{text_in}
 use Rattle.puffin_data.specs.Walk.PlacedScopes.{ScopeInContext, nested_in}
 use Rattle.puffin_threads.specs.Details.Collection.{Collection}
 use Rattle.puffin_frames.specs.Packet.Stored.{Stored}
-use Rattle.puffin_view.specs.View.File.{file_at, TookFrames, FailsToRead}
+use Rattle.puffin_view.specs.View.File.{file_at, TookFrames}
 use Rattle.puffin_view.specs.View.Stats.{cut}
 use Rattle.puffin_look.specs.OpenFrame.{OpenFrame, AreOpened}
-use Rattle.puffin_look.specs.Printed.{Begins, HasFaultBehind}
+use Rattle.puffin_look.specs.Printed.{Begins, HasFaultBehind, StopsBeforeFrames}
 use Rattle.puffin_look.specs.Trees.{TreeFrame}
 use Rattle.puffin_look.specs.Wanted.{AreTaken, RefusesTaken}
 use Rattle.puffin_look.specs.declared.wanted.Wanted.{Wanted}
@@ -38,7 +38,8 @@ behind_name (byte ∷ bytes) = codes " (" ++ ((byte ∷ bytes) ++ codes ")")
 -- a scope's name, with its text if texts are kept apart
 abbrev pub scope_name : Collection → Bool → Span → List ℕ
 scope_name known texts span =
-    name_or_id span.id (tree.get known.by_id span.id) ++ (if texts then behind_name (text_in span.text) else [])
+    name_or_id span.id (tree.get known.by_id span.id)
+    ++ (if texts then behind_name (text_in span.text) else [])
 
 -- A call of a scope with this name, or the time of a scope directly within one.
 pub record Piece : Type 0 where
@@ -63,7 +64,8 @@ pieces_at outer name time =
 
 abbrev pub scope_pieces : Collection → Bool → ScopeInContext → List Piece
 scope_pieces known texts scope =
-    pieces_at (name_around known texts scope.around) (scope_name known texts scope.span) (time_of scope.span)
+    pieces_at (name_around known texts scope.around) (scope_name known texts scope.span)
+    (time_of scope.span)
 
 abbrev pub forest_pieces : Collection → Bool → Forest → List Piece
 forest_pieces known texts forest = flat_map (scope_pieces known texts) (nested_in [] forest)
@@ -162,7 +164,7 @@ pub record StopsReading (wanted : Wanted) (unread left : Option (List ℕ))
   pub opens : AreOpened stored frames
   pub outcome : IsOutside fault
       ⊎ HasFaultBehind (RefusesTaken wanted) unread left stored frames fault
-      ⊎ (FailsToRead file_at unread left fault × (stored ≡ []))
+      ⊎ StopsBeforeFrames unread left stored fault
 
 -- ---- order
 

@@ -22,7 +22,9 @@ use Rattle.puffin_look.specs.ThreadLines.{start_text}
 -- ---- a time in microseconds, with three digits behind the point
 
 abbrev pub thousandths : ℕ → List ℕ
-thousandths number = decimal (number / 1000) ++ (46 ∷ digit (number / 100) ∷ digit (number / 10) ∷ digit number ∷ [])
+thousandths number =
+    decimal (number / 1000)
+    ++ (46 ∷ digit (number / 100) ∷ digit (number / 10) ∷ digit number ∷ [])
 
 -- how long after the origin; what is before it is at it
 abbrev pub at_least_zero : ℤ → ℕ
@@ -60,7 +62,8 @@ scope_event overview tid span =
 
 -- each scope of a forest, before its children
 abbrev pub forest_events : Overview → ℕ → Forest → List ℕ
-forest_events overview tid forest = flat_map (λ s. scope_event overview tid s.span) (nested_in [] forest)
+forest_events overview tid forest =
+    flat_map (λ s. scope_event overview tid s.span) (nested_in [] forest)
 
 -- ---- threads
 
@@ -99,7 +102,8 @@ naming numbers key = naming_or numbers key (map.get numbers key)
 
 -- the scopes of a thread
 abbrev pub tree_events : Overview → Numbers → Tree → List ℕ
-tree_events overview numbers tree = naming numbers tree.0 ++ forest_events overview (number_of numbers tree.0) tree.1
+tree_events overview numbers tree =
+    naming numbers tree.0 ++ forest_events overview (number_of numbers tree.0) tree.1
 
 abbrev pub numbered_with : Numbers → Tree → Numbers
 numbered_with numbers tree = numbered numbers tree.0
@@ -117,7 +121,8 @@ frame_event origin meta =
 
 abbrev pub frame_events : Overview → Numbers → TreeFrame → List ℕ
 frame_events overview numbers frame =
-    frame_event overview.start frame.meta ++ outputs (tree_events overview) numbered_with numbers frame.trees
+    frame_event overview.start frame.meta
+    ++ outputs (tree_events overview) numbered_with numbers frame.trees
 
 abbrev pub numbered_by : Numbers → TreeFrame → Numbers
 numbered_by numbers frame = fold numbered_with numbers frame.trees

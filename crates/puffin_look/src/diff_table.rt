@@ -14,8 +14,8 @@ use puffin_data::FileError;
 use puffin_data::data::{Drain, write_all};
 use std::alloc::{AllocError, Global};
 
-/// The names of the columns.
-const HEAD: &[u8] =
+/// The first line of a table.
+const COLUMN_NAMES: &[u8] =
     b"     old_own     new_own   own_change   own_growth   old_total   new_total total_change total_growth     old_calls     new_calls  name\n";
 
 /// Returns the durations in each frame, or 0 if there are none.
@@ -65,7 +65,7 @@ fn push_row(form: Form, lines: &mut Lines, row: &DiffRow) -> Result<(), AllocErr
 fn text_of(alloc: Global, form: Form, diff: &Diff) -> Result<Vec<u8>, AllocError>
     ensures { IfOk result (λ text. text.items ≡ diff_text form diff.now.rows.items) }
 {
-    let mut lines = Lines::new(alloc, form, HEAD)?;
+    let mut lines = Lines::new(alloc, form, COLUMN_NAMES)?;
     for row in diff.rows.iter() {
         push_row(form, &mut lines, row)?;
     }

@@ -29,8 +29,8 @@ fn thread_count(frame: &UnpackedFrameData) -> usize
     frame.thread_streams.len()
 }
 
-/// The names of the columns.
-pub(crate) const HEAD: &[u8] =
+/// The first line of a table.
+pub(crate) const COLUMN_NAMES: &[u8] =
     b"         frame       threads        scopes                      start    duration\n";
 
 /// What the line of a frame has of it.
@@ -91,7 +91,7 @@ impl FrameList {
         ensures { IfOk result (IsEmptyList form) }
     {
         Ok(FrameList {
-            lines: Lines::new(alloc, form, HEAD)?,
+            lines: Lines::new(alloc, form, COLUMN_NAMES)?,
             form,
         })
     }

@@ -47,9 +47,7 @@ impl Row {
 }
 
 impl Timed for Row {
-    ghost use Rattle.puffin_look.specs.PageChoice.{duration_of};
-
-    ghost duration = { duration_of };
+    ghost duration = { λ row. row.duration_ns };
 
     fn duration_ns(&self) -> NanoSecond {
         self.duration_ns

@@ -81,8 +81,8 @@ fn word_of(alloc: Global, thread: &ThreadInfo) -> Result<Vec<u8>, AllocError>
     Ok(word)
 }
 
-/// The names of the columns.
-const HEAD: &[u8] =
+/// The first line of a table.
+const COLUMN_NAMES: &[u8] =
     b"        frames        scopes         bytes                      start    duration  thread\n";
 
 /// Returns the cells of a thread's totals.
@@ -117,7 +117,7 @@ fn text_of(alloc: Global, form: Form, threads: &AllTotals) -> Result<Vec<u8>, Al
     ensures { IfOk result (λ text. text.items
         ≡ thread_list form (tree.entries (by_key threads.now.totals.entries))) }
 {
-    let mut lines = Lines::new(alloc, form, HEAD)?;
+    let mut lines = Lines::new(alloc, form, COLUMN_NAMES)?;
     'threads: for (thread, totals) in threads.totals.iter() {
         push_row(form, &mut lines, thread, totals)?;
     }

@@ -3,15 +3,15 @@ use Rattle.std.specs.Prelude.{◌≡◌, ℕ, Bool, true, false, List, [], ◌�
 use Rattle.std.proofs.Common.{refl, sym, ap, ◌∙◌, append_assoc}
 use Rattle.std.proofs.lemmas.List.{map-append}
 use Rattle.puffin_look.specs.OpenFrame.{OpenFrame}
-use Rattle.puffin_look.specs.Forms.{lead, joined, opening, separator}
-use Rattle.puffin_look.specs.FrameLines.{frame_row, frame_line, head_line}
+use Rattle.puffin_look.specs.Forms.{separator_if, joined, opening, separator}
+use Rattle.puffin_look.specs.FrameLines.{frame_row, frame_line, column_names}
 use Rattle.puffin_look.specs.declared.frames.FrameList.{FrameList}
 use Rattle.puffin_look.specs.declared.lines.Form.{Form}
 use Rattle.puffin_look.specs.declared.lines.Lines.{Lines}
 
 -- a line was added
 pub record Adds (old new : Lines) (line : List ℕ) : Type 0 where
-  pub text : new.text.items ≡ old.text.items ++ (lead old.separator.now old.has_any ++ line)
+  pub text : new.text.items ≡ old.text.items ++ (separator_if old.separator.now old.has_any ++ line)
   pub separator : new.separator ≡ old.separator
   pub any : new.has_any ≡ true
 
@@ -37,15 +37,15 @@ pub joined_more : (s : List ℕ) (any : Bool) (xs ys : List (List ℕ)) →
     joined s any (xs ++ ys) ≡ joined s any xs ++ joined s (any_with any xs) ys
 joined_more s any [] ys = refl
 joined_more s any (x ∷ xs) ys =
-    ap (λ (t : List ℕ). lead s any ++ (x ++ t)) (joined_on s xs ys)
-    ∙ ap (λ (t : List ℕ). lead s any ++ t) (sym (append_assoc x (joined s true xs) (joined s true ys)))
-    ∙ sym (append_assoc (lead s any) (x ++ joined s true xs) (joined s true ys))
+    ap (λ (t : List ℕ). separator_if s any ++ (x ++ t)) (joined_on s xs ys)
+    ∙ ap (λ (t : List ℕ). separator_if s any ++ t) (sym (append_assoc x (joined s true xs) (joined s true ys)))
+    ∙ sym (append_assoc (separator_if s any) (x ++ joined s true xs) (joined s true ys))
 
 -- ---- a list of frames
 
 -- the list of no frames
 pub record IsEmptyList (form : Form) (list : FrameList) : Type 0 where
-  pub text : list.lines.text.items ≡ opening form head_line
+  pub text : list.lines.text.items ≡ opening form column_names
   pub separator : list.lines.separator.now ≡ separator form
   pub none : list.lines.has_any ≡ false
   pub same : list.form ≡ form
