@@ -9,7 +9,7 @@ use Rattle.std.proofs.lemmas.List.{length-map}
 use Rattle.puffin_threads.specs.declared.thread_profiler.thread_info.ThreadInfo.{ThreadInfo}
 use Rattle.puffin_threads.specs.Thread.ThreadKey.{ThreadKey, key_of, thread_cmp, by_key}
 use Rattle.puffin_frames.proofs.lemmas.Keyed.{by_key-insert, entries-by_key}
-use Rattle.puffin_look.specs.Trace.{Numbers, number_or, number_of, numbered_or, naming_or}
+use Rattle.puffin_look.specs.Trace.{number_or, number_of, numbered_or, naming_or}
 use Rattle.puffin_look.specs.inner.Tracings.{NumbersThread, AddsThread}
 use Rattle.puffin_look.specs.declared.trace.Trace.{Trace}
 

@@ -1,12 +1,11 @@
 //! Counts the scopes of a file by name.
 
-ghost use Rattle.std.specs.Prelude.{◌≡◌, ◌++◌, ◌-◌, ◌<◌, ◌⊎◌, [], List, ℕ, true, false, Some, map, slice_get, if◌then◌else◌, OnOk, IfOk, IfErr, IfSome};
+ghost use Rattle.std.specs.Prelude.{◌≡◌, ◌++◌, ◌-◌, ◌<◌, ◌⊎◌, [], List, ℕ, true, false, Some, map, slice_get, OnOk, IfOk, IfErr, IfSome};
 ghost use Rattle.std.specs.Map.{keys_of};
 ghost use Rattle.puffin_data.specs.declared.error.Error.{Error};
 ghost use Rattle.puffin_data.specs.Forest.{Forest};
 ghost use Rattle.puffin_data.specs.Forest.Spelling.{Spells};
 ghost use Rattle.puffin_data.specs.Honesty.{facts_of};
-ghost use Rattle.puffin_data.specs.Text.{text_in};
 ghost use Rattle.puffin_data.specs.Walk.{IsFault};
 ghost use Rattle.puffin_data.specs.Walk.FoundScopes.{found_of};
 ghost use Rattle.std.specs.FinMap as tree;

@@ -1,14 +1,12 @@
 //! Lists the scopes of a file by name.
 
-ghost use Rattle.std.specs.Prelude.{◌≡◌, ◌+◌, ◌⊎◌, ◌≤◌, ◌-◌, ◌^◌, min, take, List, OnOk, OnErr, IfOk, IfErr, Err};
+ghost use Rattle.std.specs.Prelude.{◌≡◌, ◌+◌, ◌⊎◌, ◌≤◌, take, List, OnOk, OnErr, IfOk, IfErr, Err};
 ghost use Rattle.puffin_data.specs.declared.error.Error.{Error};
 ghost use Rattle.puffin_data.specs.Device.{CanFail};
 ghost use Rattle.puffin_data.specs.Honesty.{facts_of};
 ghost use Rattle.puffin_threads.specs.Thread.ThreadKey.{key_of};
-ghost use Rattle.puffin_look.specs.Buckets.{last_of};
 ghost use Rattle.puffin_look.specs.Cells.{length_of};
 ghost use Rattle.puffin_look.specs.Top.{rank_of, weight, AreSorted, IsTop, StopsReading};
-ghost use Rattle.puffin_look.specs.inner.Counts.{bucket_at};
 ghost use Rattle.puffin_look.specs.inner.Tallies.{tally_of, rows_of};
 ghost use Rattle.puffin_look.specs.declared.top.TopRow.{TopRow};
 ghost use Rattle.puffin_look.specs.inner.Tops.{percentile, HasTally, HaveTallies, StepsTally, IsTallyFault};
