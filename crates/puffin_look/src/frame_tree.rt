@@ -139,6 +139,7 @@ pub fn print_frame<S: Source, D: Drain>(
     let mut trees = Trees {
         lines: Lines {
             text: Vec::new(alloc),
+            scratch: Vec::new(alloc),
             known: &overview.details,
             range_ns: (0, 0),
         },

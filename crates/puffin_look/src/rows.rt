@@ -88,16 +88,19 @@ pub(crate) type Cell = (&'static str, Value);
 /// The name of the last column, and the bytes that a row has in it.
 pub(crate) type Name<'n> = (&'static str, &'n [u8]);
 
-/// Appends cells, each in its column.
-pub(crate) fn push_cells(text: &mut Vec<u8>, cells: &[Cell]) -> Result<(), AllocError>
+/// Appends cells, each in its column. What `scratch` has is lost.
+pub(crate) fn push_cells(
+    text: &mut Vec<u8>,
+    scratch: &mut Vec<u8>,
+    cells: &[Cell],
+) -> Result<(), AllocError>
     ensures { OnOk result (
         text.new.items ≡ text.old.items ++ flat_map row_cell (map cell_of cells.now)) }
 {
-    let mut part = Vec::new(*text.allocator());
     for cell in cells {
-        part.clear();
-        push_value(&mut part, cell.1)?;
-        push_cell(text, cell.1.width(), &part)?;
+        scratch.clear();
+        push_value(scratch, cell.1)?;
+        push_cell(text, cell.1.width(), scratch)?;
     }
     Ok(())
 }
@@ -126,7 +129,8 @@ fn push_row(
 {
     match form {
         Form::Table => {
-            push_cells(text, cells)?;
+            let mut scratch = Vec::new(*text.allocator());
+            push_cells(text, &mut scratch, cells)?;
             push_end(text, name)
         }
         Form::Json => {

@@ -251,10 +251,10 @@ impl<'k> Tallies<'k> {
 
     /// Adds the scopes of a stream. Fails with the first fault of the stream, or with `Memory`.
     pub(crate) fn add_stream(&mut self, info: &StreamInfo) -> Answer<()>
-        ensures ok { OnOk result ((f : Forest)
-            × Spells (facts_of info.now).form (facts_of info.now).bytes f
+        ensures ok { OnOk result ((forest : Forest)
+            × Spells (facts_of info.now).form (facts_of info.now).bytes forest
             × HasMorePieces self.old self.new (
-            forest_pieces self.old.known.now self.old.texts f)) }
+            forest_pieces self.old.known.now self.old.texts forest)) }
         ensures err { IfErr result (λ e.
             (e ≡ Error.Memory) ⊎ IsFault (facts_of info.now).form (facts_of info.now).bytes e) }
     {

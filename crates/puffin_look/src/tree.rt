@@ -67,9 +67,10 @@ fn push_label(
     text.extend_from_slice(b"\n")
 }
 
-/// Appends a scope's line.
+/// Appends a scope's line. What `scratch` has is lost.
 fn push_scope(
     text: &mut Vec<u8>,
+    scratch: &mut Vec<u8>,
     known: &ScopeCollection,
     begin: NanoSecond,
     outer: Outer,
@@ -86,7 +87,7 @@ fn push_scope(
         ("duration", Value::Time(Some(time))),
         ("share", Value::Share(time, outer.time)),
     ];
-    push_cells(text, &cells)?;
+    push_cells(text, scratch, &cells)?;
     text.extend_from_slice(b"  ")?;
     push_label(text, known, outer.level, scope)
 }
@@ -95,6 +96,8 @@ fn push_scope(
 #[derive(Drop)]
 pub(crate) struct Lines<'k> {
     pub text: Vec<u8>,
+    /// The memory in which each cell is made.
+    pub scratch: Vec<u8>,
     pub known: &'k ScopeCollection,
     /// The range of the frame whose scopes are met.
     pub range_ns: (NanoSecond, NanoSecond),
@@ -118,7 +121,14 @@ impl<'s, 'k> Visitor<'s> for Lines<'k> {
     ghost still_stands = { still_stands };
 
     fn enter(&mut self, within: Outer, scope: &RawScope<'s>) -> Answer<Outer> {
-        push_scope(&mut self.text, self.known, self.range_ns.0, within, scope)?;
+        push_scope(
+            &mut self.text,
+            &mut self.scratch,
+            self.known,
+            self.range_ns.0,
+            within,
+            scope,
+        )?;
         Ok(Outer {
             level: within.level + 1,
             time: scope.stop.abs_diff(scope.start),
@@ -151,10 +161,10 @@ impl<'k> Lines<'k> {
 
     /// Appends a thread's line and those of its scopes. Fails with the first fault of the stream, or with `Memory`.
     pub(crate) fn add_stream(&mut self, thread: &ThreadInfo, info: &StreamInfo) -> Answer<()>
-        ensures ok { OnOk result ((f : Forest)
-            × Spells (facts_of info.now).form (facts_of info.now).bytes f
+        ensures ok { OnOk result ((forest : Forest)
+            × Spells (facts_of info.now).form (facts_of info.now).bytes forest
             × HasMoreLines self.old self.new
-            (tree_text self.old.known.now self.old.range_ns (key_of thread.now, f))) }
+            (tree_text self.old.known.now self.old.range_ns (key_of thread.now, forest))) }
         ensures err { IfErr result (λ e.
             (e ≡ Error.Memory) ⊎ IsFault (facts_of info.now).form (facts_of info.now).bytes e) }
     {
@@ -164,10 +174,10 @@ impl<'k> Lines<'k> {
 
     /// Appends the lines of a stream's scopes. Fails as [`Lines::add_stream`] does.
     fn add_scopes(&mut self, info: &StreamInfo) -> Answer<()>
-        ensures ok { OnOk result ((f : Forest)
-            × Spells (facts_of info.now).form (facts_of info.now).bytes f
+        ensures ok { OnOk result ((forest : Forest)
+            × Spells (facts_of info.now).form (facts_of info.now).bytes forest
             × HasMoreLines self.old self.new
-            (forest_lines self.old.known.now self.old.range_ns f)) }
+            (forest_lines self.old.known.now self.old.range_ns forest)) }
         ensures err { IfErr result (λ e.
             (e ≡ Error.Memory) ⊎ IsFault (facts_of info.now).form (facts_of info.now).bytes e) }
     {
