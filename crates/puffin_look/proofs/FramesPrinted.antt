@@ -13,7 +13,8 @@ use Rattle.std.specs.Prelude.{false}
 abbrev pub text_in : FrameList → List ℕ
 text_in v = v.lines.text.items
 
-pub closed : (form : Form) (indices : Option Indices) (old : FrameList) (finish : List ℕ) → finish ≡ closing form → IsEmptyList form old → (frames : List OpenFrame) (more : List ℕ) (v : FrameList)
+pub closed : (form : Form) (indices : Option Indices) (old : FrameList) (finish : List ℕ) → finish ≡ closing form
+    → IsEmptyList form old → (frames : List OpenFrame) (more : List ℕ) (v : FrameList)
     → TakesFrames old (frames_within indices frames) more v → IsFrameList form indices frames ((text_in old ++ more) ++ finish)
 closed form indices old finish end empty frames more v taken =
     let within = frames_within indices frames in

@@ -66,7 +66,8 @@ frames_none v = record { is = refl; separator = refl; any = refl; form = refl }
 pub frames_more : (u v w : FrameList) (xs ys : List OpenFrame) (s t : List ℕ) → TakesFrames u xs s v →
     TakesFrames v ys t w → TakesFrames u (xs ++ ys) (s ++ t) w
 frames_more u v w xs ys s t a b =
-    let all = ap (map (frame_line u.form)) (map-append frame_row xs ys) ∙ map-append (frame_line u.form) (map frame_row xs) (map frame_row ys) in
+    let all = ap (map (frame_line u.form)) (map-append frame_row xs ys)
+    ∙ map-append (frame_line u.form) (map frame_row xs) (map frame_row ys) in
     record {
       is = (λ i. a.is i ++ b.is i)
           ∙ (λ i. joined u.lines.separator.now u.lines.has_any (lines_of u.form xs)

@@ -7,6 +7,8 @@ pub loop-preserved : goal.loop-preserved
 loop-preserved c =
     let before = c.args.text.now.items in
     record {
-      text = c.in_ok-extend_from_slice.ensures.items ∙ ap (λ (bs : List ℕ). bs ++ codes "  ") c.loop.invariant.text ∙ append_assoc before (indent c.loop.counter) (codes "  ") ∙ ap (λ (bs : List ℕ). before ++ bs) (indent_more c.loop.counter);
+      text = c.in_ok-extend_from_slice.ensures.items ∙ ap (λ (bs : List ℕ). bs ++ codes "  ") c.loop.invariant.text
+          ∙ append_assoc before (indent c.loop.counter) (codes "  ")
+          ∙ ap (λ (bs : List ℕ). before ++ bs) (indent_more c.loop.counter);
       len = omega (arith, c.in_ok-extend_from_slice.ensures.len, c.loop.invariant.len);
     }

@@ -10,7 +10,9 @@ use Rattle.puffin_look.proofs.heavy.heaviest.Goals as goal
 pub rows-preserved : goal.rows-preserved
 rows-preserved c =
     let left = rest_more deref_pair _ _ _ _ c.in-Some.is c.next.ensures.steps in
-    let best = c.in_ok-best.ensures ∙ ap (λ (p : List ℕ). heavier c.args.front.now (option_map step_of c.rows.best) (p, c.in-Some.times.now)) c.deref.ensures.value in
+    let best = c.in_ok-best.ensures
+    ∙ ap (λ (p : List ℕ). heavier c.args.front.now (option_map step_of c.rows.best)
+    (p, c.in-Some.times.now)) c.deref.ensures.value in
     best_more _ _ _ _ _ _ _ left best c.rows.invariant
 
 pub returns : goal.returns

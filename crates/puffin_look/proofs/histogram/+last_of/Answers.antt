@@ -3,4 +3,11 @@ use Rattle.puffin_look.proofs.Bucketing.{last_doubled}
 use Rattle.puffin_look.proofs.histogram.+last_of.Goals as goal
 
 pub returns-else-bucket-lt256 : goal.returns-else-bucket-lt256
-returns-else-bucket-lt256 t c = omega (arith, c.saturating_add.ensures, c.saturating_mul.ensures, c.last_of.ensures, last_doubled c.args.bucket c.if-bucket-lt256.false)
+returns-else-bucket-lt256 t c =
+    omega (
+      arith,
+      c.saturating_add.ensures,
+      c.saturating_mul.ensures,
+      c.last_of.ensures,
+      last_doubled c.args.bucket c.if-bucket-lt256.false,
+    )

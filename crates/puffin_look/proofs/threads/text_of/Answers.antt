@@ -16,4 +16,6 @@ threads-preserved c =
 pub returns : goal.returns
 returns c =
     let sorted : IsStrictlySortedBy thread_cmp (keys_of c.args.threads.now.totals.entries) = search rules in
-    IfOk-weaker c.closed.result _ _ (λ text is. lines_done c.args.form _ text.items _ _ c.in-None.ensures.steps.0 c.threads.invariant is sorted) c.closed.ensures
+    IfOk-weaker c.closed.result
+    _ _ (λ text is. lines_done c.args.form _ text.items _ _ c.in-None.ensures.steps.0 c.threads.invariant is sorted)
+    c.closed.ensures

@@ -15,5 +15,8 @@ returns-clause-text c =
     let start = to_z-of_z w64 c.args.scope.now.start (omega (arith, ints)) in
     let stop = to_z-of_z w64 c.args.scope.now.stop (omega (arith, ints)) in
     let time = c.abs_diff-time.ensures ∙ (λ i. unsigned_abs (stop i -ℤ start i)) in
-    let cells = c.in_ok-push_cells.ensures ∙ (λ i. c.args.text.now.items ++ flat_map row_cell ((codes "start", Offset (begin i) (start i)) ∷ (codes "duration", Time (Some (time i))) ∷ (codes "share", Share (time i) c.args.outer.time) ∷ [])) in
+    let cells = c.in_ok-push_cells.ensures
+    ∙ (λ i. c.args.text.now.items ++ flat_map row_cell
+    ((codes "start", Offset (begin i) (start i)) ∷ (codes "duration", Time (Some (time i)))
+    ∷ (codes "share", Share (time i) c.args.outer.time) ∷ [])) in
     on_ok_weaker c.push_label.result (pushed3 _ _ _ _ _ _ _ cells c.in_ok-extend_from_slice.ensures.items) c.push_label.ensures.text

@@ -9,7 +9,8 @@ returns-clause-rows c = (
   c.sort_by_key.new.self.items,
   record {
     same = c.in_ok-sort_by_key.ensures.permutation;
-    greatest_first = IsNonDecreasingBy-from_sort_by_key (λ (row : DiffRow). 2 ^ 64 - 1 - change row) _ c.in_ok-sort_by_key.ensures.sorted (λ a r q k. search rules);
+    greatest_first = IsNonDecreasingBy-from_sort_by_key (λ (row : DiffRow). 2 ^ 64 - 1 - change row)
+        _ c.in_ok-sort_by_key.ensures.sorted (λ a r q k. search rules);
   },
   c.truncate.ensures.items,
 )

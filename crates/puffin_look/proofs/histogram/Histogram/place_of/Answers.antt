@@ -12,5 +12,8 @@ returns-clause-point c =
     let all = c.args.self.now.counts.items in
     let same : c.deref.result.now ≡ all = c.deref.ensures.value in
     let sorted : IsNonDecreasingBy by_bucket c.deref.result.now = subst (IsNonDecreasingBy by_bucket) (sym same) c.args.self.now.sorted in
-    let point = c.partition_point.ensures.partitioned (λ (x : Count). nat_lt x.bucket c.args.bucket) (always_returns_same _ _ _ (λ a r f k. search (rules, of_calls))) (IsPartitionedBy-ltb by_bucket c.deref.result.now c.args.bucket sorted) in
-    subst (λ (l : List Count). IsPartitionPoint (λ (x : Count). nat_lt x.bucket c.args.bucket ≡ true) (λ (x : Count). nat_lt x.bucket c.args.bucket ≡ false) l c.partition_point.result) same point
+    let point = c.partition_point.ensures.partitioned (λ (x : Count). nat_lt x.bucket c.args.bucket)
+    (always_returns_same _ _ _ (λ a r f k. search (rules, of_calls))) (IsPartitionedBy-ltb by_bucket c.deref.result.now
+    c.args.bucket sorted) in
+    subst (λ (l : List Count). IsPartitionPoint (λ (x : Count). nat_lt x.bucket c.args.bucket
+    ≡ true) (λ (x : Count). nat_lt x.bucket c.args.bucket ≡ false) l c.partition_point.result) same point

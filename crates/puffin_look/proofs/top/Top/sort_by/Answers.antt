@@ -9,7 +9,8 @@ returns-clause-rows c = (
   c.sort_by_key.new.self.items,
   record {
     same = c.in_ok-sort_by_key.ensures.permutation;
-    heaviest_first = IsNonDecreasingBy-from_sort_by_key (λ (row : TopRow). 2 ^ 64 - 1 - weight c.args.order row) _ c.in_ok-sort_by_key.ensures.sorted (λ a r q k. search rules);
+    heaviest_first = IsNonDecreasingBy-from_sort_by_key (λ (row : TopRow). 2 ^ 64 - 1 - weight c.args.order row)
+        _ c.in_ok-sort_by_key.ensures.sorted (λ a r q k. search rules);
   },
   c.truncate.ensures.items,
 )

@@ -7,4 +7,5 @@ use Rattle.puffin_look.proofs.trace.Trace.number_under.Goals as goal
 
 pub returns : goal.returns
 returns c =
-    c.copied.ensures ∙ c.get.ensures.value ∙ sym (option_map_id _) ∙ sym (get-seen key_of (λ x. x) key_cmp key_cmp_total c.args.self.now.numbers.entries (key_of c.args.thread.now))
+    c.copied.ensures ∙ c.get.ensures.value ∙ sym (option_map_id _)
+    ∙ sym (get-seen key_of (λ x. x) key_cmp key_cmp_total c.args.self.now.numbers.entries (key_of c.args.thread.now))
