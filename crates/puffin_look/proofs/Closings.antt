@@ -1,5 +1,5 @@
 -- What is written of a list that has an end of its own.
-use Rattle.std.proofs.Common.{◌≡◌, ◌⊎◌, ℕ, true, false, List, [], ◌++◌, Option, Result, Ok, Err, inl, inr, refl, ap, subst, sym, ◌∙◌, append_assoc, append-nil}
+use Rattle.std.proofs.Common.{◌≡◌, ◌⊎◌, ℕ, ◌+◌, true, false, List, [], ◌++◌, Option, Result, Ok, Err, inl, inr, refl, ap, subst, sym, ◌∙◌, append_assoc, append-nil}
 use Rattle.std.specs.Prelude.{OnOk, OnErr, IfErr}
 use Rattle.std.specs.Io.KnownBytes.{Appends}
 use Rattle.std.proofs.KnownBytes.{Appends-nil, Appends-trans}
@@ -15,7 +15,7 @@ use Rattle.puffin_look.specs.declared.wanted.Indices.{Indices}
 use Rattle.puffin_look.specs.inner.Listings.{ListsAll, StopsBehind}
 use Rattle.puffin_look.specs.inner.Taken.{fails_outside}
 use Rattle.puffin_look.proofs.Listed.{told_behind}
-use Rattle.puffin_look.proofs.ThreadsPrinted.{outside_of, not_outside}
+use Rattle.puffin_look.proofs.ThreadsPrinted.{outside_of, not_outside, not_io}
 
 -- nothing was written
 module _ (IsText : List OpenFrame → List ℕ → Type 0) (Refuses : List OpenFrame → OpenFrame → Error → Type 0) (nothing : List ℕ)
@@ -181,3 +181,10 @@ pub cut_told : {T W : Type 0} (X Q : FileError → Type 0) (r : Result T FileErr
     → OnErr r W → IfErr r (λ e. (e ≡ file.Io) × X e) → IfErr r Q
 cut_told X Q (Ok x) step part io = tt
 cut_told X Q (Err e) step part io = step e io.0 part
+
+-- The write of the end failed, and no read or write did before it.
+pub end_failed : {Read Nothing : Type 0} (r : Result (Unit {0}) FileError) (before mid after : ℕ) → fails_outside r ≡ false
+    → ((r ≡ Err file.Io → ⊥) → mid ≡ before) → (after ≡ mid + 1) ⊎ Nothing → Read ⊎ ((after ≡ before + 1) ⊎ Nothing)
+end_failed r before mid after quiet drained (inl failed) =
+    inr (inl (failed ∙ ap (λ (n : ℕ). n + 1) (drained (not_io r quiet))))
+end_failed r before mid after quiet drained (inr nothing) = inr (inr nothing)

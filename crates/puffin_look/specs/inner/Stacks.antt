@@ -1,5 +1,5 @@
 -- What the folded stacks take from a stream, scope by scope.
-use Rattle.std.specs.Prelude.{◌≡◌, ℕ, zero, suc, ◌+◌, ◌-◌, true, false, List, [], ◌∷◌, ◌++◌, map, fold, slice_get, if◌then◌else◌, Option, Some, None}
+use Rattle.std.specs.Prelude.{◌≡◌, ℕ, ◌+◌, ◌-◌, true, false, List, [], ◌∷◌, ◌++◌, map, fold, slice_get, if◌then◌else◌, Option, Some, None}
 use Rattle.std.specs.Option.{option_and_then}
 use Rattle.std.specs.List.{flat_map, list_any}
 use Rattle.std.specs.Map.{keys_of}
@@ -15,6 +15,7 @@ use Rattle.puffin_data.specs.Walk.PlacedScopes.{ScopeInContext}
 use Rattle.puffin_threads.specs.Details.Collection.{Collection}
 use Rattle.puffin_view.specs.View.Stats.{cut}
 use Rattle.puffin_look.specs.Folded.{Part, scope_parts, path_of, path_line}
+use Rattle.puffin_look.specs.inner.Keys.{keys_of-append, place_stays}
 use Rattle.puffin_look.specs.declared.stacks.Times.{Times}
 use Rattle.puffin_look.specs.declared.stacks.Stacks.{Stacks}
 
@@ -97,22 +98,12 @@ keys_kept s (row ∷ rows) =
       | false ↦ ap (λ (ks : List (List ℕ)). row.0 ∷ ks) (keys_kept s rows)
     ]
 
-keys_joined : (xs ys : List Row) → keys_of (xs ++ ys) ≡ keys_of xs ++ keys_of ys
-keys_joined [] ys = refl
-keys_joined (x ∷ xs) ys = ap (λ (ks : List (List ℕ)). x.0 ∷ ks) (keys_joined xs ys)
-
 -- the paths stay, and a new one comes last
 pub keys_with : (rows : List Row) (s : Part) →
     keys_of (with_part rows s) ≡ keys_of rows ++ keys_of (new_row (keys_of rows) s)
 keys_with rows s =
-    keys_joined (map (row_with s) rows) (new_row (keys_of rows) s)
+    keys_of-append (map (row_with s) rows) (new_row (keys_of rows) s)
     ∙ ap (λ (ks : List (List ℕ)). ks ++ keys_of (new_row (keys_of rows) s)) (keys_kept s rows)
-
-front_kept : {X : Type 0} (xs ys : List X) (i : ℕ) (x : X) → slice_get xs i ≡ Some x →
-    slice_get (xs ++ ys) i ≡ Some x
-front_kept [] ys i x h = absurd (cc)
-front_kept (y ∷ xs) ys zero x h = h
-front_kept (y ∷ xs) ys (suc i) x h = front_kept xs ys i x h
 
 -- a path keeps its place
 pub place_kept : (rows : List Row) (s : Part) (w : Option ℕ) (path : List ℕ) →
@@ -120,7 +111,7 @@ pub place_kept : (rows : List Row) (s : Part) (w : Option ℕ) (path : List ℕ)
 place_kept rows s None path h = h
 place_kept rows s (Some i) path h =
     ap (λ (ks : List (List ℕ)). slice_get ks i) (keys_with rows s)
-    ∙ front_kept (keys_of rows) (keys_of (new_row (keys_of rows) s)) i path h
+    ∙ place_stays (keys_of rows) (keys_of (new_row (keys_of rows) s)) i path h
 
 pub places_kept : (rows : List Row) (more : List Part) (w : Option ℕ) (path : List ℕ) →
     path_at rows w ≡ Some path → path_at (fold with_part rows more) w ≡ Some path

@@ -1,5 +1,5 @@
 -- What the tallies of names take from a stream, scope by scope.
-use Rattle.std.specs.Prelude.{◌≡◌, ℕ, zero, suc, ◌+◌, ◌-◌, ◌^◌, min, max, Bool, true, false, List, [], ◌∷◌, ◌++◌, map, fold, slice_get, if◌then◌else◌, Option, Some, None}
+use Rattle.std.specs.Prelude.{◌≡◌, ℕ, ◌+◌, ◌-◌, ◌^◌, min, max, Bool, true, false, List, [], ◌∷◌, ◌++◌, map, fold, slice_get, if◌then◌else◌, Option, Some, None}
 use Rattle.std.specs.Option.{option_and_then}
 use Rattle.std.specs.List.{flat_map, list_any}
 use Rattle.std.specs.Map.{keys_of}
@@ -15,6 +15,7 @@ use Rattle.puffin_view.specs.View.Stats.{cut}
 use Rattle.puffin_look.specs.Buckets.{bucket_of}
 use Rattle.puffin_look.specs.Top.{Piece, scope_pieces, name_around}
 use Rattle.puffin_look.specs.inner.Counts.{with_time}
+use Rattle.puffin_look.specs.inner.Keys.{keys_of-append, place_stays}
 use Rattle.puffin_look.specs.declared.histogram.Count.{Count}
 use Rattle.puffin_look.specs.declared.tallies.Times.{Times}
 use Rattle.puffin_look.specs.declared.tallies.Tally.{Tally}
@@ -124,23 +125,13 @@ keys_kept p (row ∷ rows) =
       | false ↦ ap (λ (ks : List (List ℕ)). row.0 ∷ ks) (keys_kept p rows)
     ]
 
-pub keys_joined : (xs ys : List Row) → keys_of (xs ++ ys) ≡ keys_of xs ++ keys_of ys
-keys_joined [] ys = refl
-keys_joined (x ∷ xs) ys = ap (λ (ks : List (List ℕ)). x.0 ∷ ks) (keys_joined xs ys)
-
-front_kept : {X : Type 0} (xs ys : List X) (i : ℕ) (x : X) → slice_get xs i ≡ Some x →
-    slice_get (xs ++ ys) i ≡ Some x
-front_kept [] ys i x h = absurd (cc)
-front_kept (y ∷ xs) ys zero x h = h
-front_kept (y ∷ xs) ys (suc i) x h = front_kept xs ys i x h
-
 named_by : (rows : List Row) (name : List ℕ) (i : ℕ) (there : List ℕ) (b : Bool) →
     slice_get (keys_of rows) i ≡ Some there →
     slice_get (keys_of (if b then rows else rows ++ (name, no_tally) ∷ [])) i ≡ Some there
 named_by rows name i there true h = h
 named_by rows name i there false h =
-    ap (λ (ks : List (List ℕ)). slice_get ks i) (keys_joined rows ((name, no_tally) ∷ []))
-    ∙ front_kept (keys_of rows) (name ∷ []) i there h
+    ap (λ (ks : List (List ℕ)). slice_get ks i) (keys_of-append rows ((name, no_tally) ∷ []))
+    ∙ place_stays (keys_of rows) (name ∷ []) i there h
 
 -- a name keeps its place where another is added
 pub named_still : (rows : List Row) (name : List ℕ) (i : ℕ) (there : List ℕ) →

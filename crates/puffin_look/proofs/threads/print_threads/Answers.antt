@@ -1,14 +1,14 @@
 -- What was printed is the lines of the threads in the frames that were read.
-use Rattle.std.proofs.Common.{List, ℕ, ◌+◌, inl, inr, refl, ap, subst, sym, ◌∙◌}
+use Rattle.std.proofs.Common.{List, ℕ, inl, inr, refl, ap, subst, sym, ◌∙◌}
 use Rattle.std.proofs.lemmas.Result.{err_from_is_err_and, on_ok_weaker}
 use Rattle.std.specs.Io.KnownBytes.{Appends}
 use Rattle.puffin_data.specs.Device.{WritesBeginning}
 use Rattle.puffin_threads.specs.Thread.ThreadKey.{by_key}
 use Rattle.puffin_look.specs.Printed.{RefusesNone}
 use Rattle.puffin_look.specs.ThreadLines.{IsThreadList}
-use Rattle.puffin_look.proofs.Closings.{no_letters}
+use Rattle.puffin_look.proofs.Closings.{end_failed, no_letters}
 use Rattle.puffin_look.proofs.Listed.{if_err_so}
-use Rattle.puffin_look.proofs.ThreadsPrinted.{ends, silent, not_io, told_outside, told_nothing, all_printed, all_told, cut_told}
+use Rattle.puffin_look.proofs.ThreadsPrinted.{ends, silent, told_outside, told_nothing, all_printed, all_told, cut_told}
 use Rattle.puffin_look.proofs.threads.print_threads.Goals as goal
 
 pub returns-then-fails_outside-clause-err : goal.returns-then-fails_outside-clause-err
@@ -67,10 +67,5 @@ returns-clause-ok g c =
     (g.D.Drain.contents c.write_all.new.drain) bs) c.deref.ensures.value c.in_ok-write_all.ensures.ok)
 
 pub returns-in_err-write_all-clause-io : goal.returns-in_err-write_all-clause-io
-returns-in_err-write_all-clause-io g c =
-    let same = c.list_behind-answer.ensures.drained (not_io c.list_behind-answer.result
-    (sym c.fails_outside.ensures ∙ c.if-fails_outside.false)) in
-    λ is. elim (c.in_err-write_all.ensures.io.1) [
-      | inl failed ↦ inr (inl (failed ∙ ap (λ (n : ℕ). n + 1) same))
-      | inr nothing ↦ inr (inr nothing)
-    ]
+returns-in_err-write_all-clause-io g c = λ is. end_failed c.list_behind-answer.result _ _ _
+    (sym c.fails_outside.ensures ∙ c.if-fails_outside.false) c.list_behind-answer.ensures.drained c.in_err-write_all.ensures.io.1

@@ -1,13 +1,12 @@
 -- What was written is the trace of the frames that were read.
-use Rattle.std.proofs.Common.{ℕ, ◌+◌, inl, inr, refl, ap, sym, ◌∙◌}
+use Rattle.std.proofs.Common.{inr, refl, sym, ◌∙◌}
 use Rattle.std.proofs.lemmas.Result.{err_from_is_err_and, on_ok_weaker}
 use Rattle.puffin_look.proofs.Listed.{if_err_so}
-use Rattle.puffin_look.proofs.ThreadsPrinted.{not_io}
 use Rattle.puffin_look.specs.Trace.{trace_end, IsTrace}
 use Rattle.puffin_look.specs.Trees.{all_streams}
 use Rattle.puffin_look.specs.Wanted.{RefusesUnread}
 use Rattle.puffin_look.specs.inner.Tracings.{TakesTrace, RefusesFrame}
-use Rattle.puffin_look.proofs.Closings.{none_written, no_letters, told_open, told_closed, told_printed, end_cut}
+use Rattle.puffin_look.proofs.Closings.{end_failed, none_written, no_letters, told_open, told_closed, told_printed, end_cut}
 use Rattle.puffin_look.proofs.TracePrinted.{text_in, none_said, closed}
 use Rattle.puffin_look.proofs.trace.print_trace.Goals as goal
 
@@ -78,10 +77,5 @@ returns-clause-err g c =
     ) c.in_ok-write_all.ensures.ok
 
 pub returns-in_err-write_all-clause-io : goal.returns-in_err-write_all-clause-io
-returns-in_err-write_all-clause-io g c =
-    let same = c.list_behind-answer.ensures.drained (not_io c.list_behind-answer.result
-    (sym c.fails_outside.ensures ∙ c.if-fails_outside.false)) in
-    λ is. elim (c.in_err-write_all.ensures.io.1) [
-      | inl failed ↦ inr (inl (failed ∙ ap (λ (n : ℕ). n + 1) same))
-      | inr nothing ↦ inr (inr nothing)
-    ]
+returns-in_err-write_all-clause-io g c = λ is. end_failed c.list_behind-answer.result _ _ _
+    (sym c.fails_outside.ensures ∙ c.if-fails_outside.false) c.list_behind-answer.ensures.drained c.in_err-write_all.ensures.io.1
