@@ -13,8 +13,8 @@ use Rattle.puffin_data.specs.Forest.{Span}
 use Rattle.puffin_threads.specs.Details.Collection.{Collection}
 use Rattle.puffin_view.specs.View.Stats.{cut}
 use Rattle.puffin_look.specs.FrameTree.{time_of}
-use Rattle.puffin_look.specs.Folded.{Part, label, below, path_with, path_of, parts_at, scope_parts, parts_of, with_path, paths_in, own_time, path_line, folded_lines}
-use Rattle.puffin_look.specs.Heavy.{times_in, path_rows}
+use Rattle.puffin_look.specs.Folded.{Part, label, below, path_with, path_of, parts_at, scope_parts, parts_of, with_path, paths_in, times_in, own_time, path_line, folded_lines}
+use Rattle.puffin_look.specs.Heavy.{path_rows}
 use Rattle.puffin_look.specs.inner.Stacks.{Row, row_with, new_row, with_part, times_with, no_times, rows_of, path_at, row_text, HasMoreParts, TakesScopes, StandsFor}
 use Rattle.puffin_look.specs.declared.stacks.Stacks.{Stacks}
 use Rattle.puffin_look.proofs.StackRows.{itself, turned, left_false, right_false}

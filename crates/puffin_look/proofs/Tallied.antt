@@ -13,7 +13,8 @@ use Rattle.puffin_view.specs.View.Stats.{cut}
 use Rattle.puffin_look.specs.Buckets.{last_of}
 use Rattle.puffin_look.specs.inner.Counts.{bucket_at}
 use Rattle.puffin_look.specs.Top.{rank_of, IsPercentile}
-use Rattle.puffin_look.specs.Top.{Piece, pieces_of, call_times, nested_times, with_name, names_in}
+use Rattle.puffin_look.specs.Top.{Piece, pieces_of, call_times, nested_times, names_in}
+use Rattle.puffin_look.specs.Names.{with_name}
 use Rattle.puffin_look.specs.inner.Tallies.{Row, Counted, row_with, with_row, with_piece, with_piece_in, with_call, with_nested, no_tally}
 use Rattle.puffin_look.proofs.StackRows.{turned, left_false, right_false}
 use Rattle.puffin_look.proofs.Ranked.{count_time, bucket_ranked}

@@ -1,25 +1,17 @@
 -- The path of scopes that takes the most time.
-use Rattle.std.specs.Prelude.{ℕ, zero, suc, ◌-◌, Bool, true, nat_lt, nat_le, not, ◌&&◌, ◌==◌, List, [], ◌∷◌, ◌++◌, take, drop, length, codes, fold, map, sum_by, if◌then◌else◌, Option, Some, None}
+use Rattle.std.specs.Prelude.{ℕ, zero, suc, ◌-◌, Bool, true, nat_lt, nat_le, not, ◌&&◌, ◌==◌, List, [], ◌∷◌, ◌++◌, take, drop, length, codes, fold, map, if◌then◌else◌, Option, Some, None}
 use Rattle.std.specs.List.{list_any}
 use Rattle.std.specs.Str.{bytes_eq}
-use Rattle.puffin_view.specs.View.Stats.{cut}
 use Rattle.puffin_look.specs.Cells.{Cell}
 use Rattle.puffin_look.specs.FrameTree.{indent}
 use Rattle.puffin_look.specs.Objects.{row_text}
-use Rattle.puffin_look.specs.Folded.{Part, parts_of, paths_in}
+use Rattle.puffin_look.specs.Folded.{Part, times_in, paths_in}
 use Rattle.puffin_look.specs.declared.lines.Form.{Form}
 use Rattle.puffin_look.specs.declared.lines.Form.TheVariants.{Table, Json}
 use Rattle.puffin_look.specs.declared.rows.Value.TheVariants.{Time, Share}
 use Rattle.puffin_look.specs.declared.stacks.Times.{Times}
 
 -- ---- the times of paths
-
--- the durations of the scopes with a path, and of those directly within them
-abbrev pub times_in : List Part → List ℕ → Times
-times_in all path = record {
-  whole = cut (sum_by (λ s. s.whole) (parts_of path all));
-  nested = cut (sum_by (λ s. s.nested) (parts_of path all));
-}
 
 abbrev pub Row : Type 0
 Row = List ℕ × Times

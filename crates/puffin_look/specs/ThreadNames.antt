@@ -33,7 +33,8 @@ abbrev pub threads_in : List OpenFrame → List ThreadKey
 threads_in frames = map (λ e. e.0) (tree.entries (totals_of frames))
 
 -- These are the threads with a name in the frames of a file that are before its end or its first fault.
-pub record AreNamed (word : List ℕ) (unread left : Option (List ℕ)) (found : List ThreadKey) : Type 0 where
+pub record AreNamed (word : List ℕ) (unread left : Option (List ℕ))
+    (found : List ThreadKey) : Type 0 where
   pub stored : List Stored
   pub begins : Begins unread stored
   pub frames : List OpenFrame

@@ -1,7 +1,7 @@
 -- The scopes of a file by name: how often each was met, and what time it took.
 use Rattle.std.specs.Prelude.{◌≡◌, ◌⊎◌, ℕ, ◌+◌, ◌-◌, ◌*◌, ◌/◌, ◌^◌, ◌<◌, ◌≤◌, Bool, true, false, nat_lt, nat_le, List, [], ◌∷◌, ◌++◌, length, codes, map, fold, filter, count_by, sum, min, max, if◌then◌else◌, Option, Some, None}
 use Rattle.std.specs.FinMap as tree
-use Rattle.std.specs.List.{flat_map, list_any}
+use Rattle.std.specs.List.{flat_map}
 use Rattle.std.specs.List.Sorted.{IsPermutation, IsNonDecreasingBy}
 use Rattle.std.proofs.Math.Bool.{not}
 use Rattle.std.specs.Str.{bytes_eq}
@@ -19,7 +19,7 @@ use Rattle.puffin_look.specs.Printed.{Begins, HasFaultBehind, StopsBeforeFrames}
 use Rattle.puffin_look.specs.Trees.{TreeFrame}
 use Rattle.puffin_look.specs.Wanted.{AreTaken, RefusesTaken}
 use Rattle.puffin_look.specs.declared.wanted.Wanted.{Wanted}
-use Rattle.puffin_look.specs.Names.{name_or_id}
+use Rattle.puffin_look.specs.Names.{name_or_id, with_name}
 use Rattle.puffin_look.specs.FrameTree.{time_of}
 use Rattle.puffin_look.specs.Buckets.{bucket_of, last_of}
 use Rattle.puffin_look.specs.Cells.{length_of}
@@ -98,8 +98,8 @@ HasRank rank times time =
 abbrev pub rank_of : ℕ → ℕ → ℕ
 rank_of percent calls = (calls * percent + 99) / 100
 
--- So many percent of the calls take at most this long: the time is the greatest in the bucket of the duration of that rank, but at
--- most the greatest duration. (A file with 2^64 calls or more isn't told of.)
+-- So many percent of the calls take at most this long: the time is the greatest in the bucket of the duration of that rank, but
+-- at most the greatest duration. (A file with 2^64 calls or more isn't told of.)
 abbrev pub IsPercentile : ℕ → List ℕ → ℕ → Type 0
 IsPercentile percent times value =
     length times < 2 ^ 64 → (exact : ℕ) → exact < 2 ^ 64 →
@@ -116,9 +116,6 @@ pub record IsRow (all : List Piece) (row : TopRow) : Type 0 where
   pub p95 : IsPercentile 95 (call_times all) row.p95
   pub p99 : IsPercentile 99 (call_times all) row.p99
   pub greatest : row.greatest ≡ fold max 0 (call_times all)
-
-abbrev pub with_name : List (List ℕ) → List ℕ → List (List ℕ)
-with_name names name = if list_any (bytes_eq name) names then names else names ++ (name ∷ [])
 
 -- each name once, in the order in which they are met
 abbrev pub names_in : List Piece → List (List ℕ)
@@ -151,7 +148,8 @@ pub record IsTop (known : Collection) (wanted : Wanted) (texts : Bool)
   pub opens : AreOpened stored frames
   pub trees : List TreeFrame
   pub taken : AreTaken wanted frames trees
-  pub rows : AreRowsOf (pieces known texts trees) (names_in (pieces known texts trees)) top.rows.items
+  pub rows : AreRowsOf (pieces known texts trees) (names_in (pieces known texts trees))
+      top.rows.items
   pub whole : top.whole ≡ fold with_length 0 trees
   pub count : top.frames ≡ fold with_one 0 trees
 

@@ -20,7 +20,8 @@ is_within (Some indices) index = nat_le indices.first index && nat_le index indi
 -- the frames with these indices
 abbrev pub frames_within : Option Indices → List OpenFrame → List OpenFrame
 frames_within None frames = frames
-frames_within (Some indices) frames = filter (λ f. is_within (Some indices) f.meta.frame_index) frames
+frames_within (Some indices) frames =
+    filter (λ f. is_within (Some indices) f.meta.frame_index) frames
 
 -- ---- threads
 

@@ -141,8 +141,8 @@ impl Both {
     }
 }
 
-/// Compares the scopes of two files by name: a row for each name of the old file, in its order, and behind them one for each name that
-/// only the new file has.
+/// Compares the scopes of two files by name: a row for each name of the old file, in its order, and behind them one for each name
+/// that only the new file has.
 pub fn compare(alloc: Global, old: &Top, new: &Top) -> Result<Diff, AllocError>
     ensures { IfOk result (λ diff. map entry_of diff.rows.items ≡ entries old.now new.now) }
 {

@@ -72,8 +72,8 @@ fn text_of(alloc: Global, form: Form, diff: &Diff) -> Result<Vec<u8>, AllocError
     lines.closed(form)
 }
 
-/// Prints what two files have, as [`print_top`](crate::print_top) does. Numbers are those in each frame; there are none where a file
-/// hasn't the name. A change has a sign, and as growth it is a share of the old time, if that isn't 0.
+/// Prints what two files have, as [`print_top`](crate::print_top) does. Numbers are those in each frame; there are none where a
+/// file hasn't the name. A change has a sign, and as growth it is a share of the old time, if that isn't 0.
 ///
 /// Fails with `Memory`, and then prints nothing, or with `Io` if a write fails, and then a prefix of the list is written.
 pub fn print_diff<D: Drain>(

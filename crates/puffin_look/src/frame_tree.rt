@@ -106,13 +106,13 @@ impl<'t> Listing for Trees<'t> {
     }
 }
 
-/// Prints the wanted frames of a file: for each a line with its range in nanoseconds and its duration, for each of its threads a line
-/// behind the names of the columns, and for each scope of the thread a line: its start in the frame, its duration, and its share of
-/// what it is nested in, in columns; two blanks for each scope that it is nested in; its name by the details of the
+/// Prints the wanted frames of a file: for each a line with its range in nanoseconds and its duration, for each of its threads a
+/// line behind the names of the columns, and for each scope of the thread a line: its start in the frame, its duration, and its
+/// share of what it is nested in, in columns; two blanks for each scope that it is nested in; its name by the details of the
 /// [overview](crate::read_overview), or `#` and the id; and its text in parentheses, unless it is empty.
 ///
-/// Returns whether a thread was printed. Fails as [`print_trace`](crate::print_trace) does; only the streams that are printed have
-/// to consist of scopes.
+/// Returns whether a thread was printed. Fails as [`print_trace`](crate::print_trace) does; only the streams that are printed
+/// have to consist of scopes.
 pub fn print_frame<S: Source, D: Drain>(
     alloc: Global,
     overview: &Overview,

@@ -9,8 +9,8 @@ use std::alloc::{AllocError, Global};
 /// How a list is printed.
 #[derive(Clone, Copy, Debug, PartialEq, Eq)]
 pub enum Form {
-    /// A table for a person: a line with the names of the columns, and a line for each row. Numbers have commas between thousands,
-    /// durations have a unit, and names have escapes for control characters.
+    /// A table for a person: a line with the names of the columns, and a line for each row. Numbers have commas between
+    /// thousands, durations have a unit, and names have escapes for control characters.
     Table,
     /// An array in JSON: an object for each row, one a line, with the names of the columns as keys. Times and durations are in
     /// nanoseconds, and shares in percent. A number beyond `2^53` is a string of its digits, and what isn't there is `null`.

@@ -108,11 +108,11 @@ fn text_of(alloc: Global, form: Form, rows: &[FrameRow]) -> Result<Vec<u8>, Allo
     lines.closed(form)
 }
 
-/// Prints the `limit` slowest frames of a file as [`print_frames`](crate::print_frames) does, the slowest first, and of equally slow
-/// frames the one that comes first in the file.
+/// Prints the `limit` slowest frames of a file as [`print_frames`](crate::print_frames) does, the slowest first, and of equally
+/// slow frames the one that comes first in the file.
 ///
-/// Fails with the first fault of the file, as [`print_frames`](crate::print_frames) does, or with `Memory` or, if a read fails, with
-/// `Io`, and then prints nothing; or with `Io` if a write fails, and then a prefix of the list is written.
+/// Fails with the first fault of the file, as [`print_frames`](crate::print_frames) does, or with `Memory` or, if a read fails,
+/// with `Io`, and then prints nothing; or with `Io` if a write fails, and then a prefix of the list is written.
 pub fn print_slowest<S: Source, D: Drain>(
     alloc: Global,
     source: &mut S,

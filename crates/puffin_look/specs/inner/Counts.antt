@@ -22,7 +22,8 @@ with_time (count ∷ counts) bucket =
 -- the bucket of the duration with this rank
 abbrev pub bucket_at : List Count → ℕ → ℕ
 bucket_at [] rank = 0
-bucket_at (count ∷ counts) rank = if nat_le rank count.calls then count.bucket else bucket_at counts (rank - count.calls)
+bucket_at (count ∷ counts) rank =
+    if nat_le rank count.calls then count.bucket else bucket_at counts (rank - count.calls)
 
 -- whether the count at a place is that of a bucket
 abbrev pub has_bucket : List Count → ℕ → ℕ → Bool

@@ -29,7 +29,8 @@ pub record IsWithText (old new : Events) (more : List ℕ) : Type 0 where
   pub tid : new.tid ≡ old.tid
 
 abbrev pub scope_events : Events → List ScopeInContext → List ℕ
-scope_events events scopes = flat_map (λ s. scope_event events.overview.now events.tid s.span) scopes
+scope_events events scopes =
+    flat_map (λ s. scope_event events.overview.now events.tid s.span) scopes
 
 abbrev pub TakesScopes : Events → List ScopeInContext → Events → Type 0
 TakesScopes old scopes new = IsWithText old new (scope_events old scopes)

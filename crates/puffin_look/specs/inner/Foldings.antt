@@ -36,12 +36,14 @@ StepsStack old new key facts =
     ⊎ ((is_wanted old.wanted.now key ≡ false) × (new ≡ old))
 
 abbrev pub IsStackFault : Folding → ThreadKey → StreamFacts → Error → Type 0
-IsStackFault old key facts fault = (is_wanted old.wanted.now key ≡ true) × IsFault facts.form facts.bytes fault
+IsStackFault old key facts fault =
+    (is_wanted old.wanted.now key ≡ true) × IsFault facts.form facts.bytes fault
 
 -- ---- frames
 
 -- these frames were read, their scopes were added, and nothing was printed
-pub record TakesStacks (old : Folding) (frames : List OpenFrame) (text : List ℕ) (new : Folding) : Type 0 where
+pub record TakesStacks (old : Folding) (frames : List OpenFrame) (text : List ℕ)
+    (new : Folding) : Type 0 where
   pub none : text ≡ []
   pub trees : List TreeFrame
   pub read : AreRead (wanted_streams old.wanted.now) frames trees

@@ -26,7 +26,8 @@ use Rattle.puffin_look.specs.declared.frame_tree.Trees.{Trees}
 pub record AddsTree (old new : Trees) (key : ThreadKey) (facts : StreamFacts) : Type 0 where
   pub forest : Forest
   pub spells : Spells facts.form facts.bytes forest
-  pub lines : HasMoreLines old.lines new.lines (tree_text old.lines.known.now old.lines.range_ns (key, forest))
+  pub lines : HasMoreLines old.lines new.lines (
+      tree_text old.lines.known.now old.lines.range_ns (key, forest))
   pub found : new.is_found ≡ true
   pub wanted : new.wanted ≡ old.wanted
 
@@ -37,12 +38,14 @@ StepsTree old new key facts =
     ⊎ ((is_wanted old.wanted.now key ≡ false) × (new ≡ old))
 
 abbrev pub IsTreeFault : Trees → ThreadKey → StreamFacts → Error → Type 0
-IsTreeFault old key facts fault = (is_wanted old.wanted.now key ≡ true) × IsFault facts.form facts.bytes fault
+IsTreeFault old key facts fault =
+    (is_wanted old.wanted.now key ≡ true) × IsFault facts.form facts.bytes fault
 
 -- ---- frames
 
 -- these frames were read, and their text is this
-pub record TakesTrees (old : Trees) (frames : List OpenFrame) (text : List ℕ) (new : Trees) : Type 0 where
+pub record TakesTrees (old : Trees) (frames : List OpenFrame) (text : List ℕ)
+    (new : Trees) : Type 0 where
   pub trees : List TreeFrame
   pub read : AreRead (wanted_streams old.wanted.now) frames trees
   pub is : text ≡ flat_map (trees_text old.lines.known.now) trees
@@ -55,7 +58,8 @@ RefusesFrame old frame cause = AreUnread (wanted_streams old.wanted.now frame) c
 
 -- the text of some frames, whether a thread was found or not
 abbrev pub IsAnyFrameText : Collection → Wanted → List OpenFrame → List ℕ → Type 0
-IsAnyFrameText known wanted frames text = (found : Bool) × IsFrameText known wanted found frames text
+IsAnyFrameText known wanted frames text =
+    (found : Bool) × IsFrameText known wanted found frames text
 
 -- ---- laws
 

@@ -54,7 +54,8 @@ abbrev pub lines_of : Form → List OpenFrame → List (List ℕ)
 lines_of form frames = map (frame_line form) (map frame_row frames)
 
 -- these frames were added, and this is their text
-pub record TakesFrames (old : FrameList) (frames : List OpenFrame) (text : List ℕ) (new : FrameList) : Type 0 where
+pub record TakesFrames (old : FrameList) (frames : List OpenFrame) (text : List ℕ)
+    (new : FrameList) : Type 0 where
   pub is : text ≡ joined old.lines.separator.now old.lines.has_any (lines_of old.form frames)
   pub separator : new.lines.separator ≡ old.lines.separator
   pub any : new.lines.has_any ≡ any_with old.lines.has_any (lines_of old.form frames)

@@ -55,7 +55,8 @@ still_stands u v xs level around t s = s
 -- ---- frames
 
 -- these frames were read, and their elements are this text
-pub record TakesPage (old : Page) (frames : List OpenFrame) (text : List ℕ) (new : Page) : Type 0 where
+pub record TakesPage (old : Page) (frames : List OpenFrame) (text : List ℕ)
+    (new : Page) : Type 0 where
   pub trees : List TreeFrame
   pub read : AreRead (chosen_streams old.frames.now) frames trees
   pub is : text ≡ flat_map (frame_element old.frames.now) trees

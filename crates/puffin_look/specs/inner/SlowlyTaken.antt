@@ -23,17 +23,20 @@ abbrev pub held_of : SlowFrame → Slow
 held_of row = (row.duration_ns, row.text.items)
 
 -- this is what is printed of a frame
-pub record ReadsSlow (form : Form) (known : Collection) (wanted : Wanted) (frame : OpenFrame) (text : List ℕ) : Type 0 where
+pub record ReadsSlow (form : Form) (known : Collection) (wanted : Wanted) (frame : OpenFrame)
+    (text : List ℕ) : Type 0 where
   pub tree : TreeFrame
   pub read : IsRead (wanted_streams wanted) frame tree
   pub is : text ≡ slow_text form known tree
 
 -- only so many are kept
 abbrev pub keeping : ℕ → Form → Collection → List Slow → TreeFrame → List Slow
-keeping limit form known rows tree = take limit (with_row_by duration rows (slow_of form known tree))
+keeping limit form known rows tree =
+    take limit (with_row_by duration rows (slow_of form known tree))
 
 -- these frames were read, the slowest were kept, and nothing was printed
-pub record TakesSlow (old : SlowFrames) (frames : List OpenFrame) (text : List ℕ) (new : SlowFrames) : Type 0 where
+pub record TakesSlow (old : SlowFrames) (frames : List OpenFrame) (text : List ℕ)
+    (new : SlowFrames) : Type 0 where
   pub none : text ≡ []
   pub trees : List TreeFrame
   pub read : AreRead (wanted_streams old.wanted.now) frames trees

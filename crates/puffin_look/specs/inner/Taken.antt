@@ -15,7 +15,8 @@ use Rattle.puffin_view.specs.declared.thread_totals.AllTotals.{AllTotals}
 -- ---- threads
 
 -- the totals are those with these frames, and nothing was printed
-pub record TakesTotals (old : AllTotals) (frames : List OpenFrame) (text : List ℕ) (new : AllTotals) : Type 0 where
+pub record TakesTotals (old : AllTotals) (frames : List OpenFrame) (text : List ℕ)
+    (new : AllTotals) : Type 0 where
   pub none : text ≡ []
   pub totals : by_key new.totals.entries ≡ fold with_frame (by_key old.totals.entries) frames
 
@@ -33,7 +34,8 @@ totals_more u v w xs ys s t a b = record {
 -- ---- the slowest frames
 
 -- the rows are those with these frames, and nothing was printed
-pub record TakesRows (old : Slowest) (frames : List OpenFrame) (text : List ℕ) (new : Slowest) : Type 0 where
+pub record TakesRows (old : Slowest) (frames : List OpenFrame) (text : List ℕ)
+    (new : Slowest) : Type 0 where
   pub none : text ≡ []
   pub limit : new.limit ≡ old.limit
   pub rows : new.rows.items

@@ -55,7 +55,8 @@ abbrev pub with_nested : Counted → ℕ → Counted
 with_nested counted time = (times_with_nested counted.0 time, counted.1)
 
 abbrev pub with_piece : Counted → Piece → Counted
-with_piece counted piece = if piece.is_call then with_call counted piece.time else with_nested counted piece.time
+with_piece counted piece =
+    if piece.is_call then with_call counted piece.time else with_nested counted piece.time
 
 -- ---- the names
 

@@ -40,12 +40,14 @@ StepsTally old new key facts =
     ⊎ ((is_wanted old.wanted.now key ≡ false) × (new ≡ old))
 
 abbrev pub IsTallyFault : Tallying → ThreadKey → StreamFacts → Error → Type 0
-IsTallyFault old key facts fault = (is_wanted old.wanted.now key ≡ true) × IsFault facts.form facts.bytes fault
+IsTallyFault old key facts fault =
+    (is_wanted old.wanted.now key ≡ true) × IsFault facts.form facts.bytes fault
 
 -- ---- frames
 
 -- these frames were read, their scopes were added, and nothing was printed
-pub record TakesTallies (old : Tallying) (frames : List OpenFrame) (text : List ℕ) (new : Tallying) : Type 0 where
+pub record TakesTallies (old : Tallying) (frames : List OpenFrame) (text : List ℕ)
+    (new : Tallying) : Type 0 where
   pub none : text ≡ []
   pub trees : List TreeFrame
   pub read : AreRead (wanted_streams old.wanted.now) frames trees

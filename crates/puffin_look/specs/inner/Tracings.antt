@@ -43,7 +43,8 @@ pub record AddsStream (old new : Trace) (key : ThreadKey) (facts : StreamFacts) 
 -- ---- frames
 
 -- these frames were read, and their events are this text
-pub record TakesTrace (old : Trace) (frames : List OpenFrame) (text : List ℕ) (new : Trace) : Type 0 where
+pub record TakesTrace (old : Trace) (frames : List OpenFrame) (text : List ℕ)
+    (new : Trace) : Type 0 where
   pub trees : List TreeFrame
   pub read : AreRead all_streams frames trees
   pub is : text ≡ events old.events.overview.now (numbers_of old) trees

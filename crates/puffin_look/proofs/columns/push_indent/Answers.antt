@@ -1,3 +1,4 @@
+-- Two more blanks were appended.
 use Rattle.std.proofs.Common.{◌++◌, List, ℕ, codes, ap, ◌∙◌, arith, append_assoc}
 use Rattle.puffin_look.specs.FrameTree.{indent}
 use Rattle.puffin_look.proofs.Indents.{indent_more}

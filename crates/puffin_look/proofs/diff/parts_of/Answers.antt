@@ -1,3 +1,4 @@
+-- What one more row has is under its name.
 use Rattle.std.proofs.Common.{◌≡◌, List, get_or, ap, ◌∙◌, ◌∷◌, [], ◌++◌, take, subst, sym, arith}
 use Rattle.std.proofs.lemmas.List.{take_more}
 use Rattle.puffin_look.specs.inner.Diffs.{HasParts}

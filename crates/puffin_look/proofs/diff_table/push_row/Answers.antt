@@ -1,3 +1,4 @@
+-- The line that was added is that of the row.
 use Rattle.std.proofs.Common.{Some, codes, subst}
 use Rattle.std.proofs.lemmas.Result.{on_ok_weaker}
 use Rattle.puffin_look.specs.Objects.{row_text}

@@ -1,3 +1,4 @@
+-- The lines are those of the rows, one after the other.
 use Rattle.puffin_look.specs.DiffTable.{diff_row, column_names}
 use Rattle.puffin_look.proofs.Lined.{lists_begun, row_more, rows_closed}
 use Rattle.puffin_look.proofs.diff_table.text_of.Goals as goal

@@ -1,3 +1,4 @@
+-- The lines are those of the paths, one after the other.
 use Rattle.std.proofs.Common.{List, ℕ, ◌++◌, ◌-◌, ap, ◌∙◌}
 use Rattle.std.specs.Map.Iter.{deref_pair}
 use Rattle.std.proofs.lemmas.Map.Iter.{rest_more}

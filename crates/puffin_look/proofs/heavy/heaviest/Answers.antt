@@ -1,3 +1,4 @@
+-- The best of the paths so far, and in the end of all paths.
 use Rattle.std.proofs.Common.{List, ℕ, ap, ◌∙◌}
 use Rattle.std.specs.Prelude.{option_map}
 use Rattle.std.specs.Map.Iter.{deref_pair}

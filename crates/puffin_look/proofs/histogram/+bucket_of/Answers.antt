@@ -1,3 +1,4 @@
+-- Half of a duration above 255 is in a bucket that is 128 lower.
 use Rattle.std.proofs.Common.{◌+◌, ap, sym, ◌∙◌, ℕ}
 use Rattle.puffin_look.proofs.Bucketing.{bucket_halved}
 use Rattle.puffin_look.proofs.histogram.+bucket_of.Goals as goal

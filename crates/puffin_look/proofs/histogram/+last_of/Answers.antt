@@ -1,3 +1,4 @@
+-- The last duration of a bucket above 255 is that of the bucket 128 lower, doubled, and one more.
 use Rattle.std.proofs.Common.{arith}
 use Rattle.puffin_look.proofs.Bucketing.{last_doubled}
 use Rattle.puffin_look.proofs.histogram.+last_of.Goals as goal

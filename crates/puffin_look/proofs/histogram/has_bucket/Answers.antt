@@ -1,3 +1,4 @@
+-- Whether the count at the place, if there is one, is that of the bucket.
 use Rattle.std.proofs.Common.{sym}
 use Rattle.puffin_look.proofs.Ranked.{has_at, has_none}
 use Rattle.puffin_look.proofs.histogram.has_bucket.Goals as goal

@@ -1,3 +1,4 @@
+-- The frames so far were listed; where listing stops, and why.
 use Rattle.std.proofs.Common.{List, [], ◌∷◌, ◌++◌, inr, refl, subst, ◌∙◌, arith, length-append}
 use Rattle.std.proofs.lemmas.Result.{err_from_is_err_and}
 use Rattle.puffin_frames.specs.Packet.Stored.{Stored}

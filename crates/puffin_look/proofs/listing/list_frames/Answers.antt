@@ -1,3 +1,4 @@
+-- If the letters were read, listing ends as it does behind them; else there are no frames.
 use Rattle.std.proofs.Common.{inl}
 use Rattle.std.proofs.lemmas.Result.{err_from_is_err_and, on_ok_weaker}
 use Rattle.puffin_look.proofs.Listed.{if_err_so, not_a_file}

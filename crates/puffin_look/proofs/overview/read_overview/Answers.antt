@@ -1,3 +1,4 @@
+-- The reader and memory didn't fail, so the frames were read up to the end or the first fault.
 use Rattle.std.proofs.Common.{◌≡◌, false, ap, sym, ◌∙◌}
 use Rattle.puffin_look.specs.inner.Taken.{fails_outside}
 use Rattle.puffin_look.proofs.FirstRead.{read_anyway}

@@ -1,3 +1,4 @@
+-- The lines are the texts of the frames, one after the other.
 use Rattle.std.proofs.Common.{[], refl, subst}
 use Rattle.puffin_look.specs.declared.slow_frames.SlowFrame.{SlowFrame}
 use Rattle.puffin_look.specs.inner.Lining.{Adds}

@@ -1,3 +1,4 @@
+-- The tokens that were written begin the object.
 use Rattle.std.proofs.Common.{[], ◌∷◌, ◌++◌, codes, ap, ◌∙◌}
 use Rattle.std.specs.List.{flat_map}
 use Rattle.json.specs.Print.{print}

@@ -1,3 +1,4 @@
+-- The row stands in front of the first that is faster.
 use Rattle.puffin_look.proofs.SlowestKept.{placed_by}
 use Rattle.puffin_look.proofs.slowest.place_for.Goals as goal
 

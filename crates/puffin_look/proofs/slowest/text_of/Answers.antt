@@ -1,3 +1,4 @@
+-- The lines are those of the rows, one after the other.
 use Rattle.std.proofs.Common.{refl}
 use Rattle.puffin_look.specs.FrameLines.{frame_line, column_names}
 use Rattle.puffin_look.proofs.Lined.{lists_begun, row_more, rows_closed}

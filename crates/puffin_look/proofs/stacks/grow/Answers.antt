@@ -1,3 +1,4 @@
+-- The times of the path at the place have grown, and no others.
 use Rattle.std.proofs.Common.{sym, ap, ◌∙◌}
 use Rattle.std.specs.Option.{option_copied_mut}
 use Rattle.puffin_look.specs.inner.Stacks.{rows_in}

@@ -1,3 +1,4 @@
+-- The time was added to the name at the place, and to no others.
 use Rattle.std.proofs.Common.{false, sym, ap, ◌∙◌}
 use Rattle.std.specs.Option.{option_copied_mut}
 use Rattle.puffin_look.proofs.TallyRows.{row_grown, no_place}

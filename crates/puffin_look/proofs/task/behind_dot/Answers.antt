@@ -1,3 +1,4 @@
+-- The bytes behind a dot, if there is one.
 use Rattle.std.proofs.Common.{lit<}
 use Rattle.std.proofs.lemmas.Str.Pattern.{strip_prefix_char}
 use Rattle.puffin_look.proofs.Numbers.{is_behind_dot}

@@ -1,3 +1,4 @@
+-- The lines are those of the threads, one after the other.
 use Rattle.std.proofs.Common.{rules}
 use Rattle.std.proofs.lemmas.Map.Iter.{rest_more}
 use Rattle.std.proofs.lemmas.Result.{IfOk-weaker}

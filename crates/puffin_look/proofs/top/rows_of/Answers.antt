@@ -1,3 +1,4 @@
+-- The rows so far are those of the names so far.
 use Rattle.std.proofs.Common.{List, ℕ, subst}
 use Rattle.std.specs.Map.Iter.{deref_pair}
 use Rattle.std.proofs.lemmas.Map.Iter.{rest_more}

@@ -1,3 +1,4 @@
+-- The duration was counted in its bucket, and the buckets are still in order.
 use Rattle.std.proofs.Common.{List, sym, ap, ◌∙◌, arith}
 use Rattle.puffin_look.specs.inner.Counts.{with_time, has_bucket}
 use Rattle.puffin_look.specs.declared.histogram.Count.{Count}

@@ -1,3 +1,4 @@
+-- The counts in front of the place have lower buckets, and those from it on have not.
 use Rattle.std.proofs.Common.{rules, of_calls, ◌≡◌, List, true, false, subst, sym}
 use Rattle.std.specs.Prelude.{nat_lt}
 use Rattle.std.specs.List.Sorted.{IsPartitionPoint, IsNonDecreasingBy}

@@ -1,3 +1,4 @@
+-- The path is that of the scope around it, and the name.
 use Rattle.std.proofs.Common.{List, ℕ, ◌++◌, ap, ◌∙◌}
 use Rattle.std.proofs.lemmas.Result.{on_ok_weaker}
 use Rattle.puffin_look.specs.Folded.{label, front}

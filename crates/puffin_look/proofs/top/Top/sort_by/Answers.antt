@@ -1,3 +1,4 @@
+-- The rows that are kept are the first of the sorted ones.
 use Rattle.std.proofs.Common.{rules, ◌-◌, ◌^◌}
 use Rattle.std.proofs.lemmas.List.Sorted.{IsNonDecreasingBy-from_sort_by_key}
 use Rattle.puffin_look.specs.Top.{weight}

@@ -1,3 +1,4 @@
+-- The number under the key of the thread is that in the map.
 use Rattle.std.proofs.Common.{sym, ◌∙◌}
 use Rattle.std.proofs.lemmas.Iterator.Adapters.{option_map_id}
 use Rattle.puffin_threads.specs.Thread.ThreadKey.{key_of, key_cmp}
