@@ -78,7 +78,7 @@ impl Lines {
     }
 
     /// Begins a line: appends what stands between the lines so far and this one.
-    pub(crate) fn push_lead(&mut self) -> Result<(), AllocError>
+    pub(crate) fn begin_line(&mut self) -> Result<(), AllocError>
         ensures text { OnOk result (self.new.text.items
             ≡ self.old.text.items ++ separator_if self.old.separator.now self.old.has_any) }
         ensures separator { self.new.separator ≡ self.old.separator }
@@ -95,7 +95,7 @@ impl Lines {
     pub(crate) fn add(&mut self, line: &[u8]) -> Result<(), AllocError>
         ensures { OnOk result (Adds self.old self.new line.now) }
     {
-        self.push_lead()?;
+        self.begin_line()?;
         self.text.extend_from_slice(line)
     }
 

@@ -150,6 +150,6 @@ pub(crate) fn add_row(
     ensures { OnOk result (Adds lines.old lines.new (
         row_text form (map cell_of cells.now) (option_map name_of name.entry))) }
 {
-    lines.push_lead()?;
+    lines.begin_line()?;
     push_row(&mut lines.text, form, cells, name)
 }
