@@ -40,8 +40,9 @@ decimal_before : (n : ℕ) (rest : List ℕ) → n < 2 ^ 64 → prefix_len is_as
 decimal_before zero rest h none =
     let e = decimal_digit 0 (omega arith) in (ap (λ l. after_whole (l ++ rest)) e, ap (λ l. head (l ++ rest) == 45) e)
 decimal_before (suc n) rest h none =
+    let numeral = (decimal_is_IsNumeral (suc n) h).0 in
     whole_before (decimal (suc n)) rest (first_decimal (suc n) (omega arith) h)
-    (digits_before _ rest (λ i l. digit_at _ i (decimal_is_IsNumeral (suc n) h).0.1 l) none)
+    (digits_before _ rest (λ i l. digit_at _ i numeral.1 l) none)
 
 -- a byte of a digit
 abbrev digit : ℕ → ℕ

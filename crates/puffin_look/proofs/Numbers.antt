@@ -28,7 +28,8 @@ number_read {E} [] (Ok x) h plain = absurd (let read = parse_plain own {E = E} 6
 number_read {E} [] (Err e) h plain = refl
 number_read {E} (b ∷ bs) (Ok x) h plain =
     let read = parse_plain own {E = E} 64 (b ∷ bs) (Ok x) h plain in
-    number_given (all_ascii_digits (b ∷ bs)) _ _ x read.0.0 read.0.2 read.1
+    let valid = read.0 in
+    number_given (all_ascii_digits (b ∷ bs)) _ _ x valid.0 valid.2 read.1
 number_read {E} (b ∷ bs) (Err e) h plain =
     number_refused (all_ascii_digits (b ∷ bs)) _ _ (λ q. parse_plain own {E = E} 64 (b ∷ bs) (Err e) h plain
     (q.0, omega arith, q.1))
