@@ -11,6 +11,7 @@ bucket_in (suc limit) time = if nat_lt time 256 then time else 128 + bucket_in l
 abbrev pub bucket_of : ℕ → ℕ
 bucket_of time = bucket_in time time
 
+-- Above 255 it is that of the bucket 128 lower, doubled, and one more.
 abbrev pub last_in : ℕ → ℕ → ℕ
 last_in zero bucket = bucket
 last_in (suc limit) bucket =

@@ -16,6 +16,7 @@ abbrev pub per_frame : ℕ → ℕ → ℕ
 per_frame sum zero = 0
 per_frame sum (suc frames) = sum / suc frames
 
+-- hundredths of what there is in each frame
 abbrev pub hundredths : ℕ → ℕ → ℕ
 hundredths sum frames = cut (per_frame (sum * 100) frames)
 

@@ -92,6 +92,7 @@ abbrev pub trees_text : Collection → TreeFrame → List ℕ
 trees_text known frame =
     head_text frame.meta ++ flat_map (tree_text known frame.meta.range_ns) frame.trees
 
+-- whether there is a thread, or there was before
 abbrev pub has_trees : Bool → List Tree → Bool
 has_trees before [] = before
 has_trees before (tree ∷ trees) = true

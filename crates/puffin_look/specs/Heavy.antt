@@ -13,6 +13,7 @@ use Rattle.puffin_look.specs.declared.stacks.Times.{Times}
 
 -- ---- the times of paths
 
+-- a path and its times
 abbrev pub Row : Type 0
 Row = List ℕ × Times
 
@@ -39,6 +40,7 @@ abbrev pub is_more : Option Step → ℕ → Bool
 is_more None time = true
 is_more (Some step) time = nat_lt step.1 time
 
+-- this path, if it takes more time than the best one so far
 abbrev pub heavier : List ℕ → Option Step → Row → Option Step
 heavier front best row =
     if is_directly_below front row.0 && is_more best row.1.whole then Some (row.0, row.1.whole)
@@ -71,6 +73,7 @@ step_line form level front step outer =
     row_text form (step_cells step outer)
     (Some (codes "name", shown_name form level (drop front step.0)))
 
+-- the lines from this step on, if it is followed
 abbrev pub lines_with : (Step → List (List ℕ)) → ℕ → ℕ → Option Step → List (List ℕ)
 lines_with next level outer None = []
 lines_with next level outer (Some step) =

@@ -22,6 +22,7 @@ rows_of stored = map (λ s. row_of (fields_of (frame_stored s))) stored
 
 -- ---- the slowest
 
+-- a row before the first that is faster
 abbrev pub with_row : List Row → Row → List Row
 with_row = with_row_by (λ (row : Row). row.duration_ns)
 

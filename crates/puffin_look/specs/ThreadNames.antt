@@ -18,6 +18,7 @@ is_named Text word key = bytes_eq (thread_text key) word
 is_named Name word key = bytes_eq key.name word
 is_named Beginning word key = bytes_eq (take (length word - 1) key.name ++ codes "*") word
 
+-- these, or the others if there are none
 abbrev pub or_else : List ThreadKey → List ThreadKey → List ThreadKey
 or_else [] others = others
 or_else (key ∷ keys) others = key ∷ keys

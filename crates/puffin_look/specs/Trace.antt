@@ -71,6 +71,7 @@ forest_events overview tid forest =
 abbrev pub Numbers : Type 0
 Numbers = map.FinMap key_cmp ℕ
 
+-- the number of a thread, or the next one if it has none
 abbrev pub number_or : Numbers → Option ℕ → ℕ
 number_or numbers (Some tid) = tid
 number_or numbers None = map.len numbers + 1
@@ -78,6 +79,7 @@ number_or numbers None = map.len numbers + 1
 abbrev pub number_of : Numbers → ThreadKey → ℕ
 number_of numbers key = number_or numbers (map.get numbers key)
 
+-- the numbers, with that of this thread
 abbrev pub numbered_or : Numbers → ThreadKey → Option ℕ → Numbers
 numbered_or numbers key (Some tid) = numbers
 numbered_or numbers key None = map.insert numbers key (map.len numbers + 1)

@@ -28,6 +28,7 @@ frames_within (Some indices) frames =
 abbrev pub is_one_of : List ThreadInfo → ThreadKey → Bool
 is_one_of threads key = list_any (λ t. has_same_key (key_of t) key) threads
 
+-- whether a thread is one of these, or of all
 abbrev pub is_among : Option (Vec ThreadInfo Global) → ThreadKey → Bool
 is_among None key = true
 is_among (Some threads) key = is_one_of threads.items key
