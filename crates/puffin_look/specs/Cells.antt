@@ -113,6 +113,13 @@ Name = List ℕ × List ℕ
 abbrev pub row_cell : Cell → List ℕ
 row_cell entry = value_cell entry.1
 
+abbrev pub name_cell : Cell → List ℕ
+name_cell entry = cell (width_of entry.1) entry.0
+
+-- the names of columns, each where its values end
+abbrev pub heading : List Cell → List ℕ
+heading cells = flat_map name_cell cells
+
 -- a name, with escapes for control characters, at the end of its line
 abbrev pub row_end : Option Name → List ℕ
 row_end None = codes "\n"

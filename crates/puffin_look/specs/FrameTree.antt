@@ -1,5 +1,5 @@
 -- A frame of a file as a tree of scopes.
-use Rattle.std.specs.Prelude.{◌≡◌, ℕ, zero, suc, ℤ, ◌-ℤ◌, unsigned_abs, Bool, true, false, List, [], ◌∷◌, ◌++◌, length, codes, fold, Some}
+use Rattle.std.specs.Prelude.{◌≡◌, ℕ, zero, suc, ℤ, pos, ◌-ℤ◌, unsigned_abs, Bool, true, false, List, [], ◌∷◌, ◌++◌, length, codes, fold, Some}
 use Rattle.std.specs.Fmt.{decimal}
 use Rattle.std.specs.FinMap as map
 use Rattle.std.specs.List.{flat_map}
@@ -16,7 +16,7 @@ use Rattle.puffin_look.specs.declared.wanted.Wanted.{Wanted}
 use Rattle.puffin_look.specs.Escapes.{escaped}
 use Rattle.puffin_look.specs.Names.{name_or_id}
 use Rattle.puffin_look.specs.ThreadLines.{thread_text}
-use Rattle.puffin_look.specs.Cells.{Cell, row_cell, grouped_moment, readable_time, length_of}
+use Rattle.puffin_look.specs.Cells.{Cell, row_cell, heading, grouped_moment, readable_time, length_of}
 use Rattle.puffin_look.specs.declared.rows.Value.TheVariants.{Offset, Time, Share}
 
 -- ---- a scope
@@ -39,10 +39,10 @@ outer_time whole [] = whole
 outer_time whole (span ∷ inner) = outer_time (time_of span) inner
 
 -- a scope's start in the frame, its duration, and its share of what it is in
-abbrev pub scope_cells : ℤ → ℕ → Span → List Cell
-scope_cells begin outer span =
-    (codes "start", Offset begin span.start) ∷ (codes "duration", Time (Some (time_of span)))
-    ∷ (codes "share", Share (time_of span) outer) ∷ []
+abbrev pub scope_cells : ℤ → ℤ → ℕ → ℕ → List Cell
+scope_cells begin start time outer =
+    (codes "start", Offset begin start) ∷ (codes "duration", Time (Some time))
+    ∷ (codes "share", Share time outer) ∷ []
 
 -- two blanks for each scope that it is in, its name and its text
 abbrev pub label_text : Collection → ℕ → Span → List ℕ
@@ -54,7 +54,8 @@ label_text known level span =
 -- a scope within so many others, the innermost of which takes this time
 abbrev pub nested_line : Collection → ℤ → ℕ → ℕ → Span → List ℕ
 nested_line known begin level outer span =
-    flat_map row_cell (scope_cells begin outer span) ++ (codes "  " ++ label_text known level span)
+    flat_map row_cell (scope_cells begin span.start (time_of span) outer)
+    ++ (codes "  " ++ label_text known level span)
 
 abbrev pub scope_line : Collection → ℤ × ℤ → ScopeInContext → List ℕ
 scope_line known range scope =
@@ -77,7 +78,8 @@ forest_lines known range forest = flat_map (scope_line known range) (nested_in [
 -- a thread, behind the names of the columns
 abbrev pub thread_line : ThreadKey → List ℕ
 thread_line key =
-    codes "       start    duration   share  thread " ++ (thread_text key ++ codes "\n")
+    heading (scope_cells (pos 0) (pos 0) 0 0)
+    ++ (codes "  thread " ++ (thread_text key ++ codes "\n"))
 
 -- a thread, and its scopes
 abbrev pub tree_text : Collection → ℤ × ℤ → Tree → List ℕ

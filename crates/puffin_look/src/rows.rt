@@ -2,7 +2,7 @@
 
 ghost use Rattle.std.specs.Prelude.{◌≡◌, ◌++◌, map, option_map, OnOk};
 ghost use Rattle.std.specs.List.{flat_map};
-ghost use Rattle.puffin_look.specs.Cells.{cell, width_of, value_text, row_cell, row_end};
+ghost use Rattle.puffin_look.specs.Cells.{cell, width_of, value_text, row_cell, heading, row_end};
 ghost use Rattle.puffin_look.specs.Objects.{row_text};
 ghost use Rattle.puffin_look.specs.inner.Lining.{Adds};
 ghost use Rattle.puffin_look.specs.inner.Rows.{cell_of, name_of};
@@ -101,6 +101,17 @@ pub(crate) fn push_cells(
         scratch.clear();
         push_value(scratch, cell.1)?;
         push_cell(text, cell.1.width(), scratch)?;
+    }
+    Ok(())
+}
+
+/// Appends the names of columns, each where its values end.
+pub(crate) fn push_heading(text: &mut Vec<u8>, cells: &[Cell]) -> Result<(), AllocError>
+    ensures { OnOk result (
+        text.new.items ≡ text.old.items ++ heading (map cell_of cells.now)) }
+{
+    for cell in cells {
+        push_cell(text, cell.1.width(), cell.0.as_bytes())?;
     }
     Ok(())
 }
