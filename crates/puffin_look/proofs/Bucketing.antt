@@ -19,7 +19,8 @@ steady zero m time a b = sym (small_in m time (omega arith))
 steady (suc n) zero time a b = small_in (suc n) time (omega arith)
 steady (suc n) (suc m) time a b = elim (cases_lt time 256) [
   | inl small ↦ small_in (suc n) time small ∙ sym (small_in (suc m) time small)
-  | inr large ↦ halved_in n time large ∙ ap (λ (b : ℕ). 128 + b) (steady n m (time / 2) (omega arith) (omega arith)) ∙ sym (halved_in m time large)
+  | inr large ↦ halved_in n time large ∙ ap (λ (b : ℕ). 128 + b) (steady n m (time / 2) (omega arith) (omega arith))
+      ∙ sym (halved_in m time large)
 ]
 
 pub bucket_small : (time : ℕ) → time < 256 → bucket_of time ≡ time
@@ -46,7 +47,9 @@ last_steady zero m bucket a b = sym (last_small_in m bucket (omega arith))
 last_steady (suc n) zero bucket a b = last_small_in (suc n) bucket (omega arith)
 last_steady (suc n) (suc m) bucket a b = elim (cases_lt bucket 256) [
   | inl small ↦ last_small_in (suc n) bucket small ∙ sym (last_small_in (suc m) bucket small)
-  | inr large ↦ doubled_in n bucket large ∙ ap (λ (x : ℕ). cut (cut (x * 2) + 1)) (last_steady n m (bucket - 128) (omega arith) (omega arith)) ∙ sym (doubled_in m bucket large)
+  | inr large ↦ doubled_in n bucket large
+      ∙ ap (λ (x : ℕ). cut (cut (x * 2) + 1)) (last_steady n m (bucket - 128) (omega arith) (omega arith))
+      ∙ sym (doubled_in m bucket large)
 ]
 
 pub last_small : (bucket : ℕ) → bucket < 256 → last_of bucket ≡ bucket
@@ -54,7 +57,9 @@ last_small bucket h = last_small_in bucket bucket h
 
 pub last_doubled : (bucket : ℕ) → 256 ≤ bucket → last_of bucket ≡ cut (cut (last_of (bucket - 128) * 2) + 1)
 last_doubled zero h = absurd (omega arith)
-last_doubled (suc n) h = doubled_in n (suc n) h ∙ ap (λ (x : ℕ). cut (cut (x * 2) + 1)) (last_steady n (suc n - 128) (suc n - 128) (omega arith) (omega arith))
+last_doubled (suc n) h =
+    doubled_in n (suc n) h ∙ ap (λ (x : ℕ). cut (cut (x * 2) + 1)) (last_steady n (suc n - 128) (suc n - 128) (omega arith)
+    (omega arith))
 
 -- ---- bounds
 
@@ -105,13 +110,15 @@ near_small time small =
     let same : last_of (bucket_of time) ≡ time = ap last_of (bucket_small time small) ∙ last_small time small in
     record { reached = omega (arith, same); near = λ h. omega (arith, same); exact = λ h. same }
 
-stepped : (time half last double : ℕ) → half ≡ time / 2 → 256 ≤ time → time < 2 ^ 64 → IsNear half last → double ≡ cut (cut (last * 2) + 1) → IsNear time double
+stepped : (time half last double : ℕ) → half ≡ time / 2 → 256 ≤ time → time < 2 ^ 64 → IsNear half last
+    → double ≡ cut (cut (last * 2) + 1) → IsNear time double
 stepped time half last double is large fits h same =
     let wide : (last - half + 1) * 128 ≤ half = h.near (omega arith) in
     let on : half ≤ last = h.reached in
     record { reached = omega arith; near = λ g. omega arith; exact = λ g. absurd (omega arith) }
 
-near_step : (time : ℕ) → 256 ≤ time → time < 2 ^ 64 → IsNear (time / 2) (last_of (bucket_of (time / 2))) → IsNear time (last_of (bucket_of time))
+near_step : (time : ℕ) → 256 ≤ time → time < 2 ^ 64 → IsNear (time / 2) (last_of (bucket_of (time / 2)))
+    → IsNear time (last_of (bucket_of time))
 near_step time large fits h =
     let low : 128 ≤ bucket_of (time / 2) = not_low_in (time / 2) (time / 2) (omega arith) in
     let below : bucket_of time - 128 ≡ bucket_of (time / 2) = omega (arith, bucket_halved time large) in

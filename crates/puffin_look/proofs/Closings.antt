@@ -1,5 +1,5 @@
 -- What is written of a list that has an end of its own.
-use Rattle.std.proofs.Common.{◌≡◌, ◌⊎◌, ℕ, true, false, List, [], ◌++◌, Option, Result, Ok, Err, inl, inr, refl, ap, subst, sym, ◌∙◌, append_assoc, append-nil}
+use Rattle.std.proofs.Common.{◌≡◌, ◌⊎◌, ℕ, ◌+◌, true, false, List, [], ◌++◌, Option, Result, Ok, Err, inl, inr, refl, ap, subst, sym, ◌∙◌, append_assoc, append-nil}
 use Rattle.std.specs.Prelude.{OnOk, OnErr, IfErr}
 use Rattle.std.specs.Io.KnownBytes.{Appends}
 use Rattle.std.proofs.KnownBytes.{Appends-nil, Appends-trans}
@@ -15,10 +15,11 @@ use Rattle.puffin_look.specs.declared.wanted.Indices.{Indices}
 use Rattle.puffin_look.specs.inner.Listings.{ListsAll, StopsBehind}
 use Rattle.puffin_look.specs.inner.Taken.{fails_outside}
 use Rattle.puffin_look.proofs.Listed.{told_behind}
-use Rattle.puffin_look.proofs.ThreadsPrinted.{outside_of, not_outside}
+use Rattle.puffin_look.proofs.ThreadsPrinted.{outside_of, not_outside, not_io}
 
 -- nothing was written
-module _ (IsText : List OpenFrame → List ℕ → Type 0) (Refuses : List OpenFrame → OpenFrame → Error → Type 0) (nothing : List ℕ) (said : IsText [] nothing) (unread left before : Option (List ℕ)) (e : FileError) where
+module _ (IsText : List OpenFrame → List ℕ → Type 0) (Refuses : List OpenFrame → OpenFrame → Error → Type 0) (nothing : List ℕ)
+    (said : IsText [] nothing) (unread left before : Option (List ℕ)) (e : FileError) where
   -- since the reader or memory failed
   pub none_written : IsOutside e → IsStopped IsText Refuses unread left before before e
   none_written outside = record {
@@ -40,21 +41,34 @@ module _ (IsText : List OpenFrame → List ℕ → Type 0) (Refuses : List OpenF
     opens = tt;
     text = nothing;
     is = said;
-    outcome = inr (inr (fails, refl, Appends-nil before));
+    outcome = inr (inr ((fails, refl), Appends-nil before));
   }
 
-begins_longer : (before after : Option (List ℕ)) (t more : List ℕ) → WritesBeginning before after t → WritesBeginning before after (t ++ more)
+begins_longer : (before after : Option (List ℕ)) (t more : List ℕ) → WritesBeginning before after t
+    → WritesBeginning before after (t ++ more)
 begins_longer before after t more h = (h.0, h.1 ++ more, ap (λ (x : List ℕ). x ++ more) h.2 ∙ append_assoc h.0 h.1 more, h.3)
 
-begins_behind : (before mid after : Option (List ℕ)) (t more : List ℕ) → Appends before mid t → WritesBeginning mid after more → WritesBeginning before after (t ++ more)
-begins_behind before mid after t more first part = (t ++ part.0, part.1, ap (λ (x : List ℕ). t ++ x) part.2 ∙ sym (append_assoc t part.0 part.1), Appends-trans before mid after t part.0 first part.3)
+begins_behind : (before mid after : Option (List ℕ)) (t more : List ℕ) → Appends before mid t → WritesBeginning mid after more
+    → WritesBeginning before after (t ++ more)
+begins_behind before mid after t more first part = (
+  t ++ part.0,
+  part.1,
+  ap (λ (x : List ℕ). t ++ x) part.2
+      ∙ sym (append_assoc t part.0 part.1),
+  Appends-trans before mid after t part.0 first part.3,
+)
 
-module _ {L : Type 0} (text : L → List ℕ) (takes : L → List OpenFrame → List ℕ → L → Type 0) (refuses : L → OpenFrame → Error → Type 0) (indices : Option Indices)
+module _ {L : Type 0} (text : L → List ℕ) (takes : L → List OpenFrame → List ℕ → L → Type 0)
+    (refuses : L → OpenFrame → Error → Type 0) (indices : Option Indices)
     (IsText : List OpenFrame → List ℕ → Type 0) (Refuses : List OpenFrame → OpenFrame → Error → Type 0) (finish : List ℕ) (old new : L)
-    (closed : (frames : List OpenFrame) (more : List ℕ) (v : L) → takes old (frames_within indices frames) more v → IsText frames ((text old ++ more) ++ finish))
-    (refused : (frames : List OpenFrame) (more : List ℕ) (v : L) (frame : OpenFrame) (cause : Error) → takes old (frames_within indices frames) more v → is_within indices frame.meta.frame_index ≡ true → refuses v frame cause → Refuses frames frame cause)
+    (closed : (frames : List OpenFrame) (more : List ℕ) (v : L) → takes old (frames_within indices frames) more v
+    → IsText frames ((text old ++ more) ++ finish))
+    (refused : (frames : List OpenFrame) (more : List ℕ) (v : L) (frame : OpenFrame) (cause : Error)
+    → takes old (frames_within indices frames) more v → is_within indices frame.meta.frame_index ≡ true
+    → refuses v frame cause → Refuses frames frame cause)
     (unread left before mid after : Option (List ℕ)) where
-  pub list_printed : ListsAll text takes indices old new unread left before mid → Appends mid after finish → IsPrinted IsText unread left before after
+  pub list_printed : ListsAll text takes indices old new unread left before mid → Appends mid after finish
+      → IsPrinted IsText unread left before after
   list_printed h app = record {
     stored = h.stored;
     took = h.took;
@@ -66,7 +80,8 @@ module _ {L : Type 0} (text : L → List ℕ) (takes : L → List OpenFrame → 
   }
 
   -- the end is cut off
-  all_cut : (e : FileError) → ListsAll text takes indices old new unread left before mid → e ≡ file.Io → WritesBeginning mid after finish → IsStopped IsText Refuses unread left before after e
+  all_cut : (e : FileError) → ListsAll text takes indices old new unread left before mid → e ≡ file.Io
+      → WritesBeginning mid after finish → IsStopped IsText Refuses unread left before after e
   all_cut e h io part = record {
     stored = h.stored;
     begins = h.begins;
@@ -78,11 +93,16 @@ module _ {L : Type 0} (text : L → List ℕ) (takes : L → List OpenFrame → 
   }
 
   module _ (e : FileError) (h : StopsBehind text takes refuses indices old new unread left before mid e) where
-    told : (IsOutside e × WritesBeginning before mid (text old ++ h.more)) ⊎ (Appends before mid (text old ++ h.more) × HasFaultBehind Refuses unread left h.stored h.listed.frames e)
+    told : (IsOutside e × WritesBeginning before mid (text old ++ h.more))
+        ⊎ (Appends before mid (text old ++ h.more) × HasFaultBehind Refuses unread left h.stored h.listed.frames e)
     told =
-        told_behind text takes indices refuses (λ frames t. IsText frames (t ++ finish)) Refuses old new unread left before mid e closed refused h
+        told_behind text takes indices refuses
+        (λ frames t. IsText frames (t ++ finish)) Refuses old new unread left before mid e closed refused h
 
-    stopped_by : (fault : FileError) → ((IsOutside fault × WritesBeginning before after ((text old ++ h.more) ++ finish)) ⊎ (Appends before after ((text old ++ h.more) ++ finish) × HasFaultBehind Refuses unread left h.stored h.listed.frames fault))
+    stopped_by : (fault : FileError)
+        → ((IsOutside fault × WritesBeginning before after ((text old ++ h.more) ++ finish))
+        ⊎ (Appends before after ((text old ++ h.more) ++ finish)
+        × HasFaultBehind Refuses unread left h.stored h.listed.frames fault))
         → IsStopped IsText Refuses unread left before after fault
     stopped_by fault how = record {
       stored = h.stored;
@@ -100,8 +120,17 @@ module _ {L : Type 0} (text : L → List ℕ) (takes : L → List OpenFrame → 
     -- the reader, the writer or memory failed, and no end was written
     pub list_open : mid ≡ after → fails_outside {X = Unit {0}} (Err e) ≡ true → IsStopped IsText Refuses unread left before after e
     list_open still loud = stopped_by e (elim told [
-      | inl outside ↦ inl (outside.0, subst (λ (d : Option (List ℕ)). WritesBeginning before d ((text old ++ h.more) ++ finish)) still (begins_longer before mid (text old ++ h.more) finish outside.1))
-      | inr behind ↦ inl (outside_of e loud, subst (λ (d : Option (List ℕ)). WritesBeginning before d ((text old ++ h.more) ++ finish)) still (begins_longer before mid (text old ++ h.more) finish (text old ++ h.more, [], sym (append-nil (text old ++ h.more)), behind.0)))
+      | inl outside ↦ inl (
+        outside.0,
+        subst (λ (d : Option (List ℕ)). WritesBeginning before d ((text old ++ h.more) ++ finish)) still
+            (begins_longer before mid (text old ++ h.more) finish outside.1),
+      )
+      | inr behind ↦ inl (
+        outside_of e loud,
+        subst (λ (d : Option (List ℕ)). WritesBeginning before d ((text old ++ h.more) ++ finish)) still
+            (begins_longer before mid (text old ++ h.more) finish
+            (text old ++ h.more, [], sym (append-nil (text old ++ h.more)), behind.0)),
+      )
     ])
 
     module _ (quiet : fails_outside {X = Unit {0}} (Err e) ≡ false) where
@@ -116,30 +145,46 @@ module _ {L : Type 0} (text : L → List ℕ) (takes : L → List OpenFrame → 
       list_closed app = stopped_by e (inr (Appends-trans before mid after (text old ++ h.more) finish behind_frames.0 app, behind_frames.1))
 
       -- and the end was cut off
-      pub fault_cut : (fault : FileError) → fault ≡ file.Io → WritesBeginning mid after finish → IsStopped IsText Refuses unread left before after fault
-      fault_cut fault io part = stopped_by fault (inl (inl io, begins_behind before mid after (text old ++ h.more) finish behind_frames.0 part))
+      pub fault_cut : (fault : FileError) → fault ≡ file.Io → WritesBeginning mid after finish
+          → IsStopped IsText Refuses unread left before after fault
+      fault_cut fault io part =
+          stopped_by fault (inl (inl io, begins_behind before mid after (text old ++ h.more) finish behind_frames.0 part))
 
   -- what a listing of frames ends with
   abbrev pub Ends : Result (Unit {0}) FileError → Type 0
-  Ends r = OnOk r (ListsAll text takes indices old new unread left before mid) × IfErr r (StopsBehind text takes refuses indices old new unread left before mid)
+  Ends r =
+      OnOk r (ListsAll text takes indices old new unread left before mid) × IfErr r
+      (StopsBehind text takes refuses indices old new unread left before mid)
 
-  pub told_open : (r : Result (Unit {0}) FileError) → mid ≡ after → fails_outside r ≡ true → Ends r → IfErr r (IsStopped IsText Refuses unread left before after)
+  pub told_open : (r : Result (Unit {0}) FileError) → mid ≡ after → fails_outside r ≡ true → Ends r
+      → IfErr r (IsStopped IsText Refuses unread left before after)
   told_open (Ok x) still loud s = tt
   told_open (Err e) still loud s = list_open e s.1 still loud
 
-  pub told_closed : (r : Result (Unit {0}) FileError) → fails_outside r ≡ false → Ends r → Appends mid after finish → IfErr r (IsStopped IsText Refuses unread left before after)
+  pub told_closed : (r : Result (Unit {0}) FileError) → fails_outside r ≡ false → Ends r → Appends mid after finish
+      → IfErr r (IsStopped IsText Refuses unread left before after)
   told_closed (Ok x) quiet s app = tt
   told_closed (Err e) quiet s app = list_closed e s.1 quiet app
 
-  pub told_printed : (r : Result (Unit {0}) FileError) → Ends r → Appends mid after finish → OnOk r (IsPrinted IsText unread left before after)
+  pub told_printed : (r : Result (Unit {0}) FileError) → Ends r → Appends mid after finish
+      → OnOk r (IsPrinted IsText unread left before after)
   told_printed (Ok x) s app = list_printed s.0 app
   told_printed (Err e) s app = tt
 
-  pub end_cut : (r : Result (Unit {0}) FileError) (fault : FileError) → fails_outside r ≡ false → Ends r → fault ≡ file.Io → WritesBeginning mid after finish → IsStopped IsText Refuses unread left before after fault
+  pub end_cut : (r : Result (Unit {0}) FileError) (fault : FileError) → fails_outside r ≡ false → Ends r → fault ≡ file.Io
+      → WritesBeginning mid after finish → IsStopped IsText Refuses unread left before after fault
   end_cut (Ok x) fault quiet s io part = all_cut fault s.0 io part
   end_cut (Err e) fault quiet s io part = fault_cut e s.1 quiet fault io part
 
 -- what a write that failed leaves
-pub cut_told : {T W : Type 0} (X Q : FileError → Type 0) (r : Result T FileError) → ((e : FileError) → e ≡ file.Io → W → Q e) → OnErr r W → IfErr r (λ e. (e ≡ file.Io) × X e) → IfErr r Q
+pub cut_told : {T W : Type 0} (X Q : FileError → Type 0) (r : Result T FileError) → ((e : FileError) → e ≡ file.Io → W → Q e)
+    → OnErr r W → IfErr r (λ e. (e ≡ file.Io) × X e) → IfErr r Q
 cut_told X Q (Ok x) step part io = tt
 cut_told X Q (Err e) step part io = step e io.0 part
+
+-- The write of the end failed, and no read or write did before it.
+pub end_failed : {Read Nothing : Type 0} (r : Result (Unit {0}) FileError) (before mid after : ℕ) → fails_outside r ≡ false
+    → ((r ≡ Err file.Io → ⊥) → mid ≡ before) → (after ≡ mid + 1) ⊎ Nothing → Read ⊎ ((after ≡ before + 1) ⊎ Nothing)
+end_failed r before mid after quiet drained (inl failed) =
+    inr (inl (failed ∙ ap (λ (n : ℕ). n + 1) (drained (not_io r quiet))))
+end_failed r before mid after quiet drained (inr nothing) = inr (inr nothing)

@@ -18,32 +18,43 @@ module _ (form : Form) (rows : List Row) (level : ℕ) (front : List ℕ) (outer
   steps_none (suc n) none = ap (lines_with (follow n) level outer) none
 
   -- nothing below takes half of it
-  pub steps_end : (n : ℕ) (step : Step) → heaviest front rows ≡ Some step → is_followed level step.1 outer ≡ false → step_lines form n rows level front outer ≡ []
+  pub steps_end : (n : ℕ) (step : Step) → heaviest front rows ≡ Some step → is_followed level step.1 outer ≡ false
+      → step_lines form n rows level front outer ≡ []
   steps_end zero step is not = refl
   steps_end (suc n) step is not = ap (lines_with (follow n) level outer) is ∙ ap (λ (b : Bool). if b then follow n step else []) not
 
-  steps_more : (n : ℕ) (step : Step) → heaviest front rows ≡ Some step → is_followed level step.1 outer ≡ true → step_lines form (suc n) rows level front outer ≡ follow n step
+  steps_more : (n : ℕ) (step : Step) → heaviest front rows ≡ Some step → is_followed level step.1 outer ≡ true
+      → step_lines form (suc n) rows level front outer ≡ follow n step
   steps_more n step is half = ap (lines_with (follow n) level outer) is ∙ ap (λ (b : Bool). if b then follow n step else []) half
 
 -- ---- the best of the paths so far
 
-pub best_more : (front : List ℕ) (best new : Option Step) (e : Held) (rest it : List Held) (total : Option Step) → it ≡ e ∷ rest → new ≡ heavier front best (row_of e) → fold (heavier front) best (rows_in it) ≡ total → fold (heavier front) new (rows_in rest) ≡ total
+pub best_more : (front : List ℕ) (best new : Option Step) (e : Held) (rest it : List Held) (total : Option Step) → it ≡ e ∷ rest
+    → new ≡ heavier front best (row_of e) → fold (heavier front) best (rows_in it) ≡ total
+    → fold (heavier front) new (rows_in rest) ≡ total
 best_more front best new e rest it total left is so_far =
-    ap (λ (b : Option Step). fold (heavier front) b (rows_in rest)) is ∙ ap (λ (es : List Held). fold (heavier front) best (rows_in es)) (sym left) ∙ so_far
+    ap (λ (b : Option Step). fold (heavier front) b (rows_in rest)) is
+    ∙ ap (λ (es : List Held). fold (heavier front) best (rows_in es)) (sym left) ∙ so_far
 
-pub best_done : (front : List ℕ) (best : Option Step) (it : List Held) (total : Option Step) → it ≡ [] → fold (heavier front) best (rows_in it) ≡ total → best ≡ total
+pub best_done : (front : List ℕ) (best : Option Step) (it : List Held) (total : Option Step) → it ≡ []
+    → fold (heavier front) best (rows_in it) ≡ total → best ≡ total
 best_done front best it total none so_far = ap (λ (es : List Held). fold (heavier front) best (rows_in es)) (sym none) ∙ so_far
 
 -- ---- the steps so far
 
-module _ (form : Form) (rows : List Row) (level : ℕ) (front : List ℕ) (outer n : ℕ) (before : Lines) (total : List ℕ) (so_far : Lists before (step_lines form n rows level front outer) total) where
-  pub step_taken : (m inner : ℕ) (step : Step) (after : Lines) (new : List ℕ) → n ≡ suc m → inner ≡ suc level → heaviest front rows ≡ Some step → is_followed level step.1 outer ≡ true
-      → Adds before after (step_line form level (length front) step outer) → new ≡ step.0 ++ codes ";" → Lists after (step_lines form m rows inner new step.1) total
+module _ (form : Form) (rows : List Row) (level : ℕ) (front : List ℕ) (outer n : ℕ) (before : Lines) (total : List ℕ)
+    (so_far : Lists before (step_lines form n rows level front outer) total) where
+  pub step_taken : (m inner : ℕ) (step : Step) (after : Lines) (new : List ℕ) → n ≡ suc m → inner ≡ suc level
+      → heaviest front rows ≡ Some step → is_followed level step.1 outer ≡ true
+      → Adds before after (step_line form level (length front) step outer) → new ≡ step.0 ++ codes ";"
+      → Lists after (step_lines form m rows inner new step.1) total
   step_taken m inner step after new count one is half added name =
-      let all : step_lines form n rows level front outer ≡ step_line form level (length front) step outer ∷ step_lines form m rows (suc level) (step.0 ++ codes ";") step.1 =
+      let all : step_lines form n rows level front outer ≡ step_line form level (length front) step outer ∷ step_lines form m rows
+      (suc level) (step.0 ++ codes ";") step.1 =
       ap (λ (k : ℕ). step_lines form k rows level front outer) count ∙ steps_more form rows level front outer m step is half in
       subst (λ (ls : List (List ℕ)). Lists after ls total) (sym (λ i. step_lines form m rows (one i) (name i) step.1))
-      (lists_more before after (step_line form level (length front) step outer) _ total added (subst (λ (ls : List (List ℕ)). Lists before ls total) all so_far))
+      (lists_more before after (step_line form level (length front) step outer) _ total added
+      (subst (λ (ls : List (List ℕ)). Lists before ls total) all so_far))
 
   -- no step follows
   pub steps_done : step_lines form n rows level front outer ≡ [] → before.text.items ≡ total

@@ -15,7 +15,8 @@ use Rattle.std.specs.Fmt.{signed_decimal}
 is_digit : (x : ℕ) → 48 ≤ x → x ≤ 57 → is_ascii_digit x ≡ true
 is_digit x l h = and_from _ _ (le-leb 48 x l) (le-leb x 57 h)
 
-digits_before : (ds rest : List ℕ) → ((i : ℕ) → i < length ds → (48 ≤ get_or ds i 0) × (get_or ds i 0 ≤ 57)) → prefix_len is_ascii_digit rest ≡ 0 → prefix_len is_ascii_digit (ds ++ rest) ≡ length ds
+digits_before : (ds rest : List ℕ) → ((i : ℕ) → i < length ds → (48 ≤ get_or ds i 0) × (get_or ds i 0 ≤ 57))
+    → prefix_len is_ascii_digit rest ≡ 0 → prefix_len is_ascii_digit (ds ++ rest) ≡ length ds
 digits_before [] rest h none = none
 digits_before (d ∷ ds) rest h none =
     let first = h 0 (omega arith) in
@@ -26,17 +27,22 @@ drop_front : (ds rest : List ℕ) → drop (length ds) (ds ++ rest) ≡ rest
 drop_front [] rest = refl
 drop_front (d ∷ ds) rest = drop_front ds rest
 
-whole_before : (ds rest : List ℕ) → 48 < get_or ds 0 0 → prefix_len is_ascii_digit (ds ++ rest) ≡ length ds → (after_whole (ds ++ rest) ≡ Some rest) × ((head (ds ++ rest) == 45) ≡ false)
+whole_before : (ds rest : List ℕ) → 48 < get_or ds 0 0 → prefix_len is_ascii_digit (ds ++ rest) ≡ length ds
+    → (after_whole (ds ++ rest) ≡ Some rest) × ((head (ds ++ rest) == 45) ≡ false)
 whole_before [] rest first all = absurd (omega arith)
 whole_before (d ∷ ds) rest first all = (
   rw (ne_eqb d 48 (λ e. omega arith), all, ne_eqb (suc (length ds)) 0 (λ e. omega arith)) (ap Some (drop_front ds rest)),
   ne_eqb d 45 (λ e. omega arith),
 )
 
-decimal_before : (n : ℕ) (rest : List ℕ) → n < 2 ^ 64 → prefix_len is_ascii_digit rest ≡ 0 → (after_whole (decimal n ++ rest) ≡ Some rest) × ((head (decimal n ++ rest) == 45) ≡ false)
-decimal_before zero rest h none = let e = decimal_digit 0 (omega arith) in (ap (λ l. after_whole (l ++ rest)) e, ap (λ l. head (l ++ rest) == 45) e)
+decimal_before : (n : ℕ) (rest : List ℕ) → n < 2 ^ 64 → prefix_len is_ascii_digit rest ≡ 0
+    → (after_whole (decimal n ++ rest) ≡ Some rest) × ((head (decimal n ++ rest) == 45) ≡ false)
+decimal_before zero rest h none =
+    let e = decimal_digit 0 (omega arith) in (ap (λ l. after_whole (l ++ rest)) e, ap (λ l. head (l ++ rest) == 45) e)
 decimal_before (suc n) rest h none =
-    whole_before (decimal (suc n)) rest (first_decimal (suc n) (omega arith) h) (digits_before _ rest (λ i l. digit_at _ i (decimal_is_IsNumeral (suc n) h).0.1 l) none)
+    let numeral = (decimal_is_IsNumeral (suc n) h).0 in
+    whole_before (decimal (suc n)) rest (first_decimal (suc n) (omega arith) h)
+    (digits_before _ rest (λ i l. digit_at _ i numeral.1 l) none)
 
 -- a byte of a digit
 abbrev digit : ℕ → ℕ
@@ -49,7 +55,8 @@ after_one : (x : ℕ) → is_ascii_digit x ≡ true → after_digits (x ∷ []) 
 after_one x h = ap (λ b. cond (cond b (1 + 0) 0 == 0) None (Some (drop (cond b (1 + 0) 0) (x ∷ [])))) h
 
 after_two : (x y : ℕ) → is_ascii_digit x ≡ true → is_ascii_digit y ≡ true → after_digits (x ∷ y ∷ []) ≡ Some []
-after_two x y h k = ap₂ (λ b c. cond (cond b (1 + cond c (1 + 0) 0) 0 == 0) None (Some (drop (cond b (1 + cond c (1 + 0) 0) 0) (x ∷ y ∷ [])))) h k
+after_two x y h k =
+    ap₂ (λ b c. cond (cond b (1 + cond c (1 + 0) 0) 0 == 0) None (Some (drop (cond b (1 + cond c (1 + 0) 0) 0) (x ∷ y ∷ [])))) h k
 
 fraction_number : (n : ℕ) (ds : List ℕ) → n < 2 ^ 64 → after_digits ds ≡ Some [] → IsNumber (decimal n ++ 46 ∷ ds)
 unfolding after_number

@@ -9,11 +9,12 @@ use Rattle.std.proofs.lemmas.List.{length-map}
 use Rattle.puffin_threads.specs.declared.thread_profiler.thread_info.ThreadInfo.{ThreadInfo}
 use Rattle.puffin_threads.specs.Thread.ThreadKey.{ThreadKey, key_of, thread_cmp, by_key}
 use Rattle.puffin_frames.proofs.lemmas.Keyed.{by_key-insert, entries-by_key}
-use Rattle.puffin_look.specs.Trace.{Numbers, number_or, number_of, numbered_or, naming_or}
+use Rattle.puffin_look.specs.Trace.{number_or, number_of, numbered_or, naming_or}
 use Rattle.puffin_look.specs.inner.Tracings.{NumbersThread, AddsThread}
 use Rattle.puffin_look.specs.declared.trace.Trace.{Trace}
 
-pub known_thread : (v : Trace) (key : ThreadKey) (tid : ℕ) → tree.get (by_key v.numbers.entries) key ≡ Some tid → (tid ≡ number_of (by_key v.numbers.entries) key) × AddsThread v v key
+pub known_thread : (v : Trace) (key : ThreadKey) (tid : ℕ) → tree.get (by_key v.numbers.entries) key ≡ Some tid
+    → (tid ≡ number_of (by_key v.numbers.entries) key) × AddsThread v v key
 known_thread v key tid is =
     let numbers = by_key v.numbers.entries in (
       sym (ap (number_or numbers) is),
@@ -25,13 +26,15 @@ known_thread v key tid is =
     )
 
 pub new_thread : {E : Type 0} (v u : Trace) (key : ThreadKey) (r : Result ℕ E) → tree.get (by_key v.numbers.entries) key ≡ None
-    → IfOk r (λ tid. (tid ≡ tree.len (by_key v.numbers.entries) + 1) × NumbersThread v u key tid) → IfOk r (λ tid. (tid ≡ number_of (by_key v.numbers.entries) key) × AddsThread v u key)
+    → IfOk r (λ tid. (tid ≡ tree.len (by_key v.numbers.entries) + 1) × NumbersThread v u key tid)
+    → IfOk r (λ tid. (tid ≡ number_of (by_key v.numbers.entries) key) × AddsThread v u key)
 new_thread v u key (Ok tid) none h =
     let numbers = by_key v.numbers.entries in
     let n = h.1 in (
       h.0 ∙ sym (ap (number_or numbers) none),
       record {
-        text = n.text ∙ ap (λ (k : ℕ). v.events.text.items ++ Rattle.puffin_look.specs.Trace.thread_event k key) h.0 ∙ sym (ap (λ (o : Option ℕ). v.events.text.items ++ naming_or numbers key o) none);
+        text = n.text ∙ ap (λ (k : ℕ). v.events.text.items ++ Rattle.puffin_look.specs.Trace.thread_event k key) h.0
+            ∙ sym (ap (λ (o : Option ℕ). v.events.text.items ++ naming_or numbers key o) none);
         overview = n.overview;
         numbers = n.numbers ∙ ap (tree.insert numbers key) h.0 ∙ sym (ap (numbered_or numbers key) none);
       },
@@ -42,5 +45,8 @@ new_thread v u key (Err e) none h = tt
 pub numbers_len : (es : List (ThreadInfo × ℕ)) → IsStrictlySortedBy thread_cmp (keys_of es) → tree.len (by_key es) ≡ length es
 numbers_len es sorted = tree.len-entries (by_key es) ∙ ap length (entries-by_key es sorted) ∙ length-map es _
 
-pub thread_inserted : (old new : List (ThreadInfo × ℕ)) (copy thread : ThreadInfo) (tid : ℕ) → new ≡ insert_entry thread_cmp old copy tid → key_of copy ≡ key_of thread → by_key new ≡ tree.insert (by_key old) (key_of thread) tid
-thread_inserted old new copy thread tid is same = ap by_key is ∙ by_key-insert old copy tid ∙ ap (λ (k : ThreadKey). tree.insert (by_key old) k tid) same
+pub thread_inserted : (old new : List (ThreadInfo × ℕ)) (copy thread : ThreadInfo) (tid : ℕ)
+    → new ≡ insert_entry thread_cmp old copy tid → key_of copy ≡ key_of thread
+    → by_key new ≡ tree.insert (by_key old) (key_of thread) tid
+thread_inserted old new copy thread tid is same =
+    ap by_key is ∙ by_key-insert old copy tid ∙ ap (λ (k : ThreadKey). tree.insert (by_key old) k tid) same

@@ -16,11 +16,16 @@ use Rattle.puffin_look.specs.declared.page_rows.PageRows.{PageRows}
 use Rattle.puffin_look.proofs.Pushed.{pushed2, pushed5}
 use Rattle.puffin_look.proofs.Traced.{spelled_more}
 
-pub pushed6 : (before first second third fourth fifth after a b c d e f : List ℕ) → first ≡ before ++ a → second ≡ first ++ b → third ≡ second ++ c → fourth ≡ third ++ d → fifth ≡ fourth ++ e → after ≡ fifth ++ f → after ≡ before ++ (a ++ (b ++ (c ++ (d ++ (e ++ f)))))
-pushed6 before first second third fourth fifth after a b c d e f one two three four five six = pushed2 before first after a (b ++ (c ++ (d ++ (e ++ f)))) one (pushed5 first second third fourth fifth after b c d e f two three four five six)
+pub pushed6 : (before first second third fourth fifth after a b c d e f : List ℕ) → first ≡ before ++ a → second ≡ first ++ b
+    → third ≡ second ++ c → fourth ≡ third ++ d → fifth ≡ fourth ++ e → after ≡ fifth ++ f
+    → after ≡ before ++ (a ++ (b ++ (c ++ (d ++ (e ++ f)))))
+pushed6 before first second third fourth fifth after a b c d e f one two three four five six =
+    pushed2 before first after a (b ++ (c ++ (d ++ (e ++ f)))) one
+    (pushed5 first second third fourth fifth after b c d e f two three four five six)
 
 -- a thread's start and name, its scopes, and the end
-pub thread_made : (v named filled new : PageRows) (key : ThreadKey) (f : Forest) → HasMoreRows v named (key_json key) → HasMoreRows named filled (rows_json named.begin f)
+pub thread_made : (v named filled new : PageRows) (key : ThreadKey) (f : Forest) → HasMoreRows v named (key_json key)
+    → HasMoreRows named filled (rows_json named.begin f)
     → new.text.items ≡ filled.text.items ++ codes "]" → new.begin ≡ filled.begin → HasMoreRows v new (thread_json v.begin (key, f))
 thread_made v named filled new key f one two end same =
     let rows : rows_json named.begin f ≡ rows_json v.begin f = λ i. rows_json (one.begin i) f in
@@ -45,7 +50,8 @@ module _ (meta : FrameMeta) where
     pub text : now.text.items ≡ head_json meta ++ threads_json trees
     pub begin : now.begin ≡ meta.range_ns.0
 
-  making_begun : (now : PageRows) (entries : List Entry) → now.text.items ≡ head_json meta → now.begin ≡ meta.range_ns.0 → IsMaking now entries entries
+  making_begun : (now : PageRows) (entries : List Entry) → now.text.items ≡ head_json meta → now.begin ≡ meta.range_ns.0
+      → IsMaking now entries entries
   making_begun now entries text begin = record {
     earlier = [];
     all = refl;
@@ -55,10 +61,14 @@ module _ (meta : FrameMeta) where
     begin = begin;
   }
 
-  pub making_at : (now : PageRows) (entries left : List Entry) → now.text.items ≡ head_json meta → now.begin ≡ meta.range_ns.0 → left ≡ entries → IsMaking now entries left
-  making_at now entries left text begin same = subst (λ (es : List Entry). IsMaking now entries es) (sym same) (making_begun now entries text begin)
+  pub making_at : (now : PageRows) (entries left : List Entry) → now.text.items ≡ head_json meta → now.begin ≡ meta.range_ns.0
+      → left ≡ entries → IsMaking now entries left
+  making_at now entries left text begin same =
+      subst (λ (es : List Entry). IsMaking now entries es) (sym same) (making_begun now entries text begin)
 
-  pub making_more : (now new : PageRows) (entries left rest : List Entry) (e : Entry) (f : Forest) → left ≡ e ∷ rest → IsMaking now entries left → Spells e.1.form e.1.bytes f → HasMoreRows now new (thread_json now.begin (e.0, f)) → IsMaking new entries rest
+  pub making_more : (now new : PageRows) (entries left rest : List Entry) (e : Entry) (f : Forest) → left ≡ e ∷ rest
+      → IsMaking now entries left → Spells e.1.form e.1.bytes f → HasMoreRows now new (thread_json now.begin (e.0, f))
+      → IsMaking new entries rest
   making_more now new entries left rest e f next h spells a =
       let t : Tree = (e.0, f) in
       let one = thread_json meta.range_ns.0 in
@@ -69,11 +79,13 @@ module _ (meta : FrameMeta) where
         spelled = spelled_more h.earlier h.trees e t h.spelled ((refl, spells), tt);
         text = a.text ∙ (λ i. h.text i ++ thread_json (h.begin i) t)
             ∙ append_assoc (head_json meta) (threads_json h.trees) (one t)
-            ∙ ap (λ (x : List ℕ). head_json meta ++ x) (ap (λ (x : List ℕ). threads_json h.trees ++ x) (sym (append-nil (one t))) ∙ sym (flat_map-append one h.trees (t ∷ [])));
+            ∙ ap (λ (x : List ℕ). head_json meta ++ x) (ap (λ (x : List ℕ). threads_json h.trees ++ x) (sym (append-nil (one t)))
+            ∙ sym (flat_map-append one h.trees (t ∷ [])));
         begin = a.begin ∙ h.begin;
       }
 
-  pub making_unread : (now : PageRows) (entries left rest : List Entry) (e : Entry) (fault : Error) → left ≡ e ∷ rest → IsMaking now entries left → IsFault e.1.form e.1.bytes fault → AreUnread entries fault
+  pub making_unread : (now : PageRows) (entries left rest : List Entry) (e : Entry) (fault : Error) → left ≡ e ∷ rest
+      → IsMaking now entries left → IsFault e.1.form e.1.bytes fault → AreUnread entries fault
   making_unread now entries left rest e fault next h faulty = record {
     earlier = h.earlier;
     entry = e;
@@ -85,11 +97,13 @@ module _ (meta : FrameMeta) where
   }
 
   -- a frame whose streams are all made, and the end
-  pub frame_made : (now : PageRows) (held entries left : List Entry) (json : List ℕ) → left ≡ [] → IsMaking now entries left → held ≡ entries → json ≡ now.text.items ++ codes "]"
+  pub frame_made : (now : PageRows) (held entries left : List Entry) (json : List ℕ) → left ≡ [] → IsMaking now entries left
+      → held ≡ entries → json ≡ now.text.items ++ codes "]"
       → (trees : List Tree) × AreSpelled held trees × (json ≡ frame_json (record { meta = meta; trees = trees }))
   frame_made now held entries left json none h same end = (
     h.trees,
-    subst (λ (es : List Entry). AreSpelled es h.trees) (sym (same ∙ h.all ∙ ap (λ (es : List Entry). h.earlier ++ es) none ∙ append-nil h.earlier)) h.spelled,
+    subst (λ (es : List Entry). AreSpelled es h.trees)
+        (sym (same ∙ h.all ∙ ap (λ (es : List Entry). h.earlier ++ es) none ∙ append-nil h.earlier)) h.spelled,
     end ∙ ap (λ (x : List ℕ). x ++ codes "]") h.text ∙ append_assoc (head_json meta) (threads_json h.trees) (codes "]"),
   )
 
@@ -97,7 +111,8 @@ module _ (meta : FrameMeta) where
 
 all_more : (xs ys : List ℕ) → list_all begins_none xs ≡ true → list_all begins_none ys ≡ true → list_all begins_none (xs ++ ys) ≡ true
 all_more [] ys h k = k
-all_more (x ∷ xs) ys h k = both (begins_none x) (list_all begins_none xs) (list_all begins_none (xs ++ ys)) h (λ more. all_more xs ys more k)
+all_more (x ∷ xs) ys h k =
+    both (begins_none x) (list_all begins_none xs) (list_all begins_none (xs ++ ys)) h (λ more. all_more xs ys more k)
   where
     both : (b c d : Bool) → (b && c) ≡ true → (c ≡ true → d ≡ true) → (b && d) ≡ true
     both true c d h next = next h

@@ -35,14 +35,20 @@ values_seen [] = refl
 values_seen (e ∷ es) = ap (λ (l : List Details). details_of (arc_value e.1) ∷ l) (values_seen es)
 
 -- those of a collection, in ascending order of id
-pub values_held : {A : Type 0} (es : List (ℕ × Arc ScopeDetails A)) → IsStrictlySortedBy nat_cmp (keys_of es) → values (by_ids es) ≡ shared_details (values_of es)
-values_held es sorted = ap (map (λ e. e.1)) (entries-seen (λ k. k) (λ d. details_of (arc_value d)) nat_cmp nat_cmp_total es sorted) ∙ values_seen es
+pub values_held : {A : Type 0} (es : List (ℕ × Arc ScopeDetails A)) → IsStrictlySortedBy nat_cmp (keys_of es)
+    → values (by_ids es) ≡ shared_details (values_of es)
+values_held es sorted =
+    ap (map (λ e. e.1)) (entries-seen (λ k. k) (λ d. details_of (arc_value d)) nat_cmp nat_cmp_total es sorted) ∙ values_seen es
 
 -- one more of them
-pub details_more : {A : Type 0} (es rest : List (ℕ × Arc ScopeDetails A)) (e : ℕ × Arc ScopeDetails A) (text new all : List ℕ) → es ≡ e ∷ rest → new ≡ text ++ details_element (details_of (arc_value e.1)) → text ++ flat_map details_element (shared_details (values_of es)) ≡ all
+pub details_more : {A : Type 0} (es rest : List (ℕ × Arc ScopeDetails A)) (e : ℕ × Arc ScopeDetails A) (text new all : List ℕ)
+    → es ≡ e ∷ rest → new ≡ text ++ details_element (details_of (arc_value e.1))
+    → text ++ flat_map details_element (shared_details (values_of es)) ≡ all
     → new ++ flat_map details_element (shared_details (values_of rest)) ≡ all
 details_more es rest e text new all next step h =
-    ap (λ (t : List ℕ). t ++ flat_map details_element (shared_details (values_of rest))) step ∙ append_assoc text (details_element (details_of (arc_value e.1))) (flat_map details_element (shared_details (values_of rest)))
+    ap (λ (t : List ℕ). t ++ flat_map details_element (shared_details (values_of rest))) step
+    ∙ append_assoc text (details_element (details_of (arc_value e.1)))
+    (flat_map details_element (shared_details (values_of rest)))
     ∙ ap (λ es. text ++ flat_map details_element (shared_details (values_of es))) (sym next) ∙ h
 
 -- ---- a frame
@@ -54,28 +60,34 @@ module _ (old : Page) (frame : OpenFrame) where
   abbrev tree_of : List Tree → TreeFrame
   tree_of trees = record { meta = frame.meta; trees = trees }
 
-  streams_are : (b : Bool) → is_chosen chosen frame.meta.frame_index ≡ b → chosen_streams chosen frame ≡ (if b then all_streams frame else [])
+  streams_are : (b : Bool) → is_chosen chosen frame.meta.frame_index ≡ b
+      → chosen_streams chosen frame ≡ (if b then all_streams frame else [])
   streams_are b is = ap (λ (x : Bool). if x then all_streams frame else []) is
 
-  element_is : (trees : List Tree) (b : Bool) → is_chosen chosen frame.meta.frame_index ≡ b → frame_element chosen (tree_of trees) ≡ (if b then element (codes "frame") (frame_json (tree_of trees)) else [])
+  element_is : (trees : List Tree) (b : Bool) → is_chosen chosen frame.meta.frame_index ≡ b
+      → frame_element chosen (tree_of trees) ≡ (if b then element (codes "frame") (frame_json (tree_of trees)) else [])
   element_is trees b is = ap (λ (x : Bool). if x then element (codes "frame") (frame_json (tree_of trees)) else []) is
 
   -- a frame that the page has
-  pub frame_placed : (new : Page) (json : List ℕ) → is_chosen chosen frame.meta.frame_index ≡ true → (made : (trees : List Tree) × AreSpelled (all_streams frame) trees × (json ≡ frame_json (tree_of trees)))
-      → new.text.items ≡ old.text.items ++ element (codes "frame") json → new.frames ≡ old.frames → (more : List ℕ) × (new.text.items ≡ old.text.items ++ more) × TakesPage old (frame ∷ []) more new
+  pub frame_placed : (new : Page) (json : List ℕ) → is_chosen chosen frame.meta.frame_index ≡ true
+      → (made : (trees : List Tree) × AreSpelled (all_streams frame) trees × (json ≡ frame_json (tree_of trees)))
+      → new.text.items ≡ old.text.items ++ element (codes "frame") json → new.frames ≡ old.frames
+      → (more : List ℕ) × (new.text.items ≡ old.text.items ++ more) × TakesPage old (frame ∷ []) more new
   frame_placed new json has made text same = (
     element (codes "frame") json,
     text,
     record {
       trees = tree_of made.0 ∷ [];
       read = (record { meta = refl; trees = subst (λ (es : List Entry). AreSpelled es made.0) (sym (streams_are true has)) made.1 }, tt);
-      is = ap (element (codes "frame")) made.2 ∙ sym (element_is made.0 true has) ∙ sym (append-nil (frame_element chosen (tree_of made.0)));
+      is = ap (element (codes "frame")) made.2 ∙ sym (element_is made.0 true has)
+          ∙ sym (append-nil (frame_element chosen (tree_of made.0)));
       chosen = same;
     },
   )
 
   -- one that it doesn't have
-  pub frame_passed : is_chosen chosen frame.meta.frame_index ≡ false → (more : List ℕ) × (old.text.items ≡ old.text.items ++ more) × TakesPage old (frame ∷ []) more old
+  pub frame_passed : is_chosen chosen frame.meta.frame_index ≡ false
+      → (more : List ℕ) × (old.text.items ≡ old.text.items ++ more) × TakesPage old (frame ∷ []) more old
   frame_passed hasnt = (
     [],
     sym (append-nil old.text.items),
@@ -87,7 +99,8 @@ module _ (old : Page) (frame : OpenFrame) where
     },
   )
 
-  pub frame_unread : (fault : Error) → is_chosen chosen frame.meta.frame_index ≡ true → AreUnread (all_streams frame) fault → RefusesFrame old frame fault
+  pub frame_unread : (fault : Error) → is_chosen chosen frame.meta.frame_index ≡ true → AreUnread (all_streams frame) fault
+      → RefusesFrame old frame fault
   frame_unread fault has unread = subst (λ (es : List Entry). AreUnread es fault) (sym (streams_are true has)) unread
 
 -- ---- a file
@@ -96,7 +109,8 @@ abbrev pub text_in : Page → List ℕ
 text_in v = v.text.items
 
 -- nothing was written, since memory ran out
-pub none_written : (k : Collection) (c : PageFrames) (unread left before : Option (List ℕ)) (e : FileError) → e ≡ file.Memory → IsStopped (IsPageData k c) (RefusesUnread None (chosen_streams c)) unread left before before e
+pub none_written : (k : Collection) (c : PageFrames) (unread left before : Option (List ℕ)) (e : FileError) → e ≡ file.Memory
+    → IsStopped (IsPageData k c) (RefusesUnread None (chosen_streams c)) unread left before before e
 none_written k c unread left before e memory = record {
   stored = [];
   begins = inl refl;
@@ -108,19 +122,27 @@ none_written k c unread left before e memory = record {
 }
 
 module _ (old new : Page) (k : Collection) (c : PageFrames) (head : text_in old ≡ details_elements k) (same : old.frames.now ≡ c) where
-  page_text : (frames : List OpenFrame) (more : List ℕ) (v : Page) → TakesPage old frames more v → IsPageData k c frames (text_in old ++ more)
+  page_text : (frames : List OpenFrame) (more : List ℕ) (v : Page) → TakesPage old frames more v
+      → IsPageData k c frames (text_in old ++ more)
   page_text frames more v taken = (
     taken.trees,
     subst (λ (p : PageFrames). AreRead (chosen_streams p) frames taken.trees) same taken.read,
     (λ i. head i ++ (taken.is ∙ (λ j. flat_map (frame_element (same j)) taken.trees)) i),
   )
 
-  pub page_stopped : (unread left before after : Option (List ℕ)) (e : FileError) → StopsListing text_in TakesPage RefusesFrame None old new unread left before after e → IsStopped (IsPageData k c) (RefusesUnread None (chosen_streams c)) unread left before after e
+  pub page_stopped : (unread left before after : Option (List ℕ)) (e : FileError)
+      → StopsListing text_in TakesPage RefusesFrame None old new unread left before after e
+      → IsStopped (IsPageData k c) (RefusesUnread None (chosen_streams c)) unread left before after e
   page_stopped unread left before after e h =
-      stopped text_in TakesPage None RefusesFrame (IsPageData k c) (RefusesUnread None (chosen_streams c)) old new unread left before after e page_text
-      (λ frames more v frame cause taken there refused. (there, subst (λ (p : PageFrames). AreUnread (chosen_streams p frame) cause) ((λ i. (taken.chosen i).now) ∙ same) refused)) h
+      stopped text_in TakesPage None RefusesFrame (IsPageData k c)
+      (RefusesUnread None (chosen_streams c)) old new unread left before after e page_text
+      (λ frames more v frame cause taken there refused. (
+        there,
+        subst (λ (p : PageFrames). AreUnread (chosen_streams p frame) cause) ((λ i. (taken.chosen i).now) ∙ same) refused,
+      )) h
 
-  pub page_printed : (unread left before after : Option (List ℕ)) → ListsAll text_in TakesPage None old new unread left before after → IsPrinted (IsPageData k c) unread left before after
+  pub page_printed : (unread left before after : Option (List ℕ))
+      → ListsAll text_in TakesPage None old new unread left before after → IsPrinted (IsPageData k c) unread left before after
   page_printed unread left before after h = record {
     stored = h.stored;
     took = h.took;

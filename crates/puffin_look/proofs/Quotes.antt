@@ -14,7 +14,8 @@ unfolding print_from
 one_string s = append-nil (quoted s)
 
 -- one string was written behind what was there
-pub quoted_behind : (items old before : List ℕ) (tokens now : List Token) (s : List ℕ) → items ≡ before ++ print tokens → before ≡ old → now ≡ [] → tokens ≡ now ++ string s ∷ [] → items ≡ old ++ quoted s
+pub quoted_behind : (items old before : List ℕ) (tokens now : List Token) (s : List ℕ) → items ≡ before ++ print tokens
+    → before ≡ old → now ≡ [] → tokens ≡ now ++ string s ∷ [] → items ≡ old ++ quoted s
 quoted_behind items old before tokens now s is same none one =
     is ∙ (λ i. same i ++ print (one i)) ∙ ap (λ (ts : List Token). old ++ print (ts ++ string s ∷ [])) none
     ∙ ap (λ (t : List ℕ). old ++ t) (one_string s)

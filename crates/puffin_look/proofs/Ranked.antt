@@ -53,14 +53,17 @@ place c bucket = elim (cases_lt c.bucket bucket) [
 ]
 
 -- what one duration more adds, where no count is at its limit
-module _ (f : Count → ℕ) (plus : ℕ) (bucket : ℕ) (one : f (one_in bucket) ≡ plus) (more : (c : Count) → c.bucket ≡ bucket → c.calls + 1 < 2 ^ 64 → f (one_more c) ≡ f c + plus) where
+module _ (f : Count → ℕ) (plus : ℕ) (bucket : ℕ) (one : f (one_in bucket) ≡ plus)
+    (more : (c : Count) → c.bucket ≡ bucket → c.calls + 1 < 2 ^ 64 → f (one_more c) ≡ f c + plus) where
   sum_more : (cs : List Count) → all_calls cs + 1 < 2 ^ 64 → sum_by f (with_time cs bucket) ≡ sum_by f cs + plus
   sum_more [] fits = omega (arith, one)
   sum_more (c ∷ cs) fits =
       let whole : all_calls (c ∷ cs) ≡ c.calls + all_calls cs = sum_by-cons (λ (c : Count). c.calls) c cs in
       elim (place c bucket) [
-        | is_later h ↦ ap (sum_by f) (later c cs bucket h) ∙ sum_by-cons f c (with_time cs bucket) ∙ omega (arith, sum_more cs (omega arith), sum_by-cons f c cs)
-        | is_here h ↦ ap (sum_by f) (here c cs bucket h) ∙ sum_by-cons f (one_more c) cs ∙ omega (arith, more c h (omega arith), sum_by-cons f c cs)
+        | is_later h ↦ ap (sum_by f) (later c cs bucket h) ∙ sum_by-cons f c (with_time cs bucket)
+            ∙ omega (arith, sum_more cs (omega arith), sum_by-cons f c cs)
+        | is_here h ↦ ap (sum_by f) (here c cs bucket h) ∙ sum_by-cons f (one_more c) cs
+            ∙ omega (arith, more c h (omega arith), sum_by-cons f c cs)
         | is_before h ↦ ap (sum_by f) (before c cs bucket h) ∙ sum_by-cons f (one_in bucket) (c ∷ cs) ∙ omega (arith, one)
       ]
 
@@ -70,7 +73,8 @@ fits_more c h = omega arith
 pub all_more : (cs : List Count) (bucket : ℕ) → all_calls cs + 1 < 2 ^ 64 → all_calls (with_time cs bucket) ≡ all_calls cs + 1
 all_more cs bucket fits = sum_more (λ (c : Count). c.calls) 1 bucket refl (λ c same h. fits_more c h) cs fits
 
-below_same : (limit bucket : ℕ) (b : Bool) (c : Count) → nat_lt bucket limit ≡ b → c.bucket ≡ bucket → c.calls + 1 < 2 ^ 64 → below_one limit (one_more c) ≡ below_one limit c + one_below limit bucket
+below_same : (limit bucket : ℕ) (b : Bool) (c : Count) → nat_lt bucket limit ≡ b → c.bucket ≡ bucket → c.calls + 1 < 2 ^ 64
+    → below_one limit (one_more c) ≡ below_one limit c + one_below limit bucket
 below_same limit bucket true c is same h =
     let low : nat_lt c.bucket limit ≡ true = ap (λ (x : ℕ). nat_lt x limit) same ∙ is in
     let a = cond-true {A = ℕ} (nat_lt c.bucket limit) (one_more c).calls 0 low in
@@ -84,8 +88,11 @@ below_same limit bucket false c is same h =
     let d = cond-false {A = ℕ} (nat_lt bucket limit) 1 0 is in
     omega (arith, a, b, d)
 
-pub below_more : (limit : ℕ) (cs : List Count) (bucket : ℕ) → all_calls cs + 1 < 2 ^ 64 → below limit (with_time cs bucket) ≡ below limit cs + one_below limit bucket
-below_more limit cs bucket fits = sum_more (below_one limit) (one_below limit bucket) bucket refl (λ c same h. below_same limit bucket (nat_lt bucket limit) c refl same h) cs fits
+pub below_more : (limit : ℕ) (cs : List Count) (bucket : ℕ) → all_calls cs + 1 < 2 ^ 64
+    → below limit (with_time cs bucket) ≡ below limit cs + one_below limit bucket
+below_more limit cs bucket fits =
+    sum_more (below_one limit) (one_below limit bucket) bucket refl
+    (λ c same h. below_same limit bucket (nat_lt bucket limit) c refl same h) cs fits
 
 -- ---- all durations
 
@@ -99,7 +106,8 @@ abbrev lower : ℕ → ℕ → Bool
 lower limit time = nat_lt (bucket_of time) limit
 
 counted_from : (limit : ℕ) (cs : List Count) (times : List ℕ) → all_calls cs + length times < 2 ^ 64
-    → (below limit (fold count_time cs times) ≡ below limit cs + count_by (lower limit) times) × (all_calls (fold count_time cs times) ≡ all_calls cs + length times)
+    → (below limit (fold count_time cs times) ≡ below limit cs + count_by (lower limit) times)
+    × (all_calls (fold count_time cs times) ≡ all_calls cs + length times)
 counted_from limit cs [] fits = (omega arith, omega arith)
 counted_from limit cs (t ∷ ts) fits =
     let more : all_calls (count_time cs t) ≡ all_calls cs + 1 = all_more cs (bucket_of t) (omega arith) in
@@ -139,7 +147,13 @@ rising_all times = rising_from [] times tt
 none_below : (limit low : ℕ) (cs : List Count) → limit ≤ low → Rising low cs → below limit cs ≡ 0
 none_below limit low [] b h = refl
 none_below limit low (c ∷ cs) b h =
-    omega (arith, sum_by-cons (below_one limit) c cs, cond-false {A = ℕ} (nat_lt c.bucket limit) c.calls 0 (le-ltb c.bucket limit (omega arith)), none_below limit c.bucket cs (omega arith) h.1)
+    omega (
+      arith,
+      sum_by-cons (below_one limit) c cs,
+      cond-false {A = ℕ} (nat_lt c.bucket limit) c.calls 0
+          (le-ltb c.bucket limit (omega arith)),
+      none_below limit c.bucket cs (omega arith) h.1,
+    )
 
 -- ---- the bucket of a rank
 
@@ -148,43 +162,72 @@ pub record IsBucketAt (cs : List Count) (low rank bucket : ℕ) : Type 0 where
   pub enough : rank ≤ below (bucket + 1) cs
   pub from : low ≤ bucket
 
-found_here : (c : Count) (cs : List Count) (low rank bucket : ℕ) → bucket ≡ c.bucket → Rising low (c ∷ cs) → 0 < rank → rank ≤ c.calls → IsBucketAt (c ∷ cs) low rank bucket
+found_here : (c : Count) (cs : List Count) (low rank bucket : ℕ) → bucket ≡ c.bucket → Rising low (c ∷ cs) → 0 < rank
+    → rank ≤ c.calls → IsBucketAt (c ∷ cs) low rank bucket
 found_here c cs low rank bucket is h some few = record {
-  fewer = omega (arith, sum_by-cons (below_one bucket) c cs, cond-false {A = ℕ} (nat_lt c.bucket bucket) c.calls 0 (le-ltb c.bucket bucket (omega arith)), none_below bucket c.bucket cs (omega arith) h.1);
-  enough = omega (arith, sum_by-cons (below_one (bucket + 1)) c cs, cond-true {A = ℕ} (nat_lt c.bucket (bucket + 1)) c.calls 0 (lt-ltb c.bucket (bucket + 1) (omega arith)));
+  fewer = omega (
+    arith,
+    sum_by-cons (below_one bucket) c cs,
+    cond-false {A = ℕ} (nat_lt c.bucket bucket) c.calls 0
+        (le-ltb c.bucket bucket (omega arith)),
+    none_below bucket c.bucket cs (omega arith) h.1,
+  );
+  enough = omega (
+    arith,
+    sum_by-cons (below_one (bucket + 1)) c cs,
+    cond-true {A = ℕ} (nat_lt c.bucket (bucket + 1)) c.calls 0
+        (lt-ltb c.bucket (bucket + 1) (omega arith)),
+  );
   from = omega (arith, h.0);
 }
 
 one_at_most : (limit : ℕ) (c : Count) → below_one limit c ≤ c.calls
 one_at_most limit c = cond_both (nat_lt c.bucket limit) c.calls 0 (λ x. x ≤ c.calls) (λ e. omega arith) (λ e. omega arith)
 
-found_later : (c : Count) (cs : List Count) (low rank bucket : ℕ) → Rising low (c ∷ cs) → c.calls < rank → IsBucketAt cs c.bucket (rank - c.calls) bucket → IsBucketAt (c ∷ cs) low rank bucket
+found_later : (c : Count) (cs : List Count) (low rank bucket : ℕ) → Rising low (c ∷ cs) → c.calls < rank
+    → IsBucketAt cs c.bucket (rank - c.calls) bucket → IsBucketAt (c ∷ cs) low rank bucket
 found_later c cs low rank bucket h more rest = record {
   fewer = omega (arith, sum_by-cons (below_one bucket) c cs, one_at_most bucket c, rest.fewer);
-  enough = omega (arith, sum_by-cons (below_one (bucket + 1)) c cs, cond-true {A = ℕ} (nat_lt c.bucket (bucket + 1)) c.calls 0 (lt-ltb c.bucket (bucket + 1) (omega (arith, rest.from))), rest.enough);
+  enough = omega (
+    arith,
+    sum_by-cons (below_one (bucket + 1)) c cs,
+    cond-true {A = ℕ} (nat_lt c.bucket (bucket + 1)) c.calls 0
+        (lt-ltb c.bucket (bucket + 1) (omega (arith, rest.from))),
+    rest.enough,
+  );
   from = omega (arith, h.0, rest.from);
 }
 
-pub bucket_found : (cs : List Count) (low rank : ℕ) → Rising low cs → 0 < rank → rank ≤ all_calls cs → IsBucketAt cs low rank (bucket_at cs rank)
+pub bucket_found : (cs : List Count) (low rank : ℕ) → Rising low cs → 0 < rank → rank ≤ all_calls cs
+    → IsBucketAt cs low rank (bucket_at cs rank)
 bucket_found [] low rank h some few = absurd (omega arith)
 bucket_found (c ∷ cs) low rank h some few = elim (cases_lt c.calls rank) [
-  | inl more ↦ subst (IsBucketAt (c ∷ cs) low rank) (sym (cond-false {A = ℕ} (nat_le rank c.calls) c.bucket (bucket_at cs (rank - c.calls)) (lt-leb rank c.calls more)))
-      (found_later c cs low rank (bucket_at cs (rank - c.calls)) h more (bucket_found cs c.bucket (rank - c.calls) h.1 (omega arith) (omega (arith, sum_by-cons (λ (c : Count). c.calls) c cs))))
-  | inr enough ↦ found_here c cs low rank (bucket_at (c ∷ cs) rank) (cond-true {A = ℕ} (nat_le rank c.calls) c.bucket (bucket_at cs (rank - c.calls)) (le-leb rank c.calls enough)) h some enough
+  | inl more ↦ subst (IsBucketAt (c ∷ cs) low rank)
+      (sym (cond-false {A = ℕ} (nat_le rank c.calls) c.bucket (bucket_at cs (rank - c.calls)) (lt-leb rank c.calls more)))
+      (found_later c cs low rank (bucket_at cs (rank - c.calls)) h more
+      (bucket_found cs c.bucket (rank - c.calls) h.1 (omega arith)
+      (omega (arith, sum_by-cons (λ (c : Count). c.calls) c cs))))
+  | inr enough ↦ found_here c cs low rank (bucket_at (c ∷ cs) rank)
+      (cond-true {A = ℕ} (nat_le rank c.calls) c.bucket (bucket_at cs (rank - c.calls)) (le-leb rank c.calls enough)) h some
+      enough
 ]
 
 -- ---- it is that of the duration with the rank
 
 fewer_by : (p q : ℕ → Bool) (times : List ℕ) → ((t : ℕ) → p t ≡ true → q t ≡ true) → count_by p times ≤ count_by q times
-fewer_by p q times all = sum_by-le-sum_by (λ (t : ℕ). cond (p t) 1 0) (λ (t : ℕ). cond (q t) 1 0) times (λ t. one_fewer (p t) (q t) (all t)) where
-  one_fewer : (a b : Bool) → (a ≡ true → b ≡ true) → cond a 1 0 ≤ cond b 1 0
-  one_fewer true true h = omega arith
-  one_fewer true false h = absurd (true≢false (sym (h refl)))
-  one_fewer false b h = omega arith
+fewer_by p q times all =
+    sum_by-le-sum_by (λ (t : ℕ). cond (p t) 1 0) (λ (t : ℕ). cond (q t) 1 0) times (λ t. one_fewer (p t) (q t) (all t)) where
+      one_fewer : (a b : Bool) → (a ≡ true → b ≡ true) → cond a 1 0 ≤ cond b 1 0
+      one_fewer true true h = omega arith
+      one_fewer true false h = absurd (true≢false (sym (h refl)))
+      one_fewer false b h = omega arith
 
 module _ (times : List ℕ) (rank exact : ℕ) (ranked : HasRank rank times exact) (fits : length times < 2 ^ 64) where
   at : IsBucketAt (counts_of times) 0 rank (bucket_at (counts_of times) rank)
-  at = bucket_found (counts_of times) 0 rank (rising_all times) (omega (arith, ranked.0)) (omega (arith, ranked.1, count_by-le-length (λ (t : ℕ). nat_le t exact) times, counted_all times fits))
+  at =
+      bucket_found (counts_of times) 0 rank (rising_all times)
+      (omega (arith, ranked.0))
+      (omega (arith, ranked.1, count_by-le-length (λ (t : ℕ). nat_le t exact) times, counted_all times fits))
 
   not_lower : bucket_at (counts_of times) rank < bucket_of exact → ⊥
   not_lower h =
@@ -224,16 +267,23 @@ sorted_from low (c ∷ cs) h zero (suc j) d le less = all_above c.bucket cs j d 
 sorted_from low (c ∷ cs) h (suc i) zero d le less = absurd (omega arith)
 sorted_from low (c ∷ cs) h (suc i) (suc j) d le less = sorted_from c.bucket cs h.1 i j d (omega arith) (omega arith)
 
-pub rising_of : (low : ℕ) (cs : List Count) → ((j : ℕ) (d : Count) → j < length cs → low ≤ by_bucket (get_or cs j d)) → IsNonDecreasingBy by_bucket cs → Rising low cs
+pub rising_of : (low : ℕ) (cs : List Count) → ((j : ℕ) (d : Count) → j < length cs → low ≤ by_bucket (get_or cs j d))
+    → IsNonDecreasingBy by_bucket cs → Rising low cs
 rising_of low [] above h = tt
-rising_of low (c ∷ cs) above h = (above 0 c (omega arith), rising_of c.bucket cs (λ j d less. h 0 (suc j) d (omega arith) (omega arith)) (λ i j d le less. h (suc i) (suc j) d (omega arith) (omega arith)))
+rising_of low (c ∷ cs) above h = (
+  above 0 c (omega arith),
+  rising_of c.bucket cs (λ j d less. h 0 (suc j) d (omega arith) (omega arith))
+      (λ i j d le less. h (suc i) (suc j) d (omega arith) (omega arith)),
+)
 
 pub sorted_more : (cs : List Count) (bucket : ℕ) → IsNonDecreasingBy by_bucket cs → IsNonDecreasingBy by_bucket (with_time cs bucket)
-sorted_more cs bucket h = sorted_from 0 (with_time cs bucket) (rising_more 0 cs bucket (omega arith) (rising_of 0 cs (λ j d less. omega arith) h))
+sorted_more cs bucket h =
+    sorted_from 0 (with_time cs bucket) (rising_more 0 cs bucket (omega arith) (rising_of 0 cs (λ j d less. omega arith) h))
 
 -- ---- the place of a bucket
 
-pub has_at : (cs : List Count) (k bucket : ℕ) (a : Count) → k < length cs → a ≡ get_or cs k a → has_bucket cs k bucket ≡ (a.bucket == bucket)
+pub has_at : (cs : List Count) (k bucket : ℕ) (a : Count) → k < length cs → a ≡ get_or cs k a
+    → has_bucket cs k bucket ≡ (a.bucket == bucket)
 has_at [] k bucket a h e = absurd (omega arith)
 has_at (c ∷ cs) zero bucket a h e = ap (λ (x : Count). x.bucket == bucket) (sym e)
 has_at (c ∷ cs) (suc k) bucket a h e = has_at cs k bucket a (omega arith) e
@@ -260,16 +310,19 @@ rest_lower c cs i bucket h k d _ less = h (suc k) d (omega arith) (omega arith)
 first_lower : (c : Count) (cs : List Count) (i bucket : ℕ) → AllLower (c ∷ cs) (suc i) bucket → c.bucket < bucket
 first_lower c cs i bucket h = ltb-true c.bucket bucket (h 0 c (omega arith) (omega arith))
 
-pub put_more : (cs : List Count) (i bucket calls : ℕ) (d : Count) → AllLower cs i bucket → has_bucket cs i bucket ≡ true → calls ≡ cut ((get_or cs i d).calls + 1)
+pub put_more : (cs : List Count) (i bucket calls : ℕ) (d : Count) → AllLower cs i bucket → has_bucket cs i bucket ≡ true
+    → calls ≡ cut ((get_or cs i d).calls + 1)
     → slice_set cs i (record { bucket = bucket; calls = calls }) ≡ with_time cs bucket
 put_more [] i bucket calls d low has e = absurd (true≢false (sym has))
 put_more (c ∷ cs) zero bucket calls d low has e =
     let same : c.bucket ≡ bucket = eqb-true c.bucket bucket has in
     (λ j. record { bucket = sym same j; calls = e j } ∷ cs) ∙ sym (here c cs bucket same)
 put_more (c ∷ cs) (suc i) bucket calls d low has e =
-    ap (λ (xs : List Count). c ∷ xs) (put_more cs i bucket calls d (rest_lower c cs i bucket low) has e) ∙ sym (later c cs bucket (first_lower c cs i bucket low))
+    ap (λ (xs : List Count). c ∷ xs) (put_more cs i bucket calls d (rest_lower c cs i bucket low) has e)
+    ∙ sym (later c cs bucket (first_lower c cs i bucket low))
 
-pub put_new : (cs : List Count) (i bucket : ℕ) → i ≤ length cs → AllLower cs i bucket → NoneLower cs i bucket → has_bucket cs i bucket ≡ false → insert cs i (one_in bucket) ≡ with_time cs bucket
+pub put_new : (cs : List Count) (i bucket : ℕ) → i ≤ length cs → AllLower cs i bucket → NoneLower cs i bucket
+    → has_bucket cs i bucket ≡ false → insert cs i (one_in bucket) ≡ with_time cs bucket
 put_new [] zero bucket within low high has = refl
 put_new [] (suc i) bucket within low high has = absurd (omega arith)
 put_new (c ∷ cs) zero bucket within low high has =
@@ -277,8 +330,10 @@ put_new (c ∷ cs) zero bucket within low high has =
     let other : c.bucket ≡ bucket → ⊥ = eqb-false c.bucket bucket has in
     sym (before c cs bucket (omega arith))
 put_new (c ∷ cs) (suc i) bucket within low high has =
-    ap (λ (xs : List Count). c ∷ xs) (put_new cs i bucket (omega arith) (rest_lower c cs i bucket low) (λ k d le less. high (suc k) d (omega arith) (omega arith)) has) ∙ sym (later c cs bucket (first_lower c cs i bucket low))
+    ap (λ (xs : List Count). c ∷ xs) (put_new cs i bucket (omega arith) (rest_lower c cs i bucket low)
+    (λ k d le less. high (suc k) d (omega arith) (omega arith)) has) ∙ sym (later c cs bucket (first_lower c cs i bucket low))
 
-pub sorted_if : (b : Bool) (old new put : List Count) (bucket : ℕ) → IsNonDecreasingBy by_bucket old → put ≡ with_time old bucket → new ≡ (if b then put else old) → IsNonDecreasingBy by_bucket new
+pub sorted_if : (b : Bool) (old new put : List Count) (bucket : ℕ) → IsNonDecreasingBy by_bucket old → put ≡ with_time old bucket
+    → new ≡ (if b then put else old) → IsNonDecreasingBy by_bucket new
 sorted_if true old new put bucket h same is = subst (IsNonDecreasingBy by_bucket) (sym (is ∙ same)) (sorted_more old bucket h)
 sorted_if false old new put bucket h same is = subst (IsNonDecreasingBy by_bucket) (sym is) h

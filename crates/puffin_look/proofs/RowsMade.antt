@@ -13,13 +13,15 @@ pub record AreMade (rows : List TopRow) (left all : List Held) : Type 0 where
 pub made_none : (all : List Held) → AreMade [] all all
 made_none all = record { done = []; all_are = refl; rows_are = tt }
 
-one_made : (done : List Held) (rows : List TopRow) (e : Held) (row : TopRow) → HaveTallies (rows_in done) rows → HasTally (row_of e) row → HaveTallies (rows_in (done ++ e ∷ [])) (rows ++ row ∷ [])
+one_made : (done : List Held) (rows : List TopRow) (e : Held) (row : TopRow) → HaveTallies (rows_in done) rows
+    → HasTally (row_of e) row → HaveTallies (rows_in (done ++ e ∷ [])) (rows ++ row ∷ [])
 one_made [] [] e row h one = (one, tt)
 one_made [] (r ∷ rows) e row h one = absurd h
 one_made (d ∷ done) [] e row h one = absurd h
 one_made (d ∷ done) (r ∷ rows) e row h one = (h.0, one_made done rows e row h.1 one)
 
-pub made_more : (rows new : List TopRow) (left rest all : List Held) (e : Held) (row : TopRow) → left ≡ e ∷ rest → AreMade rows left all → HasTally (row_of e) row → new ≡ rows ++ row ∷ [] → AreMade new rest all
+pub made_more : (rows new : List TopRow) (left rest all : List Held) (e : Held) (row : TopRow) → left ≡ e ∷ rest
+    → AreMade rows left all → HasTally (row_of e) row → new ≡ rows ++ row ∷ [] → AreMade new rest all
 made_more rows new left rest all e row next h one is = record {
   done = h.done ++ e ∷ [];
   all_are = h.all_are ∙ ap (λ (es : List Held). h.done ++ es) next ∙ sym (append_assoc h.done (e ∷ []) rest);
@@ -27,4 +29,6 @@ made_more rows new left rest all e row next h one is = record {
 }
 
 pub made_all : (rows : List TopRow) (left all : List Held) → left ≡ [] → AreMade rows left all → HaveTallies (rows_in all) rows
-made_all rows left all none h = subst (λ (es : List Held). HaveTallies (rows_in es) rows) (sym (h.all_are ∙ ap (λ (es : List Held). h.done ++ es) none ∙ append-nil h.done)) h.rows_are
+made_all rows left all none h =
+    subst (λ (es : List Held). HaveTallies (rows_in es) rows)
+    (sym (h.all_are ∙ ap (λ (es : List Held). h.done ++ es) none ∙ append-nil h.done)) h.rows_are

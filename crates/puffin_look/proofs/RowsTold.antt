@@ -8,7 +8,8 @@ use Rattle.puffin_look.specs.inner.Tops.{HasTally, HaveTallies}
 use Rattle.puffin_look.specs.declared.top.TopRow.{TopRow}
 use Rattle.puffin_look.proofs.Tallied.{row_in, all_tallied, tally_grows, percentile_is}
 
-row_told : (name : List ℕ) (ps : List Piece) (row : TopRow) → HasTally (name, fold with_piece no_tally ps) row → (row.name.items ≡ name) × IsRow ps row
+row_told : (name : List ℕ) (ps : List Piece) (row : TopRow) → HasTally (name, fold with_piece no_tally ps) row
+    → (row.name.items ≡ name) × IsRow ps row
 row_told name ps row h =
     let g = tally_grows ps in
     let total : (fold with_piece no_tally ps).0.total ≡ cut (sum (call_times ps)) = omega (arith, g.total (omega arith)) in
@@ -26,7 +27,8 @@ row_told name ps row h =
       },
     )
 
-rows_in_order : (all : List Piece) (names : List (List ℕ)) (rows : List TopRow) → HaveTallies (map (row_in all) names) rows → AreRowsOf all names rows
+rows_in_order : (all : List Piece) (names : List (List ℕ)) (rows : List TopRow) → HaveTallies (map (row_in all) names) rows
+    → AreRowsOf all names rows
 rows_in_order all [] [] h = tt
 rows_in_order all [] (row ∷ rows) h = absurd h
 rows_in_order all (name ∷ names) [] h = absurd h

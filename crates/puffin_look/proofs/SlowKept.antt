@@ -32,16 +32,26 @@ use Rattle.puffin_look.proofs.Stacked.{all_rows}
 
 -- ---- a frame
 
-module _ (form : Form) (v u : Folding) (known : Collection) (wanted : Wanted) (frame : OpenFrame) (text : List ℕ) (empty : rows_of v.stacks ≡ []) (details : v.stacks.known.now ≡ known) (same : v.wanted.now ≡ wanted)
-    (is : text ≡ head_text form frame.meta ++ (joined (between_steps form) false (step_lines form (length (rows_of u.stacks)) (rows_of u.stacks) 0 [] (length_of frame.meta.range_ns)) ++ tail_text form)) where
-  read_by : (trees : List TreeFrame) → AreRead (wanted_streams v.wanted.now) (frame ∷ []) trees → rows_of u.stacks ≡ fold with_part (rows_of v.stacks) (parts v.stacks.known.now trees) → ReadsSlow form known wanted frame text
+module _ (form : Form) (v u : Folding) (known : Collection) (wanted : Wanted) (frame : OpenFrame) (text : List ℕ)
+    (empty : rows_of v.stacks ≡ []) (details : v.stacks.known.now ≡ known) (same : v.wanted.now ≡ wanted)
+    (is : text ≡ head_text form frame.meta
+    ++ (joined (between_steps form) false
+    (step_lines form (length (rows_of u.stacks)) (rows_of u.stacks) 0 [] (length_of frame.meta.range_ns))
+    ++ tail_text form)) where
+  read_by : (trees : List TreeFrame) → AreRead (wanted_streams v.wanted.now) (frame ∷ []) trees
+      → rows_of u.stacks ≡ fold with_part (rows_of v.stacks) (parts v.stacks.known.now trees)
+      → ReadsSlow form known wanted frame text
   read_by [] h rows = absurd h
   read_by (t ∷ []) h rows =
-      let all : rows_of u.stacks ≡ path_rows (frame_parts known t) = rows ∙ (λ i. fold with_part (empty i) (parts (details i) (t ∷ []))) ∙ all_rows (parts known (t ∷ [])) ∙ ap path_rows (append-nil (frame_parts known t)) in
+      let all : rows_of u.stacks ≡ path_rows (frame_parts known t) = rows
+      ∙ (λ i. fold with_part (empty i) (parts (details i) (t ∷ []))) ∙ all_rows (parts known (t ∷ []))
+      ∙ ap path_rows (append-nil (frame_parts known t)) in
       record {
         tree = t;
         read = subst (λ (w : Wanted). IsRead (wanted_streams w) frame t) same h.0;
-        is = is ∙ (λ i. head_text form (sym h.0.meta i) ++ (joined (between_steps form) false (step_lines form (length (all i)) (all i) 0 [] (length_of (sym h.0.meta i).range_ns)) ++ tail_text form));
+        is = is ∙ (λ i. head_text form (sym h.0.meta i)
+            ++ (joined (between_steps form) false
+            (step_lines form (length (all i)) (all i) 0 [] (length_of (sym h.0.meta i).range_ns)) ++ tail_text form));
       }
   read_by (t ∷ (s ∷ trees)) h rows = absurd h.1
 
@@ -54,18 +64,26 @@ map_take f zero xs = refl
 map_take f (suc n) [] = refl
 map_take f (suc n) (x ∷ xs) = ap (λ ys. f x ∷ ys) (map_take f n xs)
 
-map_with : (rows : List SlowFrame) (row : SlowFrame) → map held_of (with_row_by held_duration rows row) ≡ with_row_by duration (map held_of rows) (held_of row)
+map_with : (rows : List SlowFrame) (row : SlowFrame)
+    → map held_of (with_row_by held_duration rows row) ≡ with_row_by duration (map held_of rows) (held_of row)
 map_with [] row = refl
 map_with (first ∷ rows) row =
-    elim (is_faster_by held_duration row first) as (λ b. map held_of (if b then row ∷ (first ∷ rows) else first ∷ with_row_by held_duration rows row) ≡ (if b then held_of row ∷ (held_of first ∷ map held_of rows) else held_of first ∷ with_row_by duration (map held_of rows) (held_of row))) [
+    elim (is_faster_by held_duration row first) as (λ b. map held_of
+    (if b then row ∷ (first ∷ rows) else first ∷ with_row_by held_duration rows row)
+    ≡ (if b then held_of row ∷ (held_of first ∷ map held_of rows) else held_of first ∷ with_row_by duration (map held_of rows)
+    (held_of row))) [
       | true ↦ refl
       | false ↦ ap (λ ys. held_of first ∷ ys) (map_with rows row)
     ]
 
-pub frame_kept : (old new : SlowFrames) (frame : OpenFrame) (row : SlowFrame) → ReadsSlow old.form old.known.now old.wanted.now frame row.text.items → row.duration_ns ≡ frame.meta.range_ns.1 -ℤ frame.meta.range_ns.0 → new.rows.items ≡ take old.limit (with_row_by held_duration old.rows.items row)
+pub frame_kept : (old new : SlowFrames) (frame : OpenFrame) (row : SlowFrame)
+    → ReadsSlow old.form old.known.now old.wanted.now frame row.text.items
+    → row.duration_ns ≡ frame.meta.range_ns.1 -ℤ frame.meta.range_ns.0
+    → new.rows.items ≡ take old.limit (with_row_by held_duration old.rows.items row)
     → new.limit ≡ old.limit → new.form ≡ old.form → new.known ≡ old.known → new.wanted ≡ old.wanted → TakesSlow old (frame ∷ []) [] new
 frame_kept old new frame row read time rows limit form known wanted =
-    let slow : held_of row ≡ slow_of old.form old.known.now read.tree = λ i. ((time ∙ (λ j. (sym read.read.meta j).range_ns.1 -ℤ (sym read.read.meta j).range_ns.0)) i, read.is i) in
+    let slow : held_of row ≡ slow_of old.form old.known.now
+    read.tree = λ i. ((time ∙ (λ j. (sym read.read.meta j).range_ns.1 -ℤ (sym read.read.meta j).range_ns.0)) i, read.is i) in
     record {
       none = refl;
       trees = read.tree ∷ [];
@@ -89,8 +107,11 @@ take_none zero [] e = refl
 take_none (suc n) [] e = refl
 take_none n (x ∷ rows) e = absurd (cc)
 
-pub kept_slow : (form : Form) (known : Collection) (n : ℕ) (trees : List TreeFrame) → fold (keeping n form known) [] trees ≡ take n (slowest_first form known trees)
-kept_slow form known n trees = ap (λ (xs : List Slow). fold (keeping n form known) xs trees) (take_none n [] refl) ∙ kept_by duration (slow_of form known) n trees []
+pub kept_slow : (form : Form) (known : Collection) (n : ℕ) (trees : List TreeFrame)
+    → fold (keeping n form known) [] trees ≡ take n (slowest_first form known trees)
+kept_slow form known n trees =
+    ap (λ (xs : List Slow). fold (keeping n form known) xs trees) (take_none n [] refl)
+    ∙ kept_by duration (slow_of form known) n trees []
 
 abbrev pub none : SlowFrames → List ℕ
 none v = []
@@ -103,8 +124,14 @@ module _ (old new : SlowFrames) (unread left before mid : Option (List ℕ)) whe
   Refused e = IsStopped IsNoText (RefusesTaken wanted) unread left before mid e
 
   pub slow_stopped : (e : FileError) → StopsListing none TakesSlow RefusesFrame wanted.frames old new unread left before mid e → Refused e
-  slow_stopped e h = stopped none TakesSlow wanted.frames RefusesFrame IsNoText (RefusesTaken wanted) old new unread left before mid e (λ frames more v taken. taken.none)
-      (λ frames more v frame cause taken there refused. (there, subst (λ (w : Wanted). AreUnread (wanted_streams w frame) cause) (ap (λ (w : Bor Wanted). w.now) taken.wanted) refused)) h
+  slow_stopped e h =
+      stopped none TakesSlow wanted.frames RefusesFrame IsNoText (RefusesTaken wanted) old new unread left before mid e
+      (λ frames more v taken. taken.none)
+      (λ frames more v frame cause taken there refused. (
+        there,
+        subst (λ (w : Wanted). AreUnread (wanted_streams w frame) cause)
+            (ap (λ (w : Bor Wanted). w.now) taken.wanted) refused,
+      )) h
 
   module _ (h : ListsAll none TakesSlow wanted.frames old new unread left before mid) where
     quiet : Appends before mid []
@@ -122,13 +149,18 @@ module _ (old new : SlowFrames) (unread left before mid : Option (List ℕ)) whe
       outcome = inl (outside, ([], [], refl, quiet));
     }
 
-    module _ (empty : old.rows.items ≡ []) (k : Collection) (same : old.known.now ≡ k) (lines : List ℕ) (is : lines ≡ list_text old.form [] (map (λ (row : SlowFrame). row.text.items) new.rows.items)) (after : Option (List ℕ)) where
+    module _ (empty : old.rows.items ≡ []) (k : Collection) (same : old.known.now ≡ k) (lines : List ℕ)
+        (is : lines ≡ list_text old.form [] (map (λ (row : SlowFrame). row.text.items) new.rows.items))
+        (after : Option (List ℕ)) where
       are_lines : AreSlowFrames old.form k wanted old.limit h.listed.frames lines
       are_lines =
           let t = h.listed.taken in (
             t.trees,
             t.read,
-            is ∙ ap (list_text old.form []) (texts_held new.rows.items ∙ ap (map (λ (slow : Slow). slow.1)) (t.rows ∙ (λ i. fold (keeping old.limit old.form (same i)) (map held_of (empty i)) t.trees) ∙ kept_slow old.form k old.limit t.trees)),
+            is ∙ ap (list_text old.form []) (texts_held new.rows.items
+                ∙ ap (map (λ (slow : Slow). slow.1)) (t.rows
+                ∙ (λ i. fold (keeping old.limit old.form (same i)) (map held_of (empty i)) t.trees)
+                ∙ kept_slow old.form k old.limit t.trees)),
           )
 
       pub slow_printed : Appends mid after lines → IsPrinted (AreSlowFrames old.form k wanted old.limit) unread left before after

@@ -30,8 +30,11 @@ none_kept (suc n) [] e = refl
 none_kept n (x ∷ rows) e = absurd (cc)
 
 module _ (old new : Slowest) (unread left before mid : Option (List ℕ)) where
-  pub slowest_stopped : (e : FileError) → StopsListing none TakesRows refused None old new unread left before mid e → IsStopped IsNoText RefusesNone unread left before mid e
-  slowest_stopped e h = stopped none TakesRows None refused IsNoText RefusesNone old new unread left before mid e (λ frames more v taken. taken.none) (λ frames more v frame cause taken there refused. refused) h
+  pub slowest_stopped : (e : FileError) → StopsListing none TakesRows refused None old new unread left before mid e
+      → IsStopped IsNoText RefusesNone unread left before mid e
+  slowest_stopped e h =
+      stopped none TakesRows None refused IsNoText RefusesNone old new unread left before mid e
+      (λ frames more v taken. taken.none) (λ frames more v frame cause taken there refused. refused) h
 
   module _ (h : ListsAll none TakesRows None old new unread left before mid) where
     quiet : Appends before mid []
@@ -49,10 +52,15 @@ module _ (old new : Slowest) (unread left before mid : Option (List ℕ)) where
       outcome = inl (outside, ([], [], refl, quiet));
     }
 
-    module _ (form : Form) (empty : old.rows.items ≡ []) (lines : List ℕ) (is : lines ≡ frame_list form new.rows.items) (after : Option (List ℕ)) where
+    module _ (form : Form) (empty : old.rows.items ≡ []) (lines : List ℕ) (is : lines ≡ frame_list form new.rows.items)
+        (after : Option (List ℕ)) where
       are_lines : AreSlowestFrames form old.limit h.listed.frames lines
       are_lines =
-          is ∙ ap (frame_list form) (h.listed.taken.rows ∙ ap (λ (rows : List FrameRow). fold (λ rows frame. take old.limit (with_row rows (frame_row frame))) rows h.listed.frames) (none_kept old.limit old.rows.items empty ∙ ap (take old.limit) empty) ∙ kept_all old.limit h.listed.frames [])
+          is ∙ ap (frame_list form)
+          (h.listed.taken.rows
+          ∙ ap (λ (rows : List FrameRow). fold (λ rows frame. take old.limit (with_row rows (frame_row frame))) rows
+          h.listed.frames) (none_kept old.limit old.rows.items empty ∙ ap (take old.limit) empty)
+          ∙ kept_all old.limit h.listed.frames [])
 
       pub slowest_printed : Appends mid after lines → IsPrinted (AreSlowestFrames form old.limit) unread left before after
       slowest_printed app = record {

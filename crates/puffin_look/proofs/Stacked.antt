@@ -13,8 +13,8 @@ use Rattle.puffin_data.specs.Forest.{Span}
 use Rattle.puffin_threads.specs.Details.Collection.{Collection}
 use Rattle.puffin_view.specs.View.Stats.{cut}
 use Rattle.puffin_look.specs.FrameTree.{time_of}
-use Rattle.puffin_look.specs.Folded.{Part, label, below, path_with, path_of, parts_at, scope_parts, parts_of, with_path, paths_in, own_time, path_line, folded_lines}
-use Rattle.puffin_look.specs.Heavy.{times_in, path_rows}
+use Rattle.puffin_look.specs.Folded.{Part, label, below, path_with, path_of, parts_at, scope_parts, parts_of, with_path, paths_in, times_in, own_time, path_line, folded_lines}
+use Rattle.puffin_look.specs.Heavy.{path_rows}
 use Rattle.puffin_look.specs.inner.Stacks.{Row, row_with, new_row, with_part, times_with, no_times, rows_of, path_at, row_text, HasMoreParts, TakesScopes, StandsFor}
 use Rattle.puffin_look.specs.declared.stacks.Stacks.{Stacks}
 use Rattle.puffin_look.proofs.StackRows.{itself, turned, left_false, right_false}
@@ -25,19 +25,25 @@ stands_path : (v : Stacks) (w : Option ℕ) (around : List Span) → StandsFor v
 stands_path v None around s = sym s
 stands_path v (Some i) around s = s.2 ∙ sym s.1
 
-pub stands_within : (v : Stacks) (w : Option ℕ) (around : List Span) → StandsFor v w around → IfSome w (λ i. (path : List ℕ) × (slice_get (keys_of (rows_of v)) i ≡ Some path))
+pub stands_within : (v : Stacks) (w : Option ℕ) (around : List Span) → StandsFor v w around
+    → IfSome w (λ i. (path : List ℕ) × (slice_get (keys_of (rows_of v)) i ≡ Some path))
 stands_within v None around s = tt
 stands_within v (Some i) around s = (s.0, s.2)
 
-pub entered : (v u : Stacks) (w : Option ℕ) (place : ℕ) (around : List Span) (s : Span) (time : ℕ) → time ≡ time_of s → HasMoreParts v u (parts_at (path_at (rows_of v) w) (label v.known.now s.id) time)
-    → slice_get (keys_of (rows_of u)) place ≡ Some (below (path_at (rows_of v) w) (label v.known.now s.id)) → StandsFor v w around → TakesScopes v (record { around = around; span = s } ∷ []) u × StandsFor u (Some place) (around ++ s ∷ [])
+pub entered : (v u : Stacks) (w : Option ℕ) (place : ℕ) (around : List Span) (s : Span) (time : ℕ) → time ≡ time_of s
+    → HasMoreParts v u (parts_at (path_at (rows_of v) w) (label v.known.now s.id) time)
+    → slice_get (keys_of (rows_of u)) place ≡ Some (below (path_at (rows_of v) w) (label v.known.now s.id)) → StandsFor v w around
+    → TakesScopes v (record { around = around; span = s } ∷ []) u × StandsFor u (Some place) (around ++ s ∷ [])
 entered v u w place around s time same more at stands =
     let p = stands_path v w around stands in
     let name = label v.known.now s.id in (
-      subst (HasMoreParts v u) ((λ i. parts_at (p i) name (same i)) ∙ sym (append-nil (scope_parts v.known.now (record { around = around; span = s })))) more,
+      subst (HasMoreParts v u) ((λ i. parts_at (p i) name (same i))
+          ∙ sym (append-nil (scope_parts v.known.now (record { around = around; span = s })))) more,
       (
         below (path_at (rows_of v) w) name,
-        ap (λ (k : Bor Collection). path_of k.now (around ++ s ∷ [])) more.known ∙ fold-append (path_with v.known.now) None around (s ∷ []) ∙ ap (λ (o : Option (List ℕ)). Some (below o name)) (sym p),
+        ap (λ (k : Bor Collection). path_of k.now (around ++ s ∷ [])) more.known
+            ∙ fold-append (path_with v.known.now) None around (s ∷ [])
+            ∙ ap (λ (o : Option (List ℕ)). Some (below o name)) (sym p),
         at,
       ),
     )
@@ -53,27 +59,44 @@ row_in all path = (path, times_in all path)
 abbrev table : List Part → List Row
 table all = map (row_in all) (paths_in all)
 
-cut_more : (f : Part → ℕ) (done : List Part) (s : Part) (path : List ℕ) → bytes_eq s.path path ≡ true → cut (cut (sum_by f (parts_of path done)) + f s) ≡ cut (sum_by f (parts_of path (done ++ s ∷ [])))
+cut_more : (f : Part → ℕ) (done : List Part) (s : Part) (path : List ℕ) → bytes_eq s.path path ≡ true
+    → cut (cut (sum_by f (parts_of path done)) + f s) ≡ cut (sum_by f (parts_of path (done ++ s ∷ [])))
 cut_more f done s path is =
     min_more _ (sum_by f (parts_of path done)) (f s)
-    ∙ ap cut (sym (ap (sum_by f) (filter-append (λ (d : Part). bytes_eq d.path path) done (s ∷ []) ∙ ap (λ (b : Bool). parts_of path done ++ (if b then s ∷ [] else [])) is) ∙ sum_by_push f (parts_of path done) s))
+    ∙ ap cut (sym (ap (sum_by f)
+    (filter-append (λ (d : Part). bytes_eq d.path path) done (s ∷ [])
+    ∙ ap (λ (b : Bool). parts_of path done ++ (if b then s ∷ [] else [])) is) ∙ sum_by_push f (parts_of path done) s))
 
-others_same : (done : List Part) (s : Part) (path : List ℕ) → bytes_eq s.path path ≡ false → parts_of path done ≡ parts_of path (done ++ s ∷ [])
+others_same : (done : List Part) (s : Part) (path : List ℕ) → bytes_eq s.path path ≡ false
+    → parts_of path done ≡ parts_of path (done ++ s ∷ [])
 others_same done s path is =
-    sym (filter-append (λ (d : Part). bytes_eq d.path path) done (s ∷ []) ∙ ap (λ (b : Bool). parts_of path done ++ (if b then s ∷ [] else [])) is ∙ append-nil (parts_of path done))
+    sym (filter-append (λ (d : Part). bytes_eq d.path path) done (s ∷ [])
+    ∙ ap (λ (b : Bool). parts_of path done ++ (if b then s ∷ [] else [])) is ∙ append-nil (parts_of path done))
 
-row_more_by : (done : List Part) (s : Part) (path : List ℕ) (b : Bool) → bytes_eq s.path path ≡ b → row_with s (row_in done path) ≡ row_in (done ++ s ∷ []) path
+row_more_by : (done : List Part) (s : Part) (path : List ℕ) (b : Bool) → bytes_eq s.path path ≡ b
+    → row_with s (row_in done path) ≡ row_in (done ++ s ∷ []) path
 row_more_by done s path true is =
     ap (λ (t : Bool). if t then (path, times_with (times_in done path) s.whole s.nested) else row_in done path) is
-    ∙ (λ i. (path, record { whole = cut_more (λ (d : Part). d.whole) done s path is i; nested = cut_more (λ (d : Part). d.nested) done s path is i }))
+    ∙ (λ i. (
+      path,
+      record {
+        whole = cut_more (λ (d : Part). d.whole) done s path is i;
+        nested = cut_more (λ (d : Part). d.nested) done s path is i;
+      },
+    ))
 row_more_by done s path false is =
     ap (λ (t : Bool). if t then (path, times_with (times_in done path) s.whole s.nested) else row_in done path) is
-    ∙ ap (λ (ps : List Part). (path, record { whole = cut (sum_by (λ (d : Part). d.whole) ps); nested = cut (sum_by (λ (d : Part). d.nested) ps) })) (others_same done s path is)
+    ∙ ap (λ (ps : List Part). (
+      path,
+      record { whole = cut (sum_by (λ (d : Part). d.whole) ps); nested = cut (sum_by (λ (d : Part). d.nested) ps) },
+    ))
+    (others_same done s path is)
 
 row_more : (done : List Part) (s : Part) (path : List ℕ) → row_with s (row_in done path) ≡ row_in (done ++ s ∷ []) path
 row_more done s path = row_more_by done s path _ refl
 
-rows_grown : (done : List Part) (s : Part) (paths : List (List ℕ)) → map (row_with s) (map (row_in done) paths) ≡ map (row_in (done ++ s ∷ [])) paths
+rows_grown : (done : List Part) (s : Part) (paths : List (List ℕ))
+    → map (row_with s) (map (row_in done) paths) ≡ map (row_in (done ++ s ∷ [])) paths
 rows_grown done s [] = refl
 rows_grown done s (p ∷ paths) = λ i. row_more done s p i ∷ rows_grown done s paths i
 
@@ -81,12 +104,15 @@ keys_in : (all : List Part) (paths : List (List ℕ)) → keys_of (map (row_in a
 keys_in all [] = refl
 keys_in all (p ∷ paths) = ap (λ (ps : List (List ℕ)). p ∷ ps) (keys_in all paths)
 
-map_behind : (all : List Part) (xs : List (List ℕ)) (y : List ℕ) → map (row_in all) (xs ++ y ∷ []) ≡ map (row_in all) xs ++ row_in all y ∷ []
+map_behind : (all : List Part) (xs : List (List ℕ)) (y : List ℕ)
+    → map (row_in all) (xs ++ y ∷ []) ≡ map (row_in all) xs ++ row_in all y ∷ []
 map_behind all [] y = refl
 map_behind all (x ∷ xs) y = ap (λ (rows : List Row). row_in all x ∷ rows) (map_behind all xs y)
 
 -- a path that wasn't met has no parts
-unmet_by : (path : List ℕ) (paths : List (List ℕ)) (d : Part) (b : Bool) → list_any (bytes_eq d.path) paths ≡ b → list_any (bytes_eq path) (if b then paths else paths ++ d.path ∷ []) ≡ false → (bytes_eq d.path path ≡ false) × (list_any (bytes_eq path) paths ≡ false)
+unmet_by : (path : List ℕ) (paths : List (List ℕ)) (d : Part) (b : Bool) → list_any (bytes_eq d.path) paths ≡ b
+    → list_any (bytes_eq path) (if b then paths else paths ++ d.path ∷ []) ≡ false
+    → (bytes_eq d.path path ≡ false) × (list_any (bytes_eq path) paths ≡ false)
 unmet_by path paths d true is h =
     let other : (t : Bool) → bytes_eq d.path path ≡ t → t ≡ false =
     λ t e. elim t as (λ t. bytes_eq d.path path ≡ t → t ≡ false) [
@@ -99,23 +125,33 @@ unmet_by path paths d false is h =
     let last = left_false (bytes_eq path d.path) false (right_false (list_any (bytes_eq path) paths) _ parts) in
     (turned path d.path _ refl last, left_false (list_any (bytes_eq path) paths) _ parts)
 
-unmet : (path : List ℕ) (paths : List (List ℕ)) (ds : List Part) → list_any (bytes_eq path) (fold with_path paths ds) ≡ false → (parts_of path ds ≡ []) × (list_any (bytes_eq path) paths ≡ false)
+unmet : (path : List ℕ) (paths : List (List ℕ)) (ds : List Part) → list_any (bytes_eq path) (fold with_path paths ds) ≡ false
+    → (parts_of path ds ≡ []) × (list_any (bytes_eq path) paths ≡ false)
 unmet path paths [] h = (refl, h)
 unmet path paths (d ∷ ds) h =
     let rest = unmet path (with_path paths d) ds h in
     let one = unmet_by path paths d _ refl rest.1 in
     (ap (λ (b : Bool). if b then d ∷ parts_of path ds else parts_of path ds) one.0 ∙ rest.0, one.1)
 
-new_more : (done : List Part) (s : Part) → list_any (bytes_eq s.path) (paths_in done) ≡ false → (s.path, times_with no_times s.whole s.nested) ≡ row_in (done ++ s ∷ []) s.path
+new_more : (done : List Part) (s : Part) → list_any (bytes_eq s.path) (paths_in done) ≡ false
+    → (s.path, times_with no_times s.whole s.nested) ≡ row_in (done ++ s ∷ []) s.path
 new_more done s new =
     let none = (unmet s.path [] done new).0 in
     sym (ap (λ (t : Bool). if t then (s.path, times_with (times_in done s.path) s.whole s.nested) else row_in done s.path) (itself s.path)
-    ∙ ap (λ (ps : List Part). (s.path, times_with (record { whole = cut (sum_by (λ (d : Part). d.whole) ps); nested = cut (sum_by (λ (d : Part). d.nested) ps) }) s.whole s.nested)) none)
+    ∙ ap (λ (ps : List Part). (
+      s.path,
+      times_with (record { whole = cut (sum_by (λ (d : Part). d.whole) ps); nested = cut (sum_by (λ (d : Part). d.nested) ps) })
+          s.whole s.nested,
+    )) none)
     ∙ row_more done s s.path
 
-one_more_by : (done : List Part) (s : Part) (b : Bool) → list_any (bytes_eq s.path) (paths_in done) ≡ b → map (row_with s) (table done) ++ (if b then [] else (s.path, times_with no_times s.whole s.nested) ∷ []) ≡ map (row_in (done ++ s ∷ [])) (if b then paths_in done else paths_in done ++ s.path ∷ [])
+one_more_by : (done : List Part) (s : Part) (b : Bool) → list_any (bytes_eq s.path) (paths_in done) ≡ b
+    → map (row_with s) (table done) ++ (if b then [] else (s.path, times_with no_times s.whole s.nested) ∷ [])
+    ≡ map (row_in (done ++ s ∷ [])) (if b then paths_in done else paths_in done ++ s.path ∷ [])
 one_more_by done s true is = append-nil (map (row_with s) (table done)) ∙ rows_grown done s (paths_in done)
-one_more_by done s false is = (λ i. rows_grown done s (paths_in done) i ++ new_more done s is i ∷ []) ∙ sym (map_behind (done ++ s ∷ []) (paths_in done) s.path)
+one_more_by done s false is =
+    (λ i. rows_grown done s (paths_in done) i ++ new_more done s is i ∷ [])
+    ∙ sym (map_behind (done ++ s ∷ []) (paths_in done) s.path)
 
 one_more : (done : List Part) (s : Part) → with_part (table done) s ≡ table (done ++ s ∷ [])
 one_more done s =
@@ -124,13 +160,16 @@ one_more done s =
 
 table_more : (done ps : List Part) → fold with_part (table done) ps ≡ table (done ++ ps)
 table_more done [] = ap table (sym (append-nil done))
-table_more done (s ∷ ps) = ap (λ (rows : List Row). fold with_part rows ps) (one_more done s) ∙ table_more (done ++ s ∷ []) ps ∙ ap table (append_assoc done (s ∷ []) ps)
+table_more done (s ∷ ps) =
+    ap (λ (rows : List Row). fold with_part rows ps) (one_more done s) ∙ table_more (done ++ s ∷ []) ps
+    ∙ ap table (append_assoc done (s ∷ []) ps)
 
 -- the rows that all parts lead to
 pub all_rows : (all : List Part) → fold with_part [] all ≡ path_rows all
 all_rows all = table_more [] all
 
-lines_in : (all : List Part) (paths : List (List ℕ)) → flat_map row_text (map (row_in all) paths) ≡ flat_map (λ path. path_line path (own_time all path)) paths
+lines_in : (all : List Part) (paths : List (List ℕ))
+    → flat_map row_text (map (row_in all) paths) ≡ flat_map (λ path. path_line path (own_time all path)) paths
 lines_in all [] = refl
 lines_in all (p ∷ paths) = ap (λ (t : List ℕ). path_line p (own_time all p) ++ t) (lines_in all paths)
 

@@ -64,31 +64,43 @@ module _ (v : Folding) where
   pub folding_at : (entries left : List Entry) → left ≡ entries → IsFolding v entries left
   folding_at entries left same = subst (λ (es : List Entry). IsFolding v entries es) (sym same) (folding_begun entries)
 
-  all_more : (entries earlier left rest : List Entry) (e : Entry) → left ≡ e ∷ rest → entries ≡ earlier ++ left → entries ≡ (earlier ++ e ∷ []) ++ rest
-  all_more entries earlier left rest e next all = all ∙ ap (λ (es : List Entry). earlier ++ es) next ∙ sym (append_assoc earlier (e ∷ []) rest)
+  all_more : (entries earlier left rest : List Entry) (e : Entry) → left ≡ e ∷ rest → entries ≡ earlier ++ left
+      → entries ≡ (earlier ++ e ∷ []) ++ rest
+  all_more entries earlier left rest e next all =
+      all ∙ ap (λ (es : List Entry). earlier ++ es) next ∙ sym (append_assoc earlier (e ∷ []) rest)
 
   same_wanted : (now : Folding) → now.wanted ≡ v.wanted → now.wanted.now ≡ v.wanted.now
   same_wanted now same = ap (λ (w : Bor Wanted). w.now) same
 
-  wanted_more : (earlier : List Entry) (e : Entry) (b : Bool) → is_wanted v.wanted.now e.0 ≡ b → wanted_in v (earlier ++ e ∷ []) ≡ wanted_in v earlier ++ (if b then e ∷ [] else [])
-  wanted_more earlier e b is = filter-append (λ d. is_wanted v.wanted.now d.0) earlier (e ∷ []) ∙ ap (λ (es : List Entry). wanted_in v earlier ++ es) (wanted_one e b is)
+  wanted_more : (earlier : List Entry) (e : Entry) (b : Bool) → is_wanted v.wanted.now e.0 ≡ b
+      → wanted_in v (earlier ++ e ∷ []) ≡ wanted_in v earlier ++ (if b then e ∷ [] else [])
+  wanted_more earlier e b is =
+      filter-append (λ d. is_wanted v.wanted.now d.0) earlier (e ∷ [])
+      ∙ ap (λ (es : List Entry). wanted_in v earlier ++ es) (wanted_one e b is)
 
   found_more : (ts : List Tree) (t : Tree) → true ≡ has_trees v.is_found (ts ++ t ∷ [])
   found_more [] t = refl
   found_more (s ∷ ts) t = refl
 
-  pub folding_more : (now new : Folding) (entries left rest : List Entry) (e : Entry) → left ≡ e ∷ rest → IsFolding now entries left → StepsStack now new e.0 e.1 → IsFolding new entries rest
+  pub folding_more : (now new : Folding) (entries left rest : List Entry) (e : Entry) → left ≡ e ∷ rest
+      → IsFolding now entries left → StepsStack now new e.0 e.1 → IsFolding new entries rest
   folding_more now new entries left rest e next h (inl step) =
       let a = step.1 in
       let t : Tree = (e.0, a.forest) in
       let wanted : is_wanted v.wanted.now e.0 ≡ true = ap (λ (w : Wanted). is_wanted w e.0) (sym (same_wanted now h.wanted)) ∙ step.0 in
-      let more : HasMoreParts now.stacks new.stacks (tree_parts t) = subst (λ (k : Bor Collection). HasMoreParts now.stacks new.stacks (forest_parts k.now a.forest)) h.parts.known a.parts in
+      let more : HasMoreParts now.stacks new.stacks
+      (tree_parts t) = subst (λ (k : Bor Collection). HasMoreParts now.stacks new.stacks (forest_parts k.now a.forest))
+      h.parts.known a.parts in
       record {
         earlier = h.earlier ++ e ∷ [];
         all = all_more entries h.earlier left rest e next h.all;
         trees = h.trees ++ t ∷ [];
-        spelled = subst (λ (es : List Entry). AreSpelled es (h.trees ++ t ∷ [])) (sym (wanted_more h.earlier e true wanted)) (spelled_more (wanted_in v h.earlier) h.trees e t h.spelled ((refl, a.spells), tt));
-        parts = subst (HasMoreParts v.stacks new.stacks) (ap (λ (ps : List Part). flat_map tree_parts h.trees ++ ps) (sym (append-nil (tree_parts t))) ∙ sym (flat_map-append tree_parts h.trees (t ∷ [])))
+        spelled = subst (λ (es : List Entry). AreSpelled es (h.trees ++ t ∷ [])) (sym (wanted_more h.earlier e true wanted))
+            (spelled_more (wanted_in v h.earlier) h.trees e t h.spelled ((refl, a.spells), tt));
+        parts =
+            subst (HasMoreParts v.stacks new.stacks)
+            (ap (λ (ps : List Part). flat_map tree_parts h.trees ++ ps) (sym (append-nil (tree_parts t)))
+            ∙ sym (flat_map-append tree_parts h.trees (t ∷ [])))
             (parts_more v.stacks now.stacks new.stacks (flat_map tree_parts h.trees) (tree_parts t) h.parts more);
         found = a.found ∙ found_more h.trees t;
         wanted = a.wanted ∙ h.wanted;
@@ -99,13 +111,16 @@ module _ (v : Folding) where
         earlier = h.earlier ++ e ∷ [];
         all = all_more entries h.earlier left rest e next h.all;
         trees = h.trees;
-        spelled = subst (λ (es : List Entry). AreSpelled es h.trees) (sym (wanted_more h.earlier e false unwanted ∙ append-nil (wanted_in v h.earlier))) h.spelled;
+        spelled = subst (λ (es : List Entry). AreSpelled es h.trees)
+            (sym (wanted_more h.earlier e false unwanted ∙ append-nil (wanted_in v h.earlier))) h.spelled;
         parts = h.parts;
         found = h.found;
         wanted = h.wanted;
       })
 
-  pub folding_unread : (now : Folding) (entries left rest : List Entry) (e : Entry) (fault : Error) → left ≡ e ∷ rest → IsFolding now entries left → is_wanted now.wanted.now e.0 ≡ true → IsFault e.1.form e.1.bytes fault → AreUnread (wanted_in v entries) fault
+  pub folding_unread : (now : Folding) (entries left rest : List Entry) (e : Entry) (fault : Error) → left ≡ e ∷ rest
+      → IsFolding now entries left → is_wanted now.wanted.now e.0 ≡ true → IsFault e.1.form e.1.bytes fault
+      → AreUnread (wanted_in v entries) fault
   folding_unread now entries left rest e fault next h is faulty =
       let wanted : is_wanted v.wanted.now e.0 ≡ true = ap (λ (w : Wanted). is_wanted w e.0) (sym (same_wanted now h.wanted)) ∙ is in
       let test = λ (d : Entry). is_wanted v.wanted.now d.0 in
@@ -123,9 +138,11 @@ module _ (v : Folding) where
 
 module _ (old : Folding) (frame : OpenFrame) where
   -- all streams of a frame were added
-  pub frame_folded : (new : Folding) (all left : List Entry) → left ≡ [] → IsFolding old new all left → all_streams frame ≡ all → (more : List ℕ) × ([] ≡ [] ++ more) × TakesStacks old (frame ∷ []) more new
+  pub frame_folded : (new : Folding) (all left : List Entry) → left ≡ [] → IsFolding old new all left → all_streams frame ≡ all
+      → (more : List ℕ) × ([] ≡ [] ++ more) × TakesStacks old (frame ∷ []) more new
   frame_folded new all left none h same =
-      let whole : h.earlier ≡ all_streams frame = sym (same ∙ h.all ∙ ap (λ (es : List Entry). h.earlier ++ es) none ∙ append-nil h.earlier) in
+      let whole : h.earlier ≡ all_streams frame = sym (same ∙ h.all ∙ ap (λ (es : List Entry). h.earlier ++ es) none
+      ∙ append-nil h.earlier) in
       let f : TreeFrame = record { meta = frame.meta; trees = h.trees } in
       let some : List Part = flat_map (λ (t : Tree). forest_parts old.stacks.known.now t.1) h.trees in (
         [],
@@ -141,7 +158,8 @@ module _ (old : Folding) (frame : OpenFrame) where
         },
       )
 
-  pub frame_unread : (entries : List Entry) (fault : Error) → all_streams frame ≡ entries → AreUnread (wanted_in old entries) fault → AreUnread (wanted_streams old.wanted.now frame) fault
+  pub frame_unread : (entries : List Entry) (fault : Error) → all_streams frame ≡ entries
+      → AreUnread (wanted_in old entries) fault → AreUnread (wanted_streams old.wanted.now frame) fault
   frame_unread entries fault same u = subst (λ (es : List Entry). AreUnread (wanted_in old es) fault) (sym same) u
 
 -- ---- a file
@@ -156,9 +174,16 @@ module _ (old new : Folding) (unread left before mid : Option (List ℕ)) where
   abbrev pub Refused : FileError → Type 0
   Refused e = IsStopped IsNoText (RefusesTaken wanted) unread left before mid e
 
-  pub folding_stopped : (e : FileError) → StopsListing none TakesStacks RefusesFrame wanted.frames old new unread left before mid e → Refused e
-  folding_stopped e h = stopped none TakesStacks wanted.frames RefusesFrame IsNoText (RefusesTaken wanted) old new unread left before mid e (λ frames more v taken. taken.none)
-      (λ frames more v frame cause taken there refused. (there, subst (λ (w : Wanted). AreUnread (wanted_streams w frame) cause) (ap (λ (w : Bor Wanted). w.now) taken.wanted) refused)) h
+  pub folding_stopped : (e : FileError)
+      → StopsListing none TakesStacks RefusesFrame wanted.frames old new unread left before mid e → Refused e
+  folding_stopped e h =
+      stopped none TakesStacks wanted.frames RefusesFrame IsNoText (RefusesTaken wanted) old new unread left before mid e
+      (λ frames more v taken. taken.none)
+      (λ frames more v frame cause taken there refused. (
+        there,
+        subst (λ (w : Wanted). AreUnread (wanted_streams w frame) cause)
+            (ap (λ (w : Bor Wanted). w.now) taken.wanted) refused,
+      )) h
 
   module _ (h : ListsAll none TakesStacks wanted.frames old new unread left before mid) where
     quiet : Appends before mid []
@@ -176,7 +201,8 @@ module _ (old new : Folding) (unread left before mid : Option (List ℕ)) where
       outcome = inl (outside, ([], [], refl, quiet));
     }
 
-    module _ (empty : rows_of old.stacks ≡ []) (k : Collection) (same : old.stacks.known.now ≡ k) (unfound : old.is_found ≡ false) (lines : List ℕ) (is : lines ≡ flat_map row_text (rows_of new.stacks)) (after : Option (List ℕ)) where
+    module _ (empty : rows_of old.stacks ≡ []) (k : Collection) (same : old.stacks.known.now ≡ k) (unfound : old.is_found ≡ false)
+        (lines : List ℕ) (is : lines ≡ flat_map row_text (rows_of new.stacks)) (after : Option (List ℕ)) where
       are_lines : IsFolded k wanted new.is_found h.listed.frames lines
       are_lines =
           let t = h.listed.taken in (

@@ -13,7 +13,8 @@ use Rattle.puffin_view.specs.View.Stats.{cut}
 use Rattle.puffin_look.specs.Buckets.{last_of}
 use Rattle.puffin_look.specs.inner.Counts.{bucket_at}
 use Rattle.puffin_look.specs.Top.{rank_of, IsPercentile}
-use Rattle.puffin_look.specs.Top.{Piece, pieces_of, call_times, nested_times, with_name, names_in}
+use Rattle.puffin_look.specs.Top.{Piece, pieces_of, call_times, nested_times, names_in}
+use Rattle.puffin_look.specs.Names.{with_name}
 use Rattle.puffin_look.specs.inner.Tallies.{Row, Counted, row_with, with_row, with_piece, with_piece_in, with_call, with_nested, no_tally}
 use Rattle.puffin_look.proofs.StackRows.{turned, left_false, right_false}
 use Rattle.puffin_look.proofs.Ranked.{count_time, bucket_ranked}
@@ -32,18 +33,25 @@ table all = map (row_in all) (names_in all)
 abbrev with_piece_name : List (List ℕ) → Piece → List (List ℕ)
 with_piece_name names p = with_name names p.name
 
-pieces_more : (done : List Piece) (p : Piece) (name : List ℕ) (b : Bool) → bytes_eq p.name name ≡ b → pieces_of name (done ++ p ∷ []) ≡ pieces_of name done ++ (if b then p ∷ [] else [])
-pieces_more done p name b is = filter-append (λ (d : Piece). bytes_eq d.name name) done (p ∷ []) ∙ ap (λ (t : Bool). pieces_of name done ++ (if t then p ∷ [] else [])) is
+pieces_more : (done : List Piece) (p : Piece) (name : List ℕ) (b : Bool) → bytes_eq p.name name ≡ b
+    → pieces_of name (done ++ p ∷ []) ≡ pieces_of name done ++ (if b then p ∷ [] else [])
+pieces_more done p name b is =
+    filter-append (λ (d : Piece). bytes_eq d.name name) done (p ∷ [])
+    ∙ ap (λ (t : Bool). pieces_of name done ++ (if t then p ∷ [] else [])) is
 
-row_more_by : (done : List Piece) (p : Piece) (name : List ℕ) (b : Bool) → bytes_eq p.name name ≡ b → row_with p (row_in done name) ≡ row_in (done ++ p ∷ []) name
+row_more_by : (done : List Piece) (p : Piece) (name : List ℕ) (b : Bool) → bytes_eq p.name name ≡ b
+    → row_with p (row_in done name) ≡ row_in (done ++ p ∷ []) name
 row_more_by done p name true is =
     ap (λ (t : Bool). if t then (name, with_piece (tally_in done name) p) else row_in done name) is
-    ∙ ap (λ (t : Counted). (name, t)) (sym (fold-append with_piece no_tally (pieces_of name done) (p ∷ [])) ∙ ap (fold with_piece no_tally) (sym (pieces_more done p name true is)))
+    ∙ ap (λ (t : Counted). (name, t)) (sym (fold-append with_piece no_tally (pieces_of name done) (p ∷ []))
+    ∙ ap (fold with_piece no_tally) (sym (pieces_more done p name true is)))
 row_more_by done p name false is =
     ap (λ (t : Bool). if t then (name, with_piece (tally_in done name) p) else row_in done name) is
-    ∙ ap (λ (ps : List Piece). (name, fold with_piece no_tally ps)) (sym (append-nil (pieces_of name done)) ∙ sym (pieces_more done p name false is))
+    ∙ ap (λ (ps : List Piece). (name, fold with_piece no_tally ps))
+    (sym (append-nil (pieces_of name done)) ∙ sym (pieces_more done p name false is))
 
-rows_grown : (done : List Piece) (p : Piece) (names : List (List ℕ)) → map (row_with p) (map (row_in done) names) ≡ map (row_in (done ++ p ∷ [])) names
+rows_grown : (done : List Piece) (p : Piece) (names : List (List ℕ))
+    → map (row_with p) (map (row_in done) names) ≡ map (row_in (done ++ p ∷ [])) names
 rows_grown done p [] = refl
 rows_grown done p (n ∷ names) = λ i. row_more_by done p n (bytes_eq p.name n) refl i ∷ rows_grown done p names i
 
@@ -51,12 +59,15 @@ keys_in : (all : List Piece) (names : List (List ℕ)) → keys_of (map (row_in 
 keys_in all [] = refl
 keys_in all (n ∷ names) = ap (λ (ns : List (List ℕ)). n ∷ ns) (keys_in all names)
 
-map_behind : (all : List Piece) (xs : List (List ℕ)) (y : List ℕ) → map (row_in all) (xs ++ y ∷ []) ≡ map (row_in all) xs ++ row_in all y ∷ []
+map_behind : (all : List Piece) (xs : List (List ℕ)) (y : List ℕ)
+    → map (row_in all) (xs ++ y ∷ []) ≡ map (row_in all) xs ++ row_in all y ∷ []
 map_behind all [] y = refl
 map_behind all (x ∷ xs) y = ap (λ (rows : List Row). row_in all x ∷ rows) (map_behind all xs y)
 
 -- a name that wasn't met has no pieces
-unmet_by : (name : List ℕ) (names : List (List ℕ)) (d : Piece) (b : Bool) → list_any (bytes_eq d.name) names ≡ b → list_any (bytes_eq name) (if b then names else names ++ d.name ∷ []) ≡ false → (bytes_eq d.name name ≡ false) × (list_any (bytes_eq name) names ≡ false)
+unmet_by : (name : List ℕ) (names : List (List ℕ)) (d : Piece) (b : Bool) → list_any (bytes_eq d.name) names ≡ b
+    → list_any (bytes_eq name) (if b then names else names ++ d.name ∷ []) ≡ false
+    → (bytes_eq d.name name ≡ false) × (list_any (bytes_eq name) names ≡ false)
 unmet_by name names d true is h =
     let other : (t : Bool) → bytes_eq d.name name ≡ t → t ≡ false =
     λ t e. elim t as (λ t. bytes_eq d.name name ≡ t → t ≡ false) [
@@ -69,21 +80,27 @@ unmet_by name names d false is h =
     let last = left_false (bytes_eq name d.name) false (right_false (list_any (bytes_eq name) names) _ parts) in
     (turned name d.name _ refl last, left_false (list_any (bytes_eq name) names) _ parts)
 
-unmet : (name : List ℕ) (names : List (List ℕ)) (ds : List Piece) → list_any (bytes_eq name) (fold with_piece_name names ds) ≡ false → (pieces_of name ds ≡ []) × (list_any (bytes_eq name) names ≡ false)
+unmet : (name : List ℕ) (names : List (List ℕ)) (ds : List Piece)
+    → list_any (bytes_eq name) (fold with_piece_name names ds) ≡ false
+    → (pieces_of name ds ≡ []) × (list_any (bytes_eq name) names ≡ false)
 unmet name names [] h = (refl, h)
 unmet name names (d ∷ ds) h =
     let rest = unmet name (with_piece_name names d) ds h in
     let one = unmet_by name names d _ refl rest.1 in
     (ap (λ (b : Bool). if b then d ∷ pieces_of name ds else pieces_of name ds) one.0 ∙ rest.0, one.1)
 
-named_by : (done : List Piece) (name : List ℕ) (b : Bool) → list_any (bytes_eq name) (names_in done) ≡ b → (if b then table done else table done ++ (name, no_tally) ∷ []) ≡ map (row_in done) (if b then names_in done else names_in done ++ name ∷ [])
+named_by : (done : List Piece) (name : List ℕ) (b : Bool) → list_any (bytes_eq name) (names_in done) ≡ b
+    → (if b then table done else table done ++ (name, no_tally) ∷ []) ≡ map (row_in done)
+    (if b then names_in done else names_in done ++ name ∷ [])
 named_by done name true is = refl
 named_by done name false is =
-    ap (λ (t : Counted). table done ++ (name, t) ∷ []) (sym (ap (fold with_piece no_tally) (unmet name [] done is).0)) ∙ sym (map_behind done (names_in done) name)
+    ap (λ (t : Counted). table done ++ (name, t) ∷ []) (sym (ap (fold with_piece no_tally) (unmet name [] done is).0))
+    ∙ sym (map_behind done (names_in done) name)
 
 named : (done : List Piece) (name : List ℕ) → with_row (table done) name ≡ map (row_in done) (with_name (names_in done) name)
 named done name =
-    ap (λ (ks : List (List ℕ)). if list_any (bytes_eq name) ks then table done else table done ++ (name, no_tally) ∷ []) (keys_in done (names_in done)) ∙ named_by done name _ refl
+    ap (λ (ks : List (List ℕ)). if list_any (bytes_eq name) ks then table done else table done ++ (name, no_tally)
+    ∷ []) (keys_in done (names_in done)) ∙ named_by done name _ refl
 
 one_more : (done : List Piece) (p : Piece) → with_piece_in (table done) p ≡ table (done ++ p ∷ [])
 one_more done p =
@@ -92,7 +109,9 @@ one_more done p =
 
 table_more : (done ps : List Piece) → fold with_piece_in (table done) ps ≡ table (done ++ ps)
 table_more done [] = ap table (sym (append-nil done))
-table_more done (p ∷ ps) = ap (λ (rows : List Row). fold with_piece_in rows ps) (one_more done p) ∙ table_more (done ++ p ∷ []) ps ∙ ap table (append_assoc done (p ∷ []) ps)
+table_more done (p ∷ ps) =
+    ap (λ (rows : List Row). fold with_piece_in rows ps) (one_more done p) ∙ table_more (done ++ p ∷ []) ps
+    ∙ ap table (append_assoc done (p ∷ []) ps)
 
 pub all_tallied : (all : List Piece) → fold with_piece_in [] all ≡ table all
 all_tallied all = table_more [] all
@@ -115,13 +134,16 @@ module _ (t : Counted) (p : Piece) (ps : List Piece) (u : Counted) where
   calls_by b = map (λ (x : Piece). x.time) (if b then p ∷ filter (λ (x : Piece). x.is_call) ps else filter (λ (x : Piece). x.is_call) ps)
 
   abbrev nested_by : Bool → List ℕ
-  nested_by b = map (λ (x : Piece). x.time) (if not b then p ∷ filter (λ (x : Piece). not x.is_call) ps else filter (λ (x : Piece). not x.is_call) ps)
+  nested_by b =
+      map (λ (x : Piece). x.time) (if not b then p ∷ filter (λ (x : Piece). not x.is_call) ps else filter
+      (λ (x : Piece). not x.is_call) ps)
 
   called : p.is_call ≡ true → Grows (with_call t p.time) ps u → Grows t (p ∷ ps) u
   called is h =
       let times : call_times (p ∷ ps) ≡ p.time ∷ call_times ps = ap calls_by is in
       let others : nested_times (p ∷ ps) ≡ nested_times ps = ap nested_by is in
-      let more : sum (call_times (p ∷ ps)) ≡ p.time + sum (call_times ps) = ap sum times ∙ sum_by-cons (λ (x : ℕ). x) p.time (call_times ps) in
+      let more : sum (call_times (p ∷ ps)) ≡ p.time + sum (call_times ps) = ap sum times
+      ∙ sum_by-cons (λ (x : ℕ). x) p.time (call_times ps) in
       let size : length (call_times (p ∷ ps)) ≡ length (p.time ∷ call_times ps) = ap (length {A = ℕ}) times in
       record {
         calls = λ fits. omega (arith, h.calls (omega arith), size);
@@ -136,7 +158,8 @@ module _ (t : Counted) (p : Piece) (ps : List Piece) (u : Counted) where
   nested is h =
       let times : call_times (p ∷ ps) ≡ call_times ps = ap calls_by is in
       let others : nested_times (p ∷ ps) ≡ p.time ∷ nested_times ps = ap nested_by is in
-      let more : sum (nested_times (p ∷ ps)) ≡ p.time + sum (nested_times ps) = ap sum others ∙ sum_by-cons (λ (x : ℕ). x) p.time (nested_times ps) in
+      let more : sum (nested_times (p ∷ ps)) ≡ p.time + sum (nested_times ps) = ap sum others
+      ∙ sum_by-cons (λ (x : ℕ). x) p.time (nested_times ps) in
       record {
         calls = λ fits. h.calls fits ∙ ap (λ (ts : List ℕ). cut (t.0.calls + length ts)) (sym times);
         total = λ fits. h.total fits ∙ ap (λ (ts : List ℕ). cut (t.0.total + sum ts)) (sym times);
@@ -146,12 +169,22 @@ module _ (t : Counted) (p : Piece) (ps : List Piece) (u : Counted) where
         counts = h.counts ∙ ap (fold count_time t.1) (sym times);
       }
 
-grows_by : (t : Counted) (p : Piece) (ps : List Piece) (b : Bool) → p.is_call ≡ b → ((v : Counted) → Grows v ps (fold with_piece v ps)) → Grows t (p ∷ ps) (fold with_piece (if b then with_call t p.time else with_nested t p.time) ps)
+grows_by : (t : Counted) (p : Piece) (ps : List Piece) (b : Bool) → p.is_call ≡ b
+    → ((v : Counted) → Grows v ps (fold with_piece v ps))
+    → Grows t (p ∷ ps) (fold with_piece (if b then with_call t p.time else with_nested t p.time) ps)
 grows_by t p ps true is rest = called t p ps _ is (rest (with_call t p.time))
 grows_by t p ps false is rest = nested t p ps _ is (rest (with_nested t p.time))
 
 grows : (t : Counted) (ps : List Piece) → Grows t ps (fold with_piece t ps)
-grows t [] = record { calls = λ fits. omega arith; total = λ fits. omega arith; nested = λ fits. omega arith; least = refl; greatest = refl; counts = refl }
+grows t [] =
+    record {
+      calls = λ fits. omega arith;
+      total = λ fits. omega arith;
+      nested = λ fits. omega arith;
+      least = refl;
+      greatest = refl;
+      counts = refl;
+    }
 grows t (p ∷ ps) = grows_by t p ps p.is_call refl (λ v. grows v ps)
 
 -- what is counted under a name is what its pieces say
@@ -159,7 +192,9 @@ pub tally_grows : (ps : List Piece) → Grows no_tally ps (fold with_piece no_ta
 tally_grows ps = grows no_tally ps
 
 -- a percentile is that of the calls
-pub percentile_is : (ps : List Piece) (percent value : ℕ) → let t = fold with_piece no_tally ps in value ≡ min (last_of (bucket_at t.1 (rank_of percent t.0.calls))) t.0.greatest → IsPercentile percent (call_times ps) value
+pub percentile_is : (ps : List Piece) (percent value : ℕ)
+    → let t = fold with_piece no_tally ps in value ≡ min (last_of (bucket_at t.1 (rank_of percent t.0.calls))) t.0.greatest
+    → IsPercentile percent (call_times ps) value
 percentile_is ps percent value is = λ fits exact below ranked.
     let h = grows no_tally ps in
     let times = call_times ps in

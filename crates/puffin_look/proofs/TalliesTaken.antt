@@ -35,16 +35,19 @@ use Rattle.puffin_look.proofs.RowsTold.{rows_told}
 
 -- ---- a scope
 
-stands_name : (v : Tallies) (w : Option ℕ) (around : List Span) → StandsFor v w around → name_at (rows_of v) w ≡ name_around v.known.now v.texts around
+stands_name : (v : Tallies) (w : Option ℕ) (around : List Span) → StandsFor v w around
+    → name_at (rows_of v) w ≡ name_around v.known.now v.texts around
 stands_name v None around s = sym s
 stands_name v (Some i) around s = s.2 ∙ sym s.1
 
-pub stands_within : (v : Tallies) (w : Option ℕ) (around : List Span) → StandsFor v w around → IfSome w (λ i. (name : List ℕ) × (slice_get (keys_of (rows_of v)) i ≡ Some name))
+pub stands_within : (v : Tallies) (w : Option ℕ) (around : List Span) → StandsFor v w around
+    → IfSome w (λ i. (name : List ℕ) × (slice_get (keys_of (rows_of v)) i ≡ Some name))
 stands_within v None around s = tt
 stands_within v (Some i) around s = (s.0, s.2)
 
 -- the name was made first, which changed nothing else
-pub renamed : (v m u : Tallies) (w : Option ℕ) (name : List ℕ) (time : ℕ) → m.rows ≡ v.rows → m.known ≡ v.known → m.texts ≡ v.texts → m.name.items ≡ name → HasMorePieces m u (pieces_at (name_at (rows_of m) w) m.name.items time)
+pub renamed : (v m u : Tallies) (w : Option ℕ) (name : List ℕ) (time : ℕ) → m.rows ≡ v.rows → m.known ≡ v.known
+    → m.texts ≡ v.texts → m.name.items ≡ name → HasMorePieces m u (pieces_at (name_at (rows_of m) w) m.name.items time)
     → HasMorePieces v u (pieces_at (name_at (rows_of v) w) name time)
 renamed v m u w name time rows known texts same h = record {
   rows = h.rows ∙ (λ i. fold with_piece_in (rows_in ((rows i).entries)) (pieces_at (name_at (rows_in ((rows i).entries)) w) (same i) time));
@@ -52,15 +55,20 @@ renamed v m u w name time rows known texts same h = record {
   texts = h.texts ∙ texts;
 }
 
-pub entered : (v u : Tallies) (w : Option ℕ) (place : ℕ) (around : List Span) (s : Span) (time : ℕ) → time ≡ time_of s → HasMorePieces v u (pieces_at (name_at (rows_of v) w) (scope_name v.known.now v.texts s) time)
-    → slice_get (keys_of (rows_of u)) place ≡ Some (scope_name v.known.now v.texts s) → StandsFor v w around → TakesScopes v (record { around = around; span = s } ∷ []) u × StandsFor u (Some place) (around ++ s ∷ [])
+pub entered : (v u : Tallies) (w : Option ℕ) (place : ℕ) (around : List Span) (s : Span) (time : ℕ) → time ≡ time_of s
+    → HasMorePieces v u (pieces_at (name_at (rows_of v) w) (scope_name v.known.now v.texts s) time)
+    → slice_get (keys_of (rows_of u)) place ≡ Some (scope_name v.known.now v.texts s) → StandsFor v w around
+    → TakesScopes v (record { around = around; span = s } ∷ []) u × StandsFor u (Some place) (around ++ s ∷ [])
 entered v u w place around s time same more at stands =
     let p = stands_name v w around stands in
     let name = scope_name v.known.now v.texts s in (
-      subst (HasMorePieces v u) ((λ i. pieces_at (p i) name (same i)) ∙ sym (append-nil (scope_pieces v.known.now v.texts (record { around = around; span = s })))) more,
+      subst (HasMorePieces v u)
+          ((λ i. pieces_at (p i) name (same i))
+          ∙ sym (append-nil (scope_pieces v.known.now v.texts (record { around = around; span = s })))) more,
       (
         name,
-        (λ i. name_around (more.known i).now (more.texts i) (around ++ s ∷ [])) ∙ fold-append (inner_name v.known.now v.texts) None around (s ∷ []),
+        (λ i. name_around (more.known i).now (more.texts i) (around ++ s ∷ []))
+            ∙ fold-append (inner_name v.known.now v.texts) None around (s ∷ []),
         at,
       ),
     )
@@ -103,27 +111,38 @@ module _ (v : Tallying) where
   pub tallying_at : (entries left : List Entry) → left ≡ entries → IsTallying v entries left
   tallying_at entries left same = subst (λ (es : List Entry). IsTallying v entries es) (sym same) (tallying_begun entries)
 
-  all_more : (entries earlier left rest : List Entry) (e : Entry) → left ≡ e ∷ rest → entries ≡ earlier ++ left → entries ≡ (earlier ++ e ∷ []) ++ rest
-  all_more entries earlier left rest e next all = all ∙ ap (λ (es : List Entry). earlier ++ es) next ∙ sym (append_assoc earlier (e ∷ []) rest)
+  all_more : (entries earlier left rest : List Entry) (e : Entry) → left ≡ e ∷ rest → entries ≡ earlier ++ left
+      → entries ≡ (earlier ++ e ∷ []) ++ rest
+  all_more entries earlier left rest e next all =
+      all ∙ ap (λ (es : List Entry). earlier ++ es) next ∙ sym (append_assoc earlier (e ∷ []) rest)
 
   same_wanted : (now : Tallying) → now.wanted ≡ v.wanted → now.wanted.now ≡ v.wanted.now
   same_wanted now same = ap (λ (w : Bor Wanted). w.now) same
 
-  wanted_more : (earlier : List Entry) (e : Entry) (b : Bool) → is_wanted v.wanted.now e.0 ≡ b → wanted_in v (earlier ++ e ∷ []) ≡ wanted_in v earlier ++ (if b then e ∷ [] else [])
-  wanted_more earlier e b is = filter-append (λ d. is_wanted v.wanted.now d.0) earlier (e ∷ []) ∙ ap (λ (es : List Entry). wanted_in v earlier ++ es) (wanted_one e b is)
+  wanted_more : (earlier : List Entry) (e : Entry) (b : Bool) → is_wanted v.wanted.now e.0 ≡ b
+      → wanted_in v (earlier ++ e ∷ []) ≡ wanted_in v earlier ++ (if b then e ∷ [] else [])
+  wanted_more earlier e b is =
+      filter-append (λ d. is_wanted v.wanted.now d.0) earlier (e ∷ [])
+      ∙ ap (λ (es : List Entry). wanted_in v earlier ++ es) (wanted_one e b is)
 
-  pub tallying_more : (now new : Tallying) (entries left rest : List Entry) (e : Entry) → left ≡ e ∷ rest → IsTallying now entries left → StepsTally now new e.0 e.1 → IsTallying new entries rest
+  pub tallying_more : (now new : Tallying) (entries left rest : List Entry) (e : Entry) → left ≡ e ∷ rest
+      → IsTallying now entries left → StepsTally now new e.0 e.1 → IsTallying new entries rest
   tallying_more now new entries left rest e next h (inl step) =
       let a = step.1 in
       let t : Tree = (e.0, a.forest) in
       let wanted : is_wanted v.wanted.now e.0 ≡ true = ap (λ (w : Wanted). is_wanted w e.0) (sym (same_wanted now h.wanted)) ∙ step.0 in
-      let more : HasMorePieces now.tallies new.tallies (tree_pieces t) = subst (HasMorePieces now.tallies new.tallies) (λ i. forest_pieces (h.pieces.known i).now (h.pieces.texts i) a.forest) a.pieces in
+      let more : HasMorePieces now.tallies new.tallies (tree_pieces t) = subst (HasMorePieces now.tallies new.tallies)
+      (λ i. forest_pieces (h.pieces.known i).now (h.pieces.texts i) a.forest) a.pieces in
       record {
         earlier = h.earlier ++ e ∷ [];
         all = all_more entries h.earlier left rest e next h.all;
         trees = h.trees ++ t ∷ [];
-        spelled = subst (λ (es : List Entry). AreSpelled es (h.trees ++ t ∷ [])) (sym (wanted_more h.earlier e true wanted)) (spelled_more (wanted_in v h.earlier) h.trees e t h.spelled ((refl, a.spells), tt));
-        pieces = subst (HasMorePieces v.tallies new.tallies) (ap (λ (ps : List Piece). flat_map tree_pieces h.trees ++ ps) (sym (append-nil (tree_pieces t))) ∙ sym (flat_map-append tree_pieces h.trees (t ∷ [])))
+        spelled = subst (λ (es : List Entry). AreSpelled es (h.trees ++ t ∷ [])) (sym (wanted_more h.earlier e true wanted))
+            (spelled_more (wanted_in v h.earlier) h.trees e t h.spelled ((refl, a.spells), tt));
+        pieces =
+            subst (HasMorePieces v.tallies new.tallies)
+            (ap (λ (ps : List Piece). flat_map tree_pieces h.trees ++ ps) (sym (append-nil (tree_pieces t)))
+            ∙ sym (flat_map-append tree_pieces h.trees (t ∷ [])))
             (pieces_more v.tallies now.tallies new.tallies (flat_map tree_pieces h.trees) (tree_pieces t) h.pieces more);
         whole = a.whole ∙ h.whole;
         count = a.count ∙ h.count;
@@ -135,14 +154,17 @@ module _ (v : Tallying) where
         earlier = h.earlier ++ e ∷ [];
         all = all_more entries h.earlier left rest e next h.all;
         trees = h.trees;
-        spelled = subst (λ (es : List Entry). AreSpelled es h.trees) (sym (wanted_more h.earlier e false unwanted ∙ append-nil (wanted_in v h.earlier))) h.spelled;
+        spelled = subst (λ (es : List Entry). AreSpelled es h.trees)
+            (sym (wanted_more h.earlier e false unwanted ∙ append-nil (wanted_in v h.earlier))) h.spelled;
         pieces = h.pieces;
         whole = h.whole;
         count = h.count;
         wanted = h.wanted;
       })
 
-  pub tallying_unread : (now : Tallying) (entries left rest : List Entry) (e : Entry) (fault : Error) → left ≡ e ∷ rest → IsTallying now entries left → is_wanted now.wanted.now e.0 ≡ true → IsFault e.1.form e.1.bytes fault → AreUnread (wanted_in v entries) fault
+  pub tallying_unread : (now : Tallying) (entries left rest : List Entry) (e : Entry) (fault : Error) → left ≡ e ∷ rest
+      → IsTallying now entries left → is_wanted now.wanted.now e.0 ≡ true → IsFault e.1.form e.1.bytes fault
+      → AreUnread (wanted_in v entries) fault
   tallying_unread now entries left rest e fault next h is faulty =
       let wanted : is_wanted v.wanted.now e.0 ≡ true = ap (λ (w : Wanted). is_wanted w e.0) (sym (same_wanted now h.wanted)) ∙ is in
       let test = λ (d : Entry). is_wanted v.wanted.now d.0 in
@@ -160,10 +182,13 @@ module _ (v : Tallying) where
 
 module _ (old : Tallying) (frame : OpenFrame) where
   -- all streams of a frame were added, and then its duration
-  pub frame_tallied : (now new : Tallying) (all left : List Entry) → left ≡ [] → IsTallying old now all left → all_streams frame ≡ all → new.tallies ≡ now.tallies → new.wanted ≡ now.wanted → new.whole ≡ cut (now.whole + length_of frame.meta.range_ns) → new.frames ≡ cut (now.frames + 1)
+  pub frame_tallied : (now new : Tallying) (all left : List Entry) → left ≡ [] → IsTallying old now all left
+      → all_streams frame ≡ all → new.tallies ≡ now.tallies → new.wanted ≡ now.wanted
+      → new.whole ≡ cut (now.whole + length_of frame.meta.range_ns) → new.frames ≡ cut (now.frames + 1)
       → (more : List ℕ) × ([] ≡ [] ++ more) × TakesTallies old (frame ∷ []) more new
   frame_tallied now new all left none h same tallies wanted more one =
-      let whole : h.earlier ≡ all_streams frame = sym (same ∙ h.all ∙ ap (λ (es : List Entry). h.earlier ++ es) none ∙ append-nil h.earlier) in
+      let whole : h.earlier ≡ all_streams frame = sym (same ∙ h.all ∙ ap (λ (es : List Entry). h.earlier ++ es) none
+      ∙ append-nil h.earlier) in
       let f : TreeFrame = record { meta = frame.meta; trees = h.trees } in
       let some : List Piece = flat_map (λ (t : Tree). forest_pieces old.tallies.known.now old.tallies.texts t.1) h.trees in (
         [],
@@ -181,7 +206,8 @@ module _ (old : Tallying) (frame : OpenFrame) where
         },
       )
 
-  pub frame_unread : (entries : List Entry) (fault : Error) → all_streams frame ≡ entries → AreUnread (wanted_in old entries) fault → AreUnread (wanted_streams old.wanted.now frame) fault
+  pub frame_unread : (entries : List Entry) (fault : Error) → all_streams frame ≡ entries
+      → AreUnread (wanted_in old entries) fault → AreUnread (wanted_streams old.wanted.now frame) fault
   frame_unread entries fault same u = subst (λ (es : List Entry). AreUnread (wanted_in old es) fault) (sym same) u
 
 -- ---- a file
@@ -202,20 +228,32 @@ module _ (old new : Tallying) (unread left before mid : Option (List ℕ)) where
     outcome = elim (s.outcome) [
       | inl outside ↦ inl outside.0
       | inr (inl behind) ↦ inr (inl behind.1)
-      | inr (inr letters) ↦ inr (inr (letters.0, letters.1))
+      | inr (inr letters) ↦ inr (inr letters.0)
     ];
   }
 
-  pub tallying_stopped : (e : FileError) → StopsListing none TakesTallies RefusesFrame wanted.frames old new unread left before mid e → StopsReading wanted unread left e
-  tallying_stopped e h = told e (stopped none TakesTallies wanted.frames RefusesFrame IsNoText (RefusesTaken wanted) old new unread left before mid e (λ frames more v taken. taken.none)
-      (λ frames more v frame cause taken there refused. (there, subst (λ (w : Wanted). AreUnread (wanted_streams w frame) cause) (ap (λ (w : Bor Wanted). w.now) taken.wanted) refused)) h)
+  pub tallying_stopped : (e : FileError)
+      → StopsListing none TakesTallies RefusesFrame wanted.frames old new unread left before mid e
+      → StopsReading wanted unread left e
+  tallying_stopped e h =
+      told e (stopped none TakesTallies wanted.frames RefusesFrame IsNoText (RefusesTaken wanted) old new unread left before mid e
+      (λ frames more v taken. taken.none)
+      (λ frames more v frame cause taken there refused. (
+        there,
+        subst (λ (w : Wanted). AreUnread (wanted_streams w frame) cause)
+            (ap (λ (w : Bor Wanted). w.now) taken.wanted) refused,
+      )) h)
 
   module _ (h : ListsAll none TakesTallies wanted.frames old new unread left before mid) where
     -- there is no memory for the rows
     pub none_told : (e : FileError) → IsOutside e → StopsReading wanted unread left e
-    none_told e outside = record { stored = h.stored; begins = h.begins; frames = h.listed.frames; opens = h.listed.opens; outcome = inl outside }
+    none_told e outside =
+        record { stored = h.stored; begins = h.begins; frames = h.listed.frames; opens = h.listed.opens; outcome = inl outside }
 
-    pub top_told : (empty : rows_of old.tallies ≡ []) (k : Collection) (same : old.tallies.known.now ≡ k) (texts : Bool) (kept : old.tallies.texts ≡ texts) (zero : old.whole ≡ 0) (no_frames : old.frames ≡ 0) (top : Top) → HaveTallies (rows_of new.tallies) top.rows.items → top.whole ≡ new.whole → top.frames ≡ new.frames → IsTop k wanted texts unread left top
+    pub top_told : (empty : rows_of old.tallies ≡ []) (k : Collection) (same : old.tallies.known.now ≡ k) (texts : Bool)
+        (kept : old.tallies.texts ≡ texts) (zero : old.whole ≡ 0) (no_frames : old.frames ≡ 0) (top : Top)
+        → HaveTallies (rows_of new.tallies) top.rows.items → top.whole ≡ new.whole → top.frames ≡ new.frames
+        → IsTop k wanted texts unread left top
     top_told empty k same texts kept zero no_frames top are whole count =
         let t = h.listed.taken in
         record {
@@ -225,7 +263,9 @@ module _ (old new : Tallying) (unread left before mid : Option (List ℕ)) where
           opens = h.listed.opens;
           trees = t.trees;
           taken = t.read;
-          rows = rows_told (pieces k texts t.trees) top.rows.items (subst (λ (rows : List Row). HaveTallies rows top.rows.items) (t.rows ∙ (λ i. fold with_piece_in (empty i) (pieces (same i) (kept i) t.trees))) are);
+          rows = rows_told (pieces k texts t.trees) top.rows.items
+              (subst (λ (rows : List Row). HaveTallies rows top.rows.items)
+              (t.rows ∙ (λ i. fold with_piece_in (empty i) (pieces (same i) (kept i) t.trees))) are);
           whole = whole ∙ t.whole ∙ ap (λ (n : ℕ). fold with_length n t.trees) zero;
           count = count ∙ t.count ∙ ap (λ (n : ℕ). fold with_one n t.trees) no_frames;
         }

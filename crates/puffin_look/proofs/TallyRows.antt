@@ -22,7 +22,8 @@ use Rattle.puffin_look.proofs.StackRows.{Key, same_key, has_path, turned}
 looked_up : (name : List ℕ) (es : List Held) → is_some (lookup (has_path name) es) ≡ list_any (bytes_eq name) (keys_of (rows_in es))
 looked_up name [] = refl
 looked_up name (e ∷ es) =
-    elim (bytes_eq name e.0.items) as (λ b. is_some (cond b (Some e.1) (lookup (has_path name) es)) ≡ (b || list_any (bytes_eq name) (keys_of (rows_in es)))) [
+    elim (bytes_eq name e.0.items) as (λ b. is_some (cond b (Some e.1) (lookup (has_path name) es))
+    ≡ (b || list_any (bytes_eq name) (keys_of (rows_in es)))) [
       | true ↦ refl
       | false ↦ looked_up name es
     ]
@@ -34,33 +35,40 @@ there name (k ∷ ks) (suc i) h =
     elim (bytes_eq name k) as (λ b. (b || list_any (bytes_eq name) ks) ≡ true) [ true ↦ refl | false ↦ there name ks i h ]
 
 pub row_there : (rows : List Row) (name : List ℕ) (i : ℕ) → slice_get (keys_of rows) i ≡ Some name → with_row rows name ≡ rows
-row_there rows name i h = cond-true (list_any (bytes_eq name) (keys_of rows)) rows (rows ++ (name, no_tally) ∷ []) (there name (keys_of rows) i h)
+row_there rows name i h =
+    cond-true (list_any (bytes_eq name) (keys_of rows)) rows (rows ++ (name, no_tally) ∷ []) (there name (keys_of rows) i h)
 
 keys_seen : (es : List Held) → keys_of (rows_in es) ≡ map (λ (k : Key). k.items) (keys_of es)
 keys_seen [] = refl
 keys_seen (e ∷ es) = ap (λ (ks : List (List ℕ)). e.0.items ∷ ks) (keys_seen es)
 
-pub place_found : (es : List Held) (name : List ℕ) (i : ℕ) → position (has_path name) (keys_of es) ≡ Some i → slice_get (keys_of (rows_in es)) i ≡ Some name
+pub place_found : (es : List Held) (name : List ℕ) (i : ℕ) → position (has_path name) (keys_of es) ≡ Some i
+    → slice_get (keys_of (rows_in es)) i ≡ Some name
 place_found [] name i h = absurd (none-some i h)
 place_found (e ∷ es) name i h =
     let p = position-Some (has_path name) (keys_of (e ∷ es)) i e.0 h in
     ap (λ (ks : List (List ℕ)). slice_get ks i) (keys_seen (e ∷ es)) ∙ slice_get-map (λ (k : Key). k.items) (keys_of (e ∷ es)) i
-    ∙ ap (option_map (λ (k : Key). k.items)) (slice_get-get_or (keys_of (e ∷ es)) i e.0 p.0) ∙ ap Some (sym ((bytes_eq-Decides name _).0 p.1))
+    ∙ ap (option_map (λ (k : Key). k.items)) (slice_get-get_or (keys_of (e ∷ es)) i e.0 p.0)
+    ∙ ap Some (sym ((bytes_eq-Decides name _).0 p.1))
 
-pub no_place : (es : List Held) (i : ℕ) (name : List ℕ) → slice_get (values_of es) i ≡ None → slice_get (keys_of (rows_in es)) i ≡ Some name → ⊥
+pub no_place : (es : List Held) (i : ℕ) (name : List ℕ) → slice_get (values_of es) i ≡ None
+    → slice_get (keys_of (rows_in es)) i ≡ Some name → ⊥
 no_place [] i name none at = none-some name at
 no_place (e ∷ es) zero name none at = none-some e.1 (sym none)
 no_place (e ∷ es) (suc i) name none at = no_place es i name none at
 
 -- ---- a name that is new
 
-pub row_added : (es : List Held) (name : List ℕ) (k : Key) (v : Tally) → is_some (lookup (has_path name) es) ≡ false → k.items ≡ name → tally_of v ≡ no_tally → rows_in (es ++ (k, v) ∷ []) ≡ with_row (rows_in es) name
+pub row_added : (es : List Held) (name : List ℕ) (k : Key) (v : Tally) → is_some (lookup (has_path name) es) ≡ false
+    → k.items ≡ name → tally_of v ≡ no_tally → rows_in (es ++ (k, v) ∷ []) ≡ with_row (rows_in es) name
 row_added es name k v new same none =
     map-append row_of es ((k, v) ∷ [])
     ∙ (λ i. rows_in es ++ (same i, none i) ∷ [])
-    ∙ sym (cond-false (list_any (bytes_eq name) (keys_of (rows_in es))) (rows_in es) (rows_in es ++ (name, no_tally) ∷ []) (sym (looked_up name es) ∙ new))
+    ∙ sym (cond-false (list_any (bytes_eq name) (keys_of (rows_in es))) (rows_in es)
+    (rows_in es ++ (name, no_tally) ∷ []) (sym (looked_up name es) ∙ new))
 
-pub place_added : (es : List Held) (k : Key) (v : Tally) (name : List ℕ) → k.items ≡ name → slice_get (keys_of (rows_in (es ++ (k, v) ∷ []))) (length es) ≡ Some name
+pub place_added : (es : List Held) (k : Key) (v : Tally) (name : List ℕ) → k.items ≡ name
+    → slice_get (keys_of (rows_in (es ++ (k, v) ∷ []))) (length es) ≡ Some name
 place_added [] k v name same = ap Some same
 place_added (e ∷ es) k v name same = place_added es k v name same
 
@@ -69,18 +77,21 @@ place_added (e ∷ es) k v name same = place_added es k v name same
 row_kept : (p : Piece) (row : Row) → bytes_eq p.name row.0 ≡ false → row_with p row ≡ row
 row_kept p row h = ap (λ (b : Bool). if b then (row.0, with_piece row.1 p) else row) h
 
-apart : (k name : List ℕ) (es : List Held) (i : ℕ) → AllByRecursion (λ (y : Key). bytes_eq k y.items ≡ false) (keys_of es) → slice_get (keys_of (rows_in es)) i ≡ Some name → bytes_eq k name ≡ false
+apart : (k name : List ℕ) (es : List Held) (i : ℕ) → AllByRecursion (λ (y : Key). bytes_eq k y.items ≡ false) (keys_of es)
+    → slice_get (keys_of (rows_in es)) i ≡ Some name → bytes_eq k name ≡ false
 apart k name [] i all h = absurd (none-some name h)
 apart k name (e ∷ es) zero all h = ap (bytes_eq k) (sym (same_Some e.0.items name h)) ∙ all.0
 apart k name (e ∷ es) (suc i) all h = apart k name es i all.1 h
 
-others_kept : (p : Piece) (k : List ℕ) (es : List Held) → k ≡ p.name → AllByRecursion (λ (y : Key). bytes_eq k y.items ≡ false) (keys_of es) → map (row_with p) (rows_in es) ≡ rows_in es
+others_kept : (p : Piece) (k : List ℕ) (es : List Held) → k ≡ p.name
+    → AllByRecursion (λ (y : Key). bytes_eq k y.items ≡ false) (keys_of es) → map (row_with p) (rows_in es) ≡ rows_in es
 others_kept p k [] same all = refl
 others_kept p k (e ∷ es) same all =
     let first : bytes_eq p.name e.0.items ≡ false = ap (λ (n : List ℕ). bytes_eq n e.0.items) (sym same) ∙ all.0 in
     λ i. row_kept p (row_of e) first i ∷ others_kept p k es same all.1 i
 
-pub row_grown : (p : Piece) (es : List Held) (i : ℕ) (v new : Tally) → tally_of new ≡ with_piece (tally_of v) p → slice_get (keys_of (rows_in es)) i ≡ Some p.name → slice_get (values_of es) i ≡ Some v → IsDistinct same_key (keys_of es)
+pub row_grown : (p : Piece) (es : List Held) (i : ℕ) (v new : Tally) → tally_of new ≡ with_piece (tally_of v) p
+    → slice_get (keys_of (rows_in es)) i ≡ Some p.name → slice_get (values_of es) i ≡ Some v → IsDistinct same_key (keys_of es)
     → rows_in (set_value_at es i new) ≡ map (row_with p) (rows_in es)
 row_grown p [] i v new more at value distinct = refl
 row_grown p (e ∷ es) zero v new more at value distinct =
@@ -110,7 +121,8 @@ module _ (rows named called new : List Row) (name : List ℕ) (time place : ℕ)
   abbrev pub Nests : ℕ → Type 0
   Nests i = (outer : List ℕ) → slice_get (keys_of called) i ≡ Some outer → new ≡ map (row_with (Within outer)) called
 
-  module _ (first : named ≡ with_row rows name) (second : called ≡ map (row_with Call) named) (at : slice_get (keys_of named) place ≡ Some name) where
+  module _ (first : named ≡ with_row rows name) (second : called ≡ map (row_with Call) named)
+      (at : slice_get (keys_of named) place ≡ Some name) where
     abbrev one : called ≡ with_piece_in rows Call
     one = second ∙ ap (map (row_with Call)) first
 
@@ -118,7 +130,9 @@ module _ (rows named called new : List Row) (name : List ℕ) (time place : ℕ)
     still i outer h = ap (λ (r : List Row). slice_get (keys_of r) i) one ∙ place_kept rows Call (Some i) outer h
 
     pub call_at : slice_get (keys_of called) place ≡ Some name
-    call_at = ap (λ (r : List Row). slice_get (keys_of r) place) second ∙ ap (λ (ks : List (List ℕ)). slice_get ks place) (keys_kept Call named) ∙ at
+    call_at =
+        ap (λ (r : List Row). slice_get (keys_of r) place) second
+        ∙ ap (λ (ks : List (List ℕ)). slice_get ks place) (keys_kept Call named) ∙ at
 
     nested_at : (i : ℕ) → Stands i → Nests i → new ≡ fold with_piece_in rows (pieces_at (name_at rows (Some i)) name time)
     nested_at i stands nests =
@@ -128,7 +142,8 @@ module _ (rows named called new : List Row) (name : List ℕ) (time place : ℕ)
         ∙ sym (ap (λ (o : Option (List ℕ)). fold with_piece_in rows (pieces_at o name time)) stands.1)
 
     -- the scope counts for its own name, and in the name around it
-    pub scope_added : (outer : Option ℕ) (i : ℕ) → outer ≡ Some i → IfSome outer Stands → Nests i → new ≡ fold with_piece_in rows (pieces_at (name_at rows outer) name time)
+    pub scope_added : (outer : Option ℕ) (i : ℕ) → outer ≡ Some i → IfSome outer Stands → Nests i
+        → new ≡ fold with_piece_in rows (pieces_at (name_at rows outer) name time)
     scope_added None i is stands nests = absurd (none-some i is)
     scope_added (Some j) i is stands nests = nested_at j stands (subst Nests (sym (same_Some j i is)) nests)
 
@@ -141,6 +156,7 @@ module _ (rows named called new : List Row) (name : List ℕ) (time place : ℕ)
         ap (λ (r : List Row). slice_get (keys_of r) place) (nests stands.0 (still i stands.0 stands.1))
         ∙ ap (λ (ks : List (List ℕ)). slice_get ks place) (keys_kept (Within stands.0) called) ∙ call_at
 
-    pub place_still : (outer : Option ℕ) (i : ℕ) → outer ≡ Some i → IfSome outer Stands → Nests i → slice_get (keys_of new) place ≡ Some name
+    pub place_still : (outer : Option ℕ) (i : ℕ) → outer ≡ Some i → IfSome outer Stands → Nests i
+        → slice_get (keys_of new) place ≡ Some name
     place_still None i is stands nests = absurd (none-some i is)
     place_still (Some j) i is stands nests = place_at j stands (subst Nests (sym (same_Some j i is)) nests)

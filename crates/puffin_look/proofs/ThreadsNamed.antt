@@ -21,25 +21,32 @@ abbrev keys_in : List Entry → List ThreadKey
 keys_in es = map (λ e. e.0) (key_entries es)
 
 -- nothing is left to look at
-pub found_all : (f : ThreadKey → Bool) (found : List ThreadKey) (all it : List Entry) → it ≡ [] → found ++ filter f (keys_in it) ≡ filter f (keys_in all) → IsStrictlySortedBy thread_cmp (keys_of all) → found ≡ filter f (map (λ e. e.0) (tree.entries (by_key all)))
+pub found_all : (f : ThreadKey → Bool) (found : List ThreadKey) (all it : List Entry) → it ≡ []
+    → found ++ filter f (keys_in it) ≡ filter f (keys_in all) → IsStrictlySortedBy thread_cmp (keys_of all)
+    → found ≡ filter f (map (λ e. e.0) (tree.entries (by_key all)))
 found_all f found all it none so_far sorted =
     sym (append-nil found) ∙ sym (ap (λ (es : List Entry). found ++ filter f (keys_in es)) none) ∙ so_far
     ∙ ap (λ (es : List (ThreadKey × ThreadTotals)). filter f (map (λ e. e.0) es)) (sym (entries-by_key all sorted))
 
-module _ (old new : AllTotals) (unread left before mid : Option (List ℕ)) (empty : by_key old.totals.entries ≡ tree.empty) (word : List ℕ) (found : List ThreadKey) (is : found ≡ threads_named word (map (λ e. e.0) (tree.entries (by_key new.totals.entries)))) where
+module _ (old new : AllTotals) (unread left before mid : Option (List ℕ)) (empty : by_key old.totals.entries ≡ tree.empty)
+    (word : List ℕ) (found : List ThreadKey)
+    (is : found ≡ threads_named word (map (λ e. e.0) (tree.entries (by_key new.totals.entries)))) where
   named_in : (totals : Totals) → by_key new.totals.entries ≡ totals → found ≡ threads_named word (map (λ e. e.0) (tree.entries totals))
   named_in totals same = is ∙ ap (λ (m : Totals). threads_named word (map (λ e. e.0) (tree.entries m))) same
 
-  pub named : (r : Result (Unit {0}) FileError) → fails_outside r ≡ false → Ends old new unread left before mid empty r → AreNamed word unread left found
+  pub named : (r : Result (Unit {0}) FileError) → fails_outside r ≡ false → Ends old new unread left before mid empty r
+      → AreNamed word unread left found
   named r quiet s =
       let q = read_to_end old new unread left before mid empty r quiet s in
       record { stored = q.0.stored; begins = q.0.begins; frames = q.0.frames; opens = q.0.opens; end = q.1; are = named_in _ q.0.totals }
 
 -- the first that are found count
-pub first_some : (found : List ThreadInfo) (some others : List ThreadKey) → map key_of found ≡ some → (length found ≡ 0 → ⊥) → map key_of found ≡ or_else some others
+pub first_some : (found : List ThreadInfo) (some others : List ThreadKey) → map key_of found ≡ some → (length found ≡ 0 → ⊥)
+    → map key_of found ≡ or_else some others
 first_some [] some others is any = absurd (any refl)
 first_some (x ∷ xs) some others is any = ap (λ (ks : List ThreadKey). or_else ks others) is
 
-pub first_none : (found : List ThreadInfo) (some others : List ThreadKey) → map key_of found ≡ some → length found ≡ 0 → others ≡ or_else some others
+pub first_none : (found : List ThreadInfo) (some others : List ThreadKey) → map key_of found ≡ some → length found ≡ 0
+    → others ≡ or_else some others
 first_none [] some others is none = ap (λ (ks : List ThreadKey). or_else ks others) is
 first_none (x ∷ xs) some others is none = absurd (omega (arith, none))

@@ -10,9 +10,9 @@ use Rattle.puffin_data.specs.declared.file_error.FileError.TheVariants as file
 use Rattle.puffin_data.specs.Device.{IsOutside, WritesBeginning}
 use Rattle.puffin_frames.specs.Packet.Stored.{Stored}
 use Rattle.puffin_threads.specs.Thread.ThreadKey.{by_key}
-use Rattle.puffin_view.specs.View.File.{file_at, TookFrames, FailsToRead}
+use Rattle.puffin_view.specs.View.File.{file_at, TookFrames}
 use Rattle.puffin_look.specs.OpenFrame.{OpenFrame, AreOpened}
-use Rattle.puffin_look.specs.Printed.{Begins, HasFaultBehind, IsRefused, IsPrinted, IsStopped, RefusesNone}
+use Rattle.puffin_look.specs.Printed.{Begins, HasFaultBehind, StopsBeforeFrames, IsRefused, IsPrinted, IsStopped, RefusesNone}
 use Rattle.puffin_look.specs.ThreadLines.{totals_of, thread_list, IsThreadList}
 use Rattle.puffin_look.specs.declared.lines.Form.{Form}
 use Rattle.puffin_look.specs.inner.Taken.{TakesTotals, fails_outside}
@@ -44,10 +44,6 @@ module _ (old new : AllTotals) (unread left before mid : Option (List ℕ)) wher
   Finished (Ok x) stored frames = TookFrames file_at unread left stored
   Finished (Err e) stored frames = IsOutside e ⊎ HasFaultBehind RefusesNone unread left stored frames e
 
-  -- the file doesn't begin with its letters
-  abbrev pub HasNoLetters : FileError → List Stored → Type 0
-  HasNoLetters e stored = FailsToRead file_at unread left e × (stored ≡ [])
-
   module _ (empty : by_key old.totals.entries ≡ tree.empty) where
     totals_read : (frames : List OpenFrame) (more : List ℕ) → TakesTotals old frames more new → by_key new.totals.entries ≡ totals_of frames
     totals_read frames more t = t.totals ∙ ap (λ (m : Totals). fold Rattle.puffin_look.specs.ThreadLines.with_frame m frames) empty
@@ -65,7 +61,8 @@ module _ (old new : AllTotals) (unread left before mid : Option (List ℕ)) wher
       h.took,
     )
 
-    moved : (state : AllTotals) (frames : List OpenFrame) (more : List ℕ) → state ≡ new → TakesTotals old frames more state → TakesTotals old frames more new
+    moved : (state : AllTotals) (frames : List OpenFrame) (more : List ℕ) → state ≡ new → TakesTotals old frames more state
+        → TakesTotals old frames more new
     moved state frames more same t = subst (TakesTotals old frames more) same t
 
     module _ (e : FileError) (h : StopsBehind none TakesTotals refused None old new unread left before mid e) where
@@ -91,10 +88,18 @@ module _ (old new : AllTotals) (unread left before mid : Option (List ℕ)) wher
           | inl memory ↦ absurd (not_memory memory)
           | inr same ↦ (read_of same (unwritten out.1), inl out.0)
         ]
-        | inr (inl next) ↦ (read_of next.1 (subst (Appends before mid) quiet next.0), inr (inl (next.2, next.3, next.4)))
+        | inr (inl next) ↦ (read_of next.1 (subst (Appends before mid) quiet next.0), inr (inl next.2))
         | inr (inr added) ↦ elim (added.3) [
           | inl memory ↦ absurd (not_memory memory)
-          | inr (inl packed) ↦ (read_of (sym packed.1) (subst (Appends before mid) quiet added.0), inr (inr (added.1, added.2, subst (λ (r : Result OpenFrame FileError). IsRefused RefusesNone h.listed.frames r e) (sym packed.0) refl)))
+          | inr (inl packed) ↦ (
+            read_of (sym packed.1) (subst (Appends before mid) quiet added.0),
+            inr (inr (
+              added.1,
+              added.2,
+              subst (λ (r : Result OpenFrame FileError). IsRefused RefusesNone h.listed.frames r e)
+                  (sym packed.0) refl,
+            )),
+          )
           | inr (inr bad) ↦ absurd bad.5
         ]
       ]
@@ -107,7 +112,8 @@ module _ (old new : AllTotals) (unread left before mid : Option (List ℕ)) wher
       ]
 
     module _ (e : FileError) where
-      pub some_read : StopsListing none TakesTotals refused None old new unread left before mid e → (e ≡ file.Memory → ⊥) → (r : AreRead) × (Finished (Err e) r.stored r.frames ⊎ HasNoLetters e r.stored)
+      pub some_read : StopsListing none TakesTotals refused None old new unread left before mid e → (e ≡ file.Memory → ⊥)
+          → (r : AreRead) × (Finished (Err e) r.stored r.frames ⊎ StopsBeforeFrames unread left r.stored e)
       some_read (inl h) not_memory = let q = some_behind e h not_memory in (q.0, inl q.1)
       some_read (inr h) not_memory = (
         record {
@@ -128,10 +134,13 @@ module _ (old new : AllTotals) (unread left before mid : Option (List ℕ)) wher
   -- ---- with the lines of these totals
 
   module _ (r : AreRead) (form : Form) (after : Option (List ℕ)) where
-    pub lines_read : (lines : List ℕ) → lines ≡ thread_list form (tree.entries (by_key new.totals.entries)) → lines ≡ thread_list form (tree.entries (totals_of r.frames))
+    pub lines_read : (lines : List ℕ) → lines ≡ thread_list form (tree.entries (by_key new.totals.entries))
+        → lines ≡ thread_list form (tree.entries (totals_of r.frames))
     lines_read lines is = is ∙ ap (λ (m : Totals). thread_list form (tree.entries m)) r.totals
 
-    pub printed : (lines : List ℕ) → lines ≡ thread_list form (tree.entries (totals_of r.frames)) → TookFrames file_at unread left r.stored → Appends mid after lines → IsPrinted (IsThreadList form) unread left before after
+    pub printed : (lines : List ℕ) → lines ≡ thread_list form (tree.entries (totals_of r.frames))
+        → TookFrames file_at unread left r.stored → Appends mid after lines
+        → IsPrinted (IsThreadList form) unread left before after
     printed lines is took app = record {
       stored = r.stored;
       took = took;
@@ -142,7 +151,9 @@ module _ (old new : AllTotals) (unread left before mid : Option (List ℕ)) wher
       written = Appends-trans before mid after [] lines r.written app;
     }
 
-    pub told : (e : FileError) (lines : List ℕ) → lines ≡ thread_list form (tree.entries (totals_of r.frames)) → Finished (Err e) r.stored r.frames → Appends mid after lines → IsStopped (IsThreadList form) RefusesNone unread left before after e
+    pub told : (e : FileError) (lines : List ℕ) → lines ≡ thread_list form (tree.entries (totals_of r.frames))
+        → Finished (Err e) r.stored r.frames → Appends mid after lines
+        → IsStopped (IsThreadList form) RefusesNone unread left before after e
     told e lines is finished app =
         let written : Appends before after lines = Appends-trans before mid after [] lines r.written app in
         record {
@@ -158,7 +169,9 @@ module _ (old new : AllTotals) (unread left before mid : Option (List ℕ)) wher
           ];
         }
 
-    pub told_cut : (e : FileError) → IsOutside e → WritesBeginning mid after (thread_list form (tree.entries (totals_of r.frames))) → IsStopped (IsThreadList form) RefusesNone unread left before after e
+    pub told_cut : (e : FileError) → IsOutside e
+        → WritesBeginning mid after (thread_list form (tree.entries (totals_of r.frames)))
+        → IsStopped (IsThreadList form) RefusesNone unread left before after e
     told_cut e outside part = record {
       stored = r.stored;
       begins = r.begins;
@@ -170,7 +183,8 @@ module _ (old new : AllTotals) (unread left before mid : Option (List ℕ)) wher
     }
 
   -- nothing is told where the reader or memory failed
-  pub told_nothing : (form : Form) (e : FileError) → IsOutside e → Appends before mid [] → IsStopped (IsThreadList form) RefusesNone unread left before mid e
+  pub told_nothing : (form : Form) (e : FileError) → IsOutside e → Appends before mid []
+      → IsStopped (IsThreadList form) RefusesNone unread left before mid e
   told_nothing form e outside unchanged = record {
     stored = [];
     begins = inl refl;
@@ -199,9 +213,12 @@ not_outside e h (inr memory) = not_memory e h memory
 module _ (old new : AllTotals) (unread left before mid : Option (List ℕ)) (empty : by_key old.totals.entries ≡ tree.empty) where
   -- what a listing of threads ends with
   pub Ends : Result (Unit {0}) FileError → Type 0
-  Ends r = OnOk r (ListsAll none TakesTotals None old new unread left before mid) × IfErr r (StopsListing none TakesTotals refused None old new unread left before mid)
+  Ends r =
+      OnOk r (ListsAll none TakesTotals None old new unread left before mid) × IfErr r
+      (StopsListing none TakesTotals refused None old new unread left before mid)
 
-  pub ends : (r : Result (Unit {0}) FileError) → OnOk r (ListsAll none TakesTotals None old new unread left before mid) → IfErr r (StopsListing none TakesTotals refused None old new unread left before mid) → Ends r
+  pub ends : (r : Result (Unit {0}) FileError) → OnOk r (ListsAll none TakesTotals None old new unread left before mid)
+      → IfErr r (StopsListing none TakesTotals refused None old new unread left before mid) → Ends r
   unfolding Ends
   ends r ok err = (ok, err)
 
@@ -210,10 +227,13 @@ module _ (old new : AllTotals) (unread left before mid : Option (List ℕ)) (emp
   silent (Ok x) h = (all_read old new unread left before mid empty h.0).0.written
   silent (Err e) h = none_written old new unread left before mid empty e h.1
 
-  pub told_outside : (form : Form) (r : Result (Unit {0}) FileError) → fails_outside r ≡ true → Ends r → IfErr r (IsStopped (IsThreadList form) RefusesNone unread left before mid)
+  pub told_outside : (form : Form) (r : Result (Unit {0}) FileError) → fails_outside r ≡ true → Ends r
+      → IfErr r (IsStopped (IsThreadList form) RefusesNone unread left before mid)
   unfolding Ends
   told_outside form (Ok x) h s = tt
-  told_outside form (Err e) h s = told_nothing old new unread left before mid form e (outside_of e h) (none_written old new unread left before mid empty e s.1)
+  told_outside form (Err e) h s =
+      told_nothing old new unread left before mid form e (outside_of e h)
+      (none_written old new unread left before mid empty e s.1)
 
   pub read_anyway : (r : Result (Unit {0}) FileError) → fails_outside r ≡ false → Ends r → AreRead old new unread left before mid
   unfolding Ends
@@ -222,7 +242,10 @@ module _ (old new : AllTotals) (unread left before mid : Option (List ℕ)) (emp
 
   -- the frames are those before the end or the first fault
   pub read_to_end : (r : Result (Unit {0}) FileError) → fails_outside r ≡ false → Ends r
-      → (q : AreRead old new unread left before mid) × (TookFrames file_at unread left q.stored ⊎ ((e : FileError) × (HasFaultBehind RefusesNone unread left q.stored q.frames e ⊎ (FailsToRead file_at unread left e × (q.stored ≡ [])))))
+      → (q : AreRead old new unread left before mid)
+      × (TookFrames file_at unread left q.stored
+      ⊎ ((e : FileError) × (HasFaultBehind RefusesNone unread left q.stored q.frames e
+      ⊎ StopsBeforeFrames unread left q.stored e)))
   unfolding Ends
   read_to_end (Ok x) h s = let q = all_read old new unread left before mid empty s.0 in (q.0, inl q.1)
   read_to_end (Err e) h s =
@@ -235,17 +258,28 @@ module _ (old new : AllTotals) (unread left before mid : Option (List ℕ)) (emp
         ],
       )
 
-  module _ (form : Form) (after : Option (List ℕ)) (lines : List ℕ) (is : lines ≡ thread_list form (tree.entries (by_key new.totals.entries))) where
-    pub all_printed : (r : Result (Unit {0}) FileError) → Ends r → Appends mid after lines → OnOk r (IsPrinted (IsThreadList form) unread left before after)
+  module _ (form : Form) (after : Option (List ℕ)) (lines : List ℕ)
+      (is : lines ≡ thread_list form (tree.entries (by_key new.totals.entries))) where
+    pub all_printed : (r : Result (Unit {0}) FileError) → Ends r → Appends mid after lines
+        → OnOk r (IsPrinted (IsThreadList form) unread left before after)
     unfolding Ends
-    all_printed (Ok x) s app = let q = all_read old new unread left before mid empty s.0 in printed old new unread left before mid q.0 form after lines (lines_read old new unread left before mid q.0 form after lines is) q.1 app
+    all_printed (Ok x) s app =
+        let q = all_read old new unread left before mid empty s.0 in printed old new unread left before mid q.0 form after lines
+        (lines_read old new unread left before mid q.0 form after lines is) q.1 app
     all_printed (Err e) s app = tt
 
-    pub all_told : (r : Result (Unit {0}) FileError) → fails_outside r ≡ false → IfErr r (StopsBehind none TakesTotals refused None old new unread left before mid) → Appends mid after lines → IfErr r (IsStopped (IsThreadList form) RefusesNone unread left before after)
+    pub all_told : (r : Result (Unit {0}) FileError) → fails_outside r ≡ false
+        → IfErr r (StopsBehind none TakesTotals refused None old new unread left before mid) → Appends mid after lines
+        → IfErr r (IsStopped (IsThreadList form) RefusesNone unread left before after)
     all_told (Ok x) h s app = tt
-    all_told (Err e) h s app = let q = some_behind old new unread left before mid empty e s (not_memory e h) in told old new unread left before mid q.0 form after e lines (lines_read old new unread left before mid q.0 form after lines is) q.1 app
+    all_told (Err e) h s app =
+        let q = some_behind old new unread left before mid empty e s
+        (not_memory e h) in told old new unread left before mid q.0 form after e lines
+        (lines_read old new unread left before mid q.0 form after lines is) q.1 app
 
-    pub cut_told : (r : Result (Unit {0}) FileError) (e : FileError) → fails_outside r ≡ false → Ends r → e ≡ file.Io → WritesBeginning mid after lines → IsStopped (IsThreadList form) RefusesNone unread left before after e
+    pub cut_told : (r : Result (Unit {0}) FileError) (e : FileError) → fails_outside r ≡ false → Ends r → e ≡ file.Io
+        → WritesBeginning mid after lines → IsStopped (IsThreadList form) RefusesNone unread left before after e
     cut_told r e h s io part =
         let q = read_anyway r h s in
-        told_cut old new unread left before mid q form after e (inl io) (subst (WritesBeginning mid after) (lines_read old new unread left before mid q form after lines is) part)
+        told_cut old new unread left before mid q form after e (inl io)
+        (subst (WritesBeginning mid after) (lines_read old new unread left before mid q form after lines is) part)

@@ -17,10 +17,12 @@ text_in v = v.events.text.items
 pub none_said : (o : Overview) (indices : Option Indices) → IsTrace o indices [] (trace_head ++ ([] ++ trace_end))
 none_said o indices = ([], subst (λ (fs : List OpenFrame). AreRead all_streams fs []) (none_within indices) tt, refl)
 
-pub closed : (o : Overview) (indices : Option Indices) (old : Trace) → text_in old ≡ trace_head → numbers_of old ≡ tree.empty → old.events.overview.now ≡ o → (frames : List OpenFrame) (more : List ℕ) (v : Trace)
+pub closed : (o : Overview) (indices : Option Indices) (old : Trace) → text_in old ≡ trace_head → numbers_of old ≡ tree.empty
+    → old.events.overview.now ≡ o → (frames : List OpenFrame) (more : List ℕ) (v : Trace)
     → TakesTrace old (frames_within indices frames) more v → IsTrace o indices frames ((text_in old ++ more) ++ trace_end)
 closed o indices old head none same frames more v taken = (
   taken.trees,
   taken.read,
-  (λ i. (head i ++ (taken.is ∙ (λ j. events (same j) (none j) taken.trees)) i) ++ trace_end) ∙ append_assoc trace_head (events o tree.empty taken.trees) trace_end,
+  (λ i. (head i ++ (taken.is ∙ (λ j. events (same j) (none j) taken.trees)) i) ++ trace_end)
+      ∙ append_assoc trace_head (events o tree.empty taken.trees) trace_end,
 )

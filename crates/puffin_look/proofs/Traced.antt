@@ -17,15 +17,18 @@ use Rattle.puffin_look.specs.inner.Tracings.{numbers_of, AddsThread, AddsStream,
 use Rattle.puffin_look.specs.declared.events.Events.{Events}
 use Rattle.puffin_look.specs.declared.trace.Trace.{Trace}
 
-pub spelled_more : (es : List Entry) (ts : List Tree) (e : Entry) (t : Tree) → AreSpelled es ts → AreSpelled (e ∷ []) (t ∷ []) → AreSpelled (es ++ e ∷ []) (ts ++ t ∷ [])
+pub spelled_more : (es : List Entry) (ts : List Tree) (e : Entry) (t : Tree) → AreSpelled es ts → AreSpelled (e ∷ []) (t ∷ [])
+    → AreSpelled (es ++ e ∷ []) (ts ++ t ∷ [])
 spelled_more [] [] e t h one = one
 spelled_more [] (u ∷ ts) e t h one = absurd h
 spelled_more (d ∷ es) [] e t h one = absurd h
 spelled_more (d ∷ es) (u ∷ ts) e t h one = (h.0, spelled_more es ts e t h.1 one)
 
 -- one item more
-pub outputs_more : {S X : Type 0} (out : S → X → List ℕ) (next : S → X → S) (s : S) (xs : List X) (x : X) → outputs out next s (xs ++ x ∷ []) ≡ outputs out next s xs ++ out (fold next s xs) x
-outputs_more out next s xs x = outputs-append out next s xs (x ∷ []) ∙ ap (λ (t : List ℕ). outputs out next s xs ++ t) (append-nil (out (fold next s xs) x))
+pub outputs_more : {S X : Type 0} (out : S → X → List ℕ) (next : S → X → S) (s : S) (xs : List X) (x : X)
+    → outputs out next s (xs ++ x ∷ []) ≡ outputs out next s xs ++ out (fold next s xs) x
+outputs_more out next s xs x =
+    outputs-append out next s xs (x ∷ []) ∙ ap (λ (t : List ℕ). outputs out next s xs ++ t) (append-nil (out (fold next s xs) x))
 
 module _ (v : Trace) where
   abbrev pub events_so_far : List Tree → List ℕ
@@ -58,7 +61,8 @@ module _ (v : Trace) where
   pub tracing_at : (entries left : List Entry) → left ≡ entries → IsTracing v entries left
   tracing_at entries left same = subst (λ (es : List Entry). IsTracing v entries es) (sym same) (tracing_begun entries)
 
-  pub tracing_more : (now new : Trace) (entries left rest : List Entry) (e : Entry) → left ≡ e ∷ rest → IsTracing now entries left → AddsStream now new e.0 e.1 → IsTracing new entries rest
+  pub tracing_more : (now new : Trace) (entries left rest : List Entry) (e : Entry) → left ≡ e ∷ rest → IsTracing now entries left
+      → AddsStream now new e.0 e.1 → IsTracing new entries rest
   tracing_more now new entries left rest e next h a =
       let t : Tree = (e.0, a.forest) in
       let o = v.events.overview.now in
@@ -71,10 +75,13 @@ module _ (v : Trace) where
             ∙ append_assoc v.events.text.items (events_so_far h.trees) (tree_events o (numbers_so_far h.trees) t)
             ∙ ap (λ (x : List ℕ). v.events.text.items ++ x) (sym (outputs_more (tree_events o) numbered_with (numbers_of v) h.trees t));
         overview = a.overview ∙ h.overview;
-        numbers = a.numbers ∙ ap (λ (ns : Numbers). numbered ns e.0) h.numbers ∙ sym (fold-append numbered_with (numbers_of v) h.trees (t ∷ []));
+        numbers = a.numbers ∙ ap (λ (ns : Numbers). numbered ns e.0) h.numbers
+            ∙ sym (fold-append numbered_with (numbers_of v) h.trees (t ∷ []));
       }
 
-  pub tracing_unread : (now : Trace) (entries left rest : List Entry) (e : Entry) (frame : OpenFrame) (fault : Error) → left ≡ e ∷ rest → IsTracing now entries left → all_streams frame ≡ entries → IsFault e.1.form e.1.bytes fault → AreUnread (all_streams frame) fault
+  pub tracing_unread : (now : Trace) (entries left rest : List Entry) (e : Entry) (frame : OpenFrame) (fault : Error)
+      → left ≡ e ∷ rest → IsTracing now entries left → all_streams frame ≡ entries → IsFault e.1.form e.1.bytes fault
+      → AreUnread (all_streams frame) fault
   tracing_unread now entries left rest e frame fault next h same faulty = record {
     earlier = h.earlier;
     entry = e;
@@ -86,19 +93,26 @@ module _ (v : Trace) where
   }
 
 -- a thread's number, and then its scopes
-pub stream_traced : (v m : Trace) (e : Events) (key : ThreadKey) (r : StreamFacts) (tid : ℕ) (f : Forest) → tid ≡ number_of (numbers_of v) key → AddsThread v m key → Spells r.form r.bytes f
-    → IsWithText (record m.events { tid = tid }) e (forest_events m.events.overview.now tid f) → AddsStream v (record m { events = e }) key r
+pub stream_traced : (v m : Trace) (e : Events) (key : ThreadKey) (r : StreamFacts) (tid : ℕ) (f : Forest)
+    → tid ≡ number_of (numbers_of v) key → AddsThread v m key → Spells r.form r.bytes f
+    → IsWithText (record m.events { tid = tid }) e (forest_events m.events.overview.now tid f)
+    → AddsStream v (record m { events = e }) key r
 stream_traced v m e key r tid f is t spells w = record {
   forest = f;
   spells = spells;
-  text = w.text ∙ (λ i. t.text i ++ forest_events (t.overview i).now (is i) f) ∙ append_assoc v.events.text.items (naming (numbers_of v) key) (forest_events v.events.overview.now (number_of (numbers_of v) key) f);
+  text = w.text ∙ (λ i. t.text i ++ forest_events (t.overview i).now (is i) f)
+      ∙ append_assoc v.events.text.items (naming (numbers_of v) key)
+      (forest_events v.events.overview.now (number_of (numbers_of v) key) f);
   overview = w.overview ∙ t.overview;
   numbers = t.numbers;
 }
 
 -- a frame whose streams are all traced, behind its own event
-pub frame_traced : (old begun new : Trace) (frame : OpenFrame) (entries left : List Entry) → begun.events.text.items ≡ old.events.text.items ++ frame_event old.events.overview.now.start frame.meta → begun.events.overview ≡ old.events.overview → numbers_of begun ≡ numbers_of old
-    → left ≡ [] → IsTracing begun new entries left → all_streams frame ≡ entries → (more : List ℕ) × (new.events.text.items ≡ old.events.text.items ++ more) × TakesTrace old (frame ∷ []) more new
+pub frame_traced : (old begun new : Trace) (frame : OpenFrame) (entries left : List Entry)
+    → begun.events.text.items ≡ old.events.text.items ++ frame_event old.events.overview.now.start frame.meta
+    → begun.events.overview ≡ old.events.overview → numbers_of begun ≡ numbers_of old
+    → left ≡ [] → IsTracing begun new entries left → all_streams frame ≡ entries
+    → (more : List ℕ) × (new.events.text.items ≡ old.events.text.items ++ more) × TakesTrace old (frame ∷ []) more new
 frame_traced old begun new frame entries left text overview numbers none h same =
     let f : TreeFrame = record { meta = frame.meta; trees = h.trees } in
     let o = old.events.overview.now in
@@ -106,10 +120,18 @@ frame_traced old begun new frame entries left text overview numbers none h same 
     let others = outputs (tree_events o) numbered_with (numbers_of old) h.trees in (
       events o (numbers_of old) (f ∷ []),
       h.text ∙ (λ i. text i ++ outputs (tree_events (overview i).now) numbered_with (numbers i) h.trees)
-          ∙ append_assoc old.events.text.items first others ∙ ap (λ (x : List ℕ). old.events.text.items ++ x) (sym (append-nil (first ++ others))),
+          ∙ append_assoc old.events.text.items first others
+          ∙ ap (λ (x : List ℕ). old.events.text.items ++ x) (sym (append-nil (first ++ others))),
       record {
         trees = f ∷ [];
-        read = (record { meta = refl; trees = subst (λ (es : List Entry). AreSpelled es h.trees) (sym (same ∙ h.all ∙ ap (λ (es : List Entry). h.earlier ++ es) none ∙ append-nil h.earlier)) h.spelled }, tt);
+        read = (
+          record {
+            meta = refl;
+            trees = subst (λ (es : List Entry). AreSpelled es h.trees)
+                (sym (same ∙ h.all ∙ ap (λ (es : List Entry). h.earlier ++ es) none ∙ append-nil h.earlier)) h.spelled;
+          },
+          tt,
+        );
         is = refl;
         numbers = h.numbers ∙ ap (λ (ns : Numbers). fold numbered_with ns h.trees) numbers;
         overview = h.overview ∙ overview;

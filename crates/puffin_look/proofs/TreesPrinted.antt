@@ -18,8 +18,11 @@ use Rattle.puffin_look.proofs.Listed.{stopped}
 abbrev pub text_in : Trees → List ℕ
 text_in v = v.lines.text.items
 
-module _ (old new : Trees) (empty : text_in old ≡ []) (k : Collection) (none : old.lines.known.now ≡ k) (unfound : old.is_found ≡ false) where
-  shown_text : (frames : List OpenFrame) (more : List ℕ) (v : Trees) → TakesTrees old (frames_within old.wanted.now.frames frames) more v → IsFrameText k old.wanted.now v.is_found frames (text_in old ++ more)
+module _ (old new : Trees) (empty : text_in old ≡ []) (k : Collection) (none : old.lines.known.now ≡ k)
+    (unfound : old.is_found ≡ false) where
+  shown_text : (frames : List OpenFrame) (more : List ℕ) (v : Trees)
+      → TakesTrees old (frames_within old.wanted.now.frames frames) more v
+      → IsFrameText k old.wanted.now v.is_found frames (text_in old ++ more)
   shown_text frames more v taken = (
     taken.trees,
     taken.read,
@@ -27,13 +30,22 @@ module _ (old new : Trees) (empty : text_in old ≡ []) (k : Collection) (none :
     taken.found ∙ ap (λ (b : Bool). Rattle.puffin_look.specs.FrameTree.found_in b taken.trees) unfound,
   )
 
-  pub frames_stopped : (unread left before after : Option (List ℕ)) (e : FileError) → StopsListing text_in TakesTrees RefusesFrame old.wanted.now.frames old new unread left before after e
+  pub frames_stopped : (unread left before after : Option (List ℕ)) (e : FileError)
+      → StopsListing text_in TakesTrees RefusesFrame old.wanted.now.frames old new unread left before after e
       → IsStopped (IsAnyFrameText k old.wanted.now) (RefusesTaken old.wanted.now) unread left before after e
   frames_stopped unread left before after e h =
-      stopped text_in TakesTrees old.wanted.now.frames RefusesFrame (IsAnyFrameText k old.wanted.now) (RefusesTaken old.wanted.now) old new unread left before after e (λ frames more v taken. (v.is_found, shown_text frames more v taken))
-      (λ frames more v frame cause taken there refused. (there, subst (λ (w : Wanted). AreUnread (wanted_streams w frame) cause) (ap (λ (w : Bor Wanted). w.now) taken.wanted) refused)) h
+      stopped text_in TakesTrees old.wanted.now.frames RefusesFrame (IsAnyFrameText k old.wanted.now)
+      (RefusesTaken old.wanted.now) old new unread left before after e
+      (λ frames more v taken. (v.is_found, shown_text frames more v taken))
+      (λ frames more v frame cause taken there refused. (
+        there,
+        subst (λ (w : Wanted). AreUnread (wanted_streams w frame) cause)
+            (ap (λ (w : Bor Wanted). w.now) taken.wanted) refused,
+      )) h
 
-  pub frames_printed : (unread left before after : Option (List ℕ)) → ListsAll text_in TakesTrees old.wanted.now.frames old new unread left before after → IsPrinted (IsFrameText k old.wanted.now new.is_found) unread left before after
+  pub frames_printed : (unread left before after : Option (List ℕ))
+      → ListsAll text_in TakesTrees old.wanted.now.frames old new unread left before after
+      → IsPrinted (IsFrameText k old.wanted.now new.is_found) unread left before after
   frames_printed unread left before after h = record {
     stored = h.stored;
     took = h.took;

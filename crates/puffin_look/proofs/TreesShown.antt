@@ -28,7 +28,8 @@ outer_time_within whole (o ∷ around) s = outer_time_within (time_of o) around 
 
 -- ---- a thread
 
-pub tree_added : (v m u : Lines) (key : ThreadKey) (f : Forest) → HasMoreLines v m (thread_line key) → HasMoreLines m u (forest_lines m.known.now m.range_ns f) → HasMoreLines v u (tree_text v.known.now v.range_ns (key, f))
+pub tree_added : (v m u : Lines) (key : ThreadKey) (f : Forest) → HasMoreLines v m (thread_line key)
+    → HasMoreLines m u (forest_lines m.known.now m.range_ns f) → HasMoreLines v u (tree_text v.known.now v.range_ns (key, f))
 tree_added v m u key f h t = record {
   text = t.text ∙ (λ i. h.text i ++ forest_lines (h.known i).now (h.range i) f)
       ∙ append_assoc v.text.items (thread_line key) (forest_lines v.known.now v.range_ns f);
@@ -73,13 +74,16 @@ module _ (v : Trees) where
   pub showing_at : (entries left : List Entry) → left ≡ entries → IsShowing v entries left
   showing_at entries left same = subst (λ (es : List Entry). IsShowing v entries es) (sym same) (showing_begun entries)
 
-  all_more : (entries earlier left rest : List Entry) (e : Entry) → left ≡ e ∷ rest → entries ≡ earlier ++ left → entries ≡ (earlier ++ e ∷ []) ++ rest
-  all_more entries earlier left rest e next all = all ∙ ap (λ (es : List Entry). earlier ++ es) next ∙ sym (append_assoc earlier (e ∷ []) rest)
+  all_more : (entries earlier left rest : List Entry) (e : Entry) → left ≡ e ∷ rest → entries ≡ earlier ++ left
+      → entries ≡ (earlier ++ e ∷ []) ++ rest
+  all_more entries earlier left rest e next all =
+      all ∙ ap (λ (es : List Entry). earlier ++ es) next ∙ sym (append_assoc earlier (e ∷ []) rest)
 
   same_wanted : (now : Trees) → now.wanted ≡ v.wanted → now.wanted.now ≡ v.wanted.now
   same_wanted now same = ap (λ (w : Bor Wanted). w.now) same
 
-  pub showing_more : (now new : Trees) (entries left rest : List Entry) (e : Entry) → left ≡ e ∷ rest → IsShowing now entries left → StepsTree now new e.0 e.1 → IsShowing new entries rest
+  pub showing_more : (now new : Trees) (entries left rest : List Entry) (e : Entry) → left ≡ e ∷ rest → IsShowing now entries left
+      → StepsTree now new e.0 e.1 → IsShowing new entries rest
   showing_more now new entries left rest e next h (inl step) =
       let a = step.1 in
       let t : Tree = (e.0, a.forest) in
@@ -90,12 +94,15 @@ module _ (v : Trees) where
         all = all_more entries h.earlier left rest e next h.all;
         trees = h.trees ++ t ∷ [];
         spelled = subst (λ (es : List Entry). AreSpelled es (h.trees ++ t ∷ []))
-            (sym (filter-append (λ d. is_wanted v.wanted.now d.0) h.earlier (e ∷ []) ∙ ap (λ (es : List Entry). wanted_in v h.earlier ++ es) (wanted_one e true wanted)))
+            (sym (filter-append (λ d. is_wanted v.wanted.now d.0) h.earlier (e ∷ [])
+            ∙ ap (λ (es : List Entry). wanted_in v h.earlier ++ es) (wanted_one e true wanted)))
             (spelled_more (wanted_in v h.earlier) h.trees e t h.spelled ((refl, a.spells), tt));
         lines = record {
           text = a.lines.text ∙ (λ i. h.lines.text i ++ tree_text (h.lines.known i).now (h.lines.range i) t)
               ∙ append_assoc v.lines.text.items (flat_map one h.trees) (one t)
-              ∙ ap (λ (x : List ℕ). v.lines.text.items ++ x) (ap (λ (x : List ℕ). flat_map one h.trees ++ x) (sym (append-nil (one t))) ∙ sym (flat_map-append one h.trees (t ∷ [])));
+              ∙ ap (λ (x : List ℕ). v.lines.text.items
+              ++ x) (ap (λ (x : List ℕ). flat_map one h.trees ++ x) (sym (append-nil (one t)))
+              ∙ sym (flat_map-append one h.trees (t ∷ [])));
           known = a.lines.known ∙ h.lines.known;
           range = a.lines.range ∙ h.lines.range;
         };
@@ -109,14 +116,18 @@ module _ (v : Trees) where
         all = all_more entries h.earlier left rest e next h.all;
         trees = h.trees;
         spelled = subst (λ (es : List Entry). AreSpelled es h.trees)
-            (sym (filter-append (λ d. is_wanted v.wanted.now d.0) h.earlier (e ∷ []) ∙ ap (λ (es : List Entry). wanted_in v h.earlier ++ es) (wanted_one e false unwanted) ∙ append-nil (wanted_in v h.earlier)))
+            (sym (filter-append (λ d. is_wanted v.wanted.now d.0) h.earlier (e ∷ [])
+            ∙ ap (λ (es : List Entry). wanted_in v h.earlier ++ es) (wanted_one e false unwanted)
+            ∙ append-nil (wanted_in v h.earlier)))
             h.spelled;
         lines = h.lines;
         found = h.found;
         wanted = h.wanted;
       })
 
-  pub showing_unread : (now : Trees) (entries left rest : List Entry) (e : Entry) (fault : Error) → left ≡ e ∷ rest → IsShowing now entries left → is_wanted now.wanted.now e.0 ≡ true → IsFault e.1.form e.1.bytes fault → AreUnread (wanted_in v entries) fault
+  pub showing_unread : (now : Trees) (entries left rest : List Entry) (e : Entry) (fault : Error) → left ≡ e ∷ rest
+      → IsShowing now entries left → is_wanted now.wanted.now e.0 ≡ true → IsFault e.1.form e.1.bytes fault
+      → AreUnread (wanted_in v entries) fault
   showing_unread now entries left rest e fault next h is faulty =
       let wanted : is_wanted v.wanted.now e.0 ≡ true = ap (λ (w : Wanted). is_wanted w e.0) (sym (same_wanted now h.wanted)) ∙ is in
       let test = λ (d : Entry). is_wanted v.wanted.now d.0 in
@@ -125,7 +136,9 @@ module _ (v : Trees) where
         entry = e;
         later = wanted_in v rest;
         all = ap (wanted_in v) (all_more entries h.earlier left rest e next h.all) ∙ filter-append test (h.earlier ++ e ∷ []) rest
-            ∙ ap (λ (es : List Entry). es ++ wanted_in v rest) (filter-append test h.earlier (e ∷ []) ∙ ap (λ (es : List Entry). wanted_in v h.earlier ++ es) (wanted_one e true wanted))
+            ∙ ap (λ (es : List Entry). es ++ wanted_in v rest)
+            (filter-append test h.earlier (e ∷ [])
+            ∙ ap (λ (es : List Entry). wanted_in v h.earlier ++ es) (wanted_one e true wanted))
             ∙ append_assoc (wanted_in v h.earlier) (e ∷ []) (wanted_in v rest);
         trees = h.trees;
         spelled = h.spelled;
@@ -133,18 +146,31 @@ module _ (v : Trees) where
       }
 
 -- all streams of a frame were shown, behind its head
-pub frame_shown : (old v new : Trees) (frame : OpenFrame) (all left : List Entry) → v.lines.text.items ≡ old.lines.text.items ++ head_text frame.meta → v.lines.known ≡ old.lines.known → v.lines.range_ns ≡ frame.meta.range_ns → v.is_found ≡ old.is_found → v.wanted ≡ old.wanted
-    → left ≡ [] → IsShowing v new all left → all_streams frame ≡ all → (more : List ℕ) × (new.lines.text.items ≡ old.lines.text.items ++ more) × TakesTrees old (frame ∷ []) more new
+pub frame_shown : (old v new : Trees) (frame : OpenFrame) (all left : List Entry)
+    → v.lines.text.items ≡ old.lines.text.items ++ head_text frame.meta → v.lines.known ≡ old.lines.known
+    → v.lines.range_ns ≡ frame.meta.range_ns → v.is_found ≡ old.is_found → v.wanted ≡ old.wanted
+    → left ≡ [] → IsShowing v new all left → all_streams frame ≡ all
+    → (more : List ℕ) × (new.lines.text.items ≡ old.lines.text.items ++ more) × TakesTrees old (frame ∷ []) more new
 frame_shown old v new frame all left text known range found wanted none h same =
-    let whole : h.earlier ≡ all_streams frame = sym (same ∙ h.all ∙ ap (λ (es : List Entry). h.earlier ++ es) none ∙ append-nil h.earlier) in
+    let whole : h.earlier ≡ all_streams frame = sym (same ∙ h.all ∙ ap (λ (es : List Entry). h.earlier ++ es) none
+    ∙ append-nil h.earlier) in
     let f : TreeFrame = record { meta = frame.meta; trees = h.trees } in
     let shown = trees_text old.lines.known.now f in (
       flat_map (trees_text old.lines.known.now) (f ∷ []),
       h.lines.text ∙ (λ i. text i ++ flat_map (tree_text (known i).now (range i)) h.trees)
-          ∙ append_assoc old.lines.text.items (head_text frame.meta) (flat_map (tree_text old.lines.known.now frame.meta.range_ns) h.trees) ∙ ap (λ (x : List ℕ). old.lines.text.items ++ x) (sym (append-nil shown)),
+          ∙ append_assoc old.lines.text.items (head_text frame.meta)
+          (flat_map (tree_text old.lines.known.now frame.meta.range_ns) h.trees)
+          ∙ ap (λ (x : List ℕ). old.lines.text.items ++ x) (sym (append-nil shown)),
       record {
         trees = f ∷ [];
-        read = (record { meta = refl; trees = subst (λ (es : List Entry). AreSpelled es h.trees) (λ i. filter (λ d. is_wanted (wanted i).now d.0) (whole i)) h.spelled }, tt);
+        read = (
+          record {
+            meta = refl;
+            trees = subst (λ (es : List Entry). AreSpelled es h.trees)
+                (λ i. filter (λ d. is_wanted (wanted i).now d.0) (whole i)) h.spelled;
+          },
+          tt,
+        );
         is = refl;
         known = h.lines.known ∙ known;
         found = h.found ∙ ap (λ (b : Bool). has_trees b h.trees) found;
@@ -152,5 +178,6 @@ frame_shown old v new frame all left text known range found wanted none h same =
       },
     )
 
-pub frame_unread : (old : Trees) (frame : OpenFrame) (entries : List Entry) (fault : Error) → all_streams frame ≡ entries → AreUnread (wanted_in old entries) fault → AreUnread (wanted_streams old.wanted.now frame) fault
+pub frame_unread : (old : Trees) (frame : OpenFrame) (entries : List Entry) (fault : Error) → all_streams frame ≡ entries
+    → AreUnread (wanted_in old entries) fault → AreUnread (wanted_streams old.wanted.now frame) fault
 frame_unread old frame entries fault same u = subst (λ (es : List Entry). AreUnread (wanted_in old es) fault) (sym same) u

@@ -18,7 +18,7 @@ digits_in (byte ∷ bytes) =
     if all_ascii_digits (byte ∷ bytes) then Some (digits_value 10 (byte ∷ bytes)) else None
 
 abbrev pub if_below : ℕ → ℕ → Option ℕ
-if_below limit n = if nat_lt n limit then Some n else None
+if_below limit number = if nat_lt number limit then Some number else None
 
 -- such a number of 64 bits
 abbrev pub number_in : List ℕ → Option ℕ
@@ -45,7 +45,8 @@ behind_dot [] = None
 behind_dot (byte ∷ bytes) = if is_dot byte then Some bytes else None
 
 abbrev pub from_to : Option ℕ → Option ℕ → Option Indices
-from_to (Some a) (Some b) = if nat_lt a b then Some (record { first = a; last = b - 1 }) else None
+from_to (Some from) (Some below) =
+    if nat_lt from below then Some (record { first = from; last = below - 1 }) else None
 from_to _ _ = None
 
 -- `A..B`: from A on, and below B
@@ -56,7 +57,7 @@ range_in word =
 
 -- so many of the slowest frames, or those with these indices
 abbrev pub number_or_range : Option ℕ → List ℕ → Option Wish
-number_or_range (Some n) more = Some (slowest_frames n)
+number_or_range (Some limit) more = Some (slowest_frames limit)
 number_or_range None more = option_map (λ i. some_frames (Some i)) (range_in more)
 
 abbrev pub frames_in : List ℕ → Option Wish
@@ -114,7 +115,7 @@ wish_of (SlowFrames limit) = slow_paths limit
 wish_of (Page place) = a_page place.now
 
 abbrev pub request_of : View × Bor (List ℕ) → Request
-request_of t = (wish_of t.0, t.1.now)
+request_of asked = (wish_of asked.0, asked.1.now)
 
 -- ---- in what order scopes are shown by name
 

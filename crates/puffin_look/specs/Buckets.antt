@@ -5,16 +5,17 @@ use Rattle.puffin_view.specs.View.Stats.{cut}
 -- Halving a duration above 255 comes to a bucket that is 128 lower. The first argument limits how often.
 abbrev pub bucket_in : ℕ → ℕ → ℕ
 bucket_in zero time = time
-bucket_in (suc n) time = if nat_lt time 256 then time else 128 + bucket_in n (time / 2)
+bucket_in (suc limit) time = if nat_lt time 256 then time else 128 + bucket_in limit (time / 2)
 
 -- the bucket of a duration
 abbrev pub bucket_of : ℕ → ℕ
 bucket_of time = bucket_in time time
 
+-- Above 255 it is that of the bucket 128 lower, doubled, and one more.
 abbrev pub last_in : ℕ → ℕ → ℕ
 last_in zero bucket = bucket
-last_in (suc n) bucket =
-    if nat_lt bucket 256 then bucket else cut (cut (last_in n (bucket - 128) * 2) + 1)
+last_in (suc limit) bucket =
+    if nat_lt bucket 256 then bucket else cut (cut (last_in limit (bucket - 128) * 2) + 1)
 
 -- the greatest duration of 64 bits in a bucket
 abbrev pub last_of : ℕ → ℕ

@@ -9,12 +9,12 @@ use Rattle.puffin_look.specs.declared.rows.Value.TheVariants.{Number, Moment, Of
 -- ---- numbers
 
 abbrev pub digit : ℕ → ℕ
-digit n = 48 + n % 10
+digit number = 48 + number % 10
 
 -- what stands before so many digits
 abbrev pub comma : ℕ → List ℕ
 comma zero = []
-comma (suc n) = if suc n % 3 == 0 then codes "," else []
+comma (suc more) = if suc more % 3 == 0 then codes "," else []
 
 -- digits in groups of three, with a comma between groups
 abbrev pub grouped : List ℕ → List ℕ
@@ -22,12 +22,13 @@ grouped [] = []
 grouped (byte ∷ bytes) = byte ∷ (comma (length bytes) ++ grouped bytes)
 
 abbrev pub grouped_moment : ℤ → List ℕ
-grouped_moment (pos n) = grouped (decimal n)
-grouped_moment (negsuc n) = codes "-" ++ grouped (decimal (suc n))
+grouped_moment (pos time) = grouped (decimal time)
+grouped_moment (negsuc time) = codes "-" ++ grouped (decimal (suc time))
 
 -- hundredths of a unit, with two digits behind the point
 abbrev pub in_hundredths : ℕ → List ℕ → List ℕ
-in_hundredths n unit = grouped (decimal (n / 100)) ++ (46 ∷ digit (n / 10) ∷ digit n ∷ unit)
+in_hundredths number unit =
+    grouped (decimal (number / 100)) ++ (46 ∷ digit (number / 10) ∷ digit number ∷ unit)
 
 -- nanoseconds in the greatest unit of which there is one, rounded down
 abbrev pub readable_time : ℕ → List ℕ
@@ -39,14 +40,14 @@ readable_time time =
 
 -- the same of a time that may be negative
 abbrev pub readable_offset : ℤ → List ℕ
-readable_offset (pos n) = readable_time n
-readable_offset (negsuc n) = codes "-" ++ readable_time (suc n)
+readable_offset (pos time) = readable_time time
+readable_offset (negsuc time) = codes "-" ++ readable_time (suc time)
 
 -- in percent, with a digit behind the point, rounded down; of nothing there is no share
 abbrev pub share_text : ℕ → ℕ → List ℕ
 share_text part zero = codes "-"
-share_text part (suc n) =
-    let share = part * 1000 / suc n in decimal (share / 10) ++ (46 ∷ digit share ∷ 37 ∷ [])
+share_text part (suc whole) =
+    let share = part * 1000 / suc whole in decimal (share / 10) ++ (46 ∷ digit share ∷ 37 ∷ [])
 
 -- how long a range is
 abbrev pub length_of : ℤ × ℤ → ℕ
@@ -75,10 +76,10 @@ abbrev pub cell : ℕ → List ℕ → List ℕ
 cell width text = codes " " ++ (replicate (width - length text) 32 ++ text)
 
 abbrev pub value_text : Value → List ℕ
-value_text (Number n) = grouped (decimal n)
+value_text (Number number) = grouped (decimal number)
 value_text (Moment time) = grouped_moment time
 value_text (Offset from to) = readable_offset (to -ℤ from)
-value_text (Hundredths (Some n)) = in_hundredths n []
+value_text (Hundredths (Some number)) = in_hundredths number []
 value_text (Hundredths None) = codes "-"
 value_text (Time (Some time)) = readable_time time
 value_text (Time None) = codes "-"
@@ -87,17 +88,17 @@ value_text (Change old new) = change_text old new
 value_text (Growth old new) = growth_text old new
 
 abbrev pub width_of : Value → ℕ
-width_of (Number n) = 13
+width_of (Number number) = 13
 width_of (Moment time) = 26
 width_of (Offset from to) = 11
-width_of (Hundredths n) = 13
+width_of (Hundredths number) = 13
 width_of (Time time) = 11
 width_of (Share part whole) = 7
 width_of (Change old new) = 12
 width_of (Growth old new) = 12
 
 abbrev pub value_cell : Value → List ℕ
-value_cell v = cell (width_of v) (value_text v)
+value_cell value = cell (width_of value) (value_text value)
 
 -- ---- a row
 
@@ -110,7 +111,14 @@ abbrev pub Name : Type 0
 Name = List ℕ × List ℕ
 
 abbrev pub row_cell : Cell → List ℕ
-row_cell c = value_cell c.1
+row_cell entry = value_cell entry.1
+
+abbrev pub name_cell : Cell → List ℕ
+name_cell entry = cell (width_of entry.1) entry.0
+
+-- the names of columns, each where its values end
+abbrev pub heading : List Cell → List ℕ
+heading cells = flat_map name_cell cells
 
 -- a name, with escapes for control characters, at the end of its line
 abbrev pub row_end : Option Name → List ℕ

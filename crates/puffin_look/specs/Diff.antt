@@ -14,8 +14,9 @@ use Rattle.puffin_look.specs.declared.diff.DiffRow.{DiffRow}
 -- rounded down; without frames there is nothing
 abbrev pub per_frame : ℕ → ℕ → ℕ
 per_frame sum zero = 0
-per_frame sum (suc n) = sum / suc n
+per_frame sum (suc frames) = sum / suc frames
 
+-- hundredths of what there is in each frame
 abbrev pub hundredths : ℕ → ℕ → ℕ
 hundredths sum frames = cut (per_frame (sum * 100) frames)
 

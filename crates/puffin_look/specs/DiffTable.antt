@@ -37,10 +37,10 @@ diff_cells row =
 abbrev pub diff_row : Form → DiffRow → List ℕ
 diff_row form row = row_text form (diff_cells row) (Some (codes "name", row.name.items))
 
--- the names of the columns
-abbrev pub head_line : List ℕ
-head_line =
+-- the first line of a table
+abbrev pub column_names : List ℕ
+column_names =
     codes "     old_own     new_own   own_change   own_growth   old_total   new_total total_change total_growth     old_calls     new_calls  name\n"
 
 abbrev pub diff_text : Form → List DiffRow → List ℕ
-diff_text form rows = list_text form head_line (map (diff_row form) rows)
+diff_text form rows = list_text form column_names (map (diff_row form) rows)

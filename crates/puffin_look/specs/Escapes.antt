@@ -6,7 +6,7 @@ abbrev pub is_control : ℕ → Bool
 is_control byte = nat_lt byte 32 || byte == 127
 
 abbrev pub hex_digit : ℕ → ℕ
-hex_digit n = if nat_lt n 10 then 48 + n else 87 + n
+hex_digit value = if nat_lt value 10 then 48 + value else 87 + value
 
 -- `\x1b` for the byte 27
 abbrev pub escape : ℕ → List ℕ

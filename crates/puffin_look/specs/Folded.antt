@@ -2,7 +2,7 @@
 use Rattle.std.specs.Prelude.{◌≡◌, ℕ, ◌-◌, Bool, false, List, [], ◌∷◌, ◌++◌, codes, map, fold, filter, ◌==◌, ◌||◌, nat_lt, if◌then◌else◌, Option, Some, None, sum_by}
 use Rattle.std.specs.Fmt.{decimal}
 use Rattle.std.specs.FinMap as tree
-use Rattle.std.specs.List.{flat_map, list_any}
+use Rattle.std.specs.List.{flat_map}
 use Rattle.std.specs.Str.{bytes_eq}
 use Rattle.puffin_data.specs.Forest.{Span, Forest}
 use Rattle.puffin_data.specs.Walk.PlacedScopes.{ScopeInContext, nested_in}
@@ -12,7 +12,8 @@ use Rattle.puffin_look.specs.OpenFrame.{OpenFrame}
 use Rattle.puffin_look.specs.Trees.{TreeFrame}
 use Rattle.puffin_look.specs.Wanted.{AreTaken}
 use Rattle.puffin_look.specs.declared.wanted.Wanted.{Wanted}
-use Rattle.puffin_look.specs.Names.{name_or_id}
+use Rattle.puffin_look.specs.declared.stacks.Times.{Times}
+use Rattle.puffin_look.specs.Names.{name_or_id, with_name}
 use Rattle.puffin_look.specs.FrameTree.{time_of, found_in}
 
 -- ---- a path
@@ -37,7 +38,7 @@ abbrev pub below : Option (List ℕ) → List ℕ → List ℕ
 below path name = front path ++ name
 
 abbrev pub path_with : Collection → Option (List ℕ) → Span → Option (List ℕ)
-path_with known path s = Some (below path (label known s.id))
+path_with known path span = Some (below path (label known span.id))
 
 -- the path of the innermost of these scopes, or nothing if there are none
 abbrev pub path_of : Collection → List Span → Option (List ℕ)
@@ -61,15 +62,15 @@ parts_at outer name time =
     record { path = below outer name; whole = time; nested = 0 } ∷ outer_part outer time
 
 abbrev pub scope_parts : Collection → ScopeInContext → List Part
-scope_parts known s =
-    parts_at (path_of known s.around) (label known s.span.id) (time_of s.span)
+scope_parts known scope =
+    parts_at (path_of known scope.around) (label known scope.span.id) (time_of scope.span)
 
 abbrev pub forest_parts : Collection → Forest → List Part
-forest_parts known f = flat_map (scope_parts known) (nested_in [] f)
+forest_parts known forest = flat_map (scope_parts known) (nested_in [] forest)
 
 -- the scopes of a frame
 abbrev pub frame_parts : Collection → TreeFrame → List Part
-frame_parts known f = flat_map (λ t. forest_parts known t.1) f.trees
+frame_parts known frame = flat_map (λ t. forest_parts known t.1) frame.trees
 
 abbrev pub parts : Collection → List TreeFrame → List Part
 parts known frames = flat_map (frame_parts known) frames
@@ -77,16 +78,21 @@ parts known frames = flat_map (frame_parts known) frames
 abbrev pub parts_of : List ℕ → List Part → List Part
 parts_of path all = filter (λ s. bytes_eq s.path path) all
 
--- The durations of the scopes with a path, less those of the scopes directly within them. A sum that doesn't fit `u64` is cut.
+-- The durations of the scopes with a path, and of those directly within them. A sum that doesn't fit `u64` is cut.
+abbrev pub times_in : List Part → List ℕ → Times
+times_in all path = record {
+  whole = cut (sum_by (λ s. s.whole) (parts_of path all));
+  nested = cut (sum_by (λ s. s.nested) (parts_of path all));
+}
+
+-- what of a path's time isn't that of the scopes directly within
 abbrev pub own_time : List Part → List ℕ → ℕ
-own_time all path =
-    cut (sum_by (λ s. s.whole) (parts_of path all))
-    - cut (sum_by (λ s. s.nested) (parts_of path all))
+own_time all path = (times_in all path).whole - (times_in all path).nested
 
 -- ---- lines
 
 abbrev pub with_path : List (List ℕ) → Part → List (List ℕ)
-with_path paths s = if list_any (bytes_eq s.path) paths then paths else paths ++ (s.path ∷ [])
+with_path paths part = with_name paths part.path
 
 -- each path once, in the order in which they are met
 abbrev pub paths_in : List Part → List (List ℕ)

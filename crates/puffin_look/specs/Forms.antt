@@ -3,20 +3,21 @@ use Rattle.std.specs.Prelude.{ℕ, Bool, true, false, List, [], ◌∷◌, ◌++
 use Rattle.puffin_look.specs.declared.lines.Form.{Form}
 use Rattle.puffin_look.specs.declared.lines.Form.TheVariants.{Table, Json}
 
--- what stands before a line that is behind others, or that is the first
-abbrev pub lead : List ℕ → Bool → List ℕ
-lead between true = between
-lead between false = []
+-- `between`, if a line stands before the next one
+abbrev pub separator_if : (between : List ℕ) → (follows : Bool) → List ℕ
+separator_if between true = between
+separator_if between false = []
 
--- lines with this between any two
-abbrev pub joined : List ℕ → Bool → List (List ℕ) → List ℕ
-joined between any [] = []
-joined between any (line ∷ lines) = lead between any ++ (line ++ joined between true lines)
+-- the lines, with `between` before each but the first; `follows`: a line stands before these
+abbrev pub joined : (between : List ℕ) → (follows : Bool) → List (List ℕ) → List ℕ
+joined between follows [] = []
+joined between follows (line ∷ lines) =
+    separator_if between follows ++ (line ++ joined between true lines)
 
 -- a table begins with the names of its columns
-abbrev pub opening : Form → List ℕ → List ℕ
-opening Table head = head
-opening Json head = codes "["
+abbrev pub opening : Form → (column_names : List ℕ) → List ℕ
+opening Table column_names = column_names
+opening Json column_names = codes "["
 
 abbrev pub separator : Form → List ℕ
 separator Table = []
@@ -26,8 +27,11 @@ abbrev pub closing : Form → List ℕ
 closing Table = []
 closing Json = codes "]\n"
 
+-- the lines of a list, without what stands before and behind them all
 abbrev pub lines_text : Form → List (List ℕ) → List ℕ
 lines_text form lines = joined (separator form) false lines
 
-abbrev pub list_text : Form → List ℕ → List (List ℕ) → List ℕ
-list_text form head lines = opening form head ++ (lines_text form lines ++ closing form)
+-- a whole list
+abbrev pub list_text : Form → (column_names : List ℕ) → List (List ℕ) → List ℕ
+list_text form column_names lines =
+    opening form column_names ++ (lines_text form lines ++ closing form)

@@ -29,13 +29,13 @@ frame_cells row =
 abbrev pub frame_line : Form → FrameRow → List ℕ
 frame_line form row = row_text form (frame_cells row) None
 
--- the names of the columns
-abbrev pub head_line : List ℕ
-head_line =
+-- the first line of a table
+abbrev pub column_names : List ℕ
+column_names =
     codes "         frame       threads        scopes                      start    duration\n"
 
 abbrev pub frame_list : Form → List FrameRow → List ℕ
-frame_list form rows = list_text form head_line (map (frame_line form) rows)
+frame_list form rows = list_text form column_names (map (frame_line form) rows)
 
 -- the list of the frames with one of these indices
 abbrev pub IsFrameList : Form → Option Indices → List OpenFrame → List ℕ → Type 0

@@ -1,12 +1,11 @@
 -- The path of scopes that takes the most time.
-use Rattle.std.specs.Prelude.{ℕ, zero, suc, ◌-◌, Bool, true, nat_lt, nat_le, not, ◌&&◌, ◌==◌, List, [], ◌∷◌, ◌++◌, take, drop, length, codes, fold, map, sum_by, if◌then◌else◌, Option, Some, None}
+use Rattle.std.specs.Prelude.{ℕ, zero, suc, ◌-◌, Bool, true, nat_lt, nat_le, not, ◌&&◌, ◌==◌, List, [], ◌∷◌, ◌++◌, take, drop, length, codes, fold, map, if◌then◌else◌, Option, Some, None}
 use Rattle.std.specs.List.{list_any}
 use Rattle.std.specs.Str.{bytes_eq}
-use Rattle.puffin_view.specs.View.Stats.{cut}
 use Rattle.puffin_look.specs.Cells.{Cell}
 use Rattle.puffin_look.specs.FrameTree.{indent}
 use Rattle.puffin_look.specs.Objects.{row_text}
-use Rattle.puffin_look.specs.Folded.{Part, parts_of, paths_in}
+use Rattle.puffin_look.specs.Folded.{Part, times_in, paths_in}
 use Rattle.puffin_look.specs.declared.lines.Form.{Form}
 use Rattle.puffin_look.specs.declared.lines.Form.TheVariants.{Table, Json}
 use Rattle.puffin_look.specs.declared.rows.Value.TheVariants.{Time, Share}
@@ -14,13 +13,7 @@ use Rattle.puffin_look.specs.declared.stacks.Times.{Times}
 
 -- ---- the times of paths
 
--- the durations of the scopes with a path, and of those directly within them
-abbrev pub times_in : List Part → List ℕ → Times
-times_in all path = record {
-  whole = cut (sum_by (λ s. s.whole) (parts_of path all));
-  nested = cut (sum_by (λ s. s.nested) (parts_of path all));
-}
-
+-- a path and its times
 abbrev pub Row : Type 0
 Row = List ℕ × Times
 
@@ -47,6 +40,7 @@ abbrev pub is_more : Option Step → ℕ → Bool
 is_more None time = true
 is_more (Some step) time = nat_lt step.1 time
 
+-- this path, if it takes more time than the best one so far
 abbrev pub heavier : List ℕ → Option Step → Row → Option Step
 heavier front best row =
     if is_directly_below front row.0 && is_more best row.1.whole then Some (row.0, row.1.whole)
@@ -79,6 +73,7 @@ step_line form level front step outer =
     row_text form (step_cells step outer)
     (Some (codes "name", shown_name form level (drop front step.0)))
 
+-- the lines from this step on, if it is followed
 abbrev pub lines_with : (Step → List (List ℕ)) → ℕ → ℕ → Option Step → List (List ℕ)
 lines_with next level outer None = []
 lines_with next level outer (Some step) =
@@ -87,7 +82,7 @@ lines_with next level outer (Some step) =
 -- The line of the heaviest path below this text, and those of the steps behind it. The first number limits how many.
 abbrev pub step_lines : Form → ℕ → List Row → ℕ → List ℕ → ℕ → List (List ℕ)
 step_lines form zero rows level front outer = []
-step_lines form (suc n) rows level front outer =
+step_lines form (suc limit) rows level front outer =
     lines_with (λ step. step_line form level (length front) step outer
-    ∷ step_lines form n rows (suc level) (step.0 ++ codes ";") step.1) level outer
+    ∷ step_lines form limit rows (suc level) (step.0 ++ codes ";") step.1) level outer
     (heaviest front rows)

@@ -17,7 +17,7 @@ abbrev pub exact_token : ℕ → List ℕ → Token
 exact_token size digits = if nat_lt (2 ^ 53) size then string digits else number digits
 
 abbrev pub integer_token : ℤ → Token
-integer_token n = exact_token (unsigned_abs n) (signed_decimal n)
+integer_token integer = exact_token (unsigned_abs integer) (signed_decimal integer)
 
 abbrev pub minus : Bool → List ℕ
 minus true = codes "-"
@@ -25,33 +25,34 @@ minus false = []
 
 -- with one digit behind the point
 abbrev pub tenths : ℕ → List ℕ
-tenths n = decimal (n / 10) ++ (codes "." ++ decimal (n % 10))
+tenths count = decimal (count / 10) ++ (codes "." ++ decimal (count % 10))
 
 abbrev pub tenths_token : Bool → ℕ → Token
-tenths_token is_negative n = exact_token (n / 10) (minus is_negative ++ tenths n)
+tenths_token is_negative count = exact_token (count / 10) (minus is_negative ++ tenths count)
 
 -- with two
 abbrev pub hundredths : ℕ → List ℕ
-hundredths n = decimal (n / 100) ++ (codes "." ++ (decimal (n / 10 % 10) ++ decimal (n % 10)))
+hundredths count =
+    decimal (count / 100) ++ (codes "." ++ (decimal (count / 10 % 10) ++ decimal (count % 10)))
 
 abbrev pub hundredths_token : ℕ → Token
-hundredths_token n = exact_token (n / 100) (hundredths n)
+hundredths_token count = exact_token (count / 100) (hundredths count)
 
 -- in percent; of nothing there is no share
 abbrev pub share_token : ℕ → ℕ → Token
 share_token part zero = null
-share_token part (suc n) = tenths_token false (part * 1000 / suc n)
+share_token part (suc whole) = tenths_token false (part * 1000 / suc whole)
 
 abbrev pub growth_token : ℕ → ℕ → Token
 growth_token zero new = null
-growth_token (suc n) new =
-    tenths_token (nat_lt new (suc n)) (distance (suc n) new * 1000 / suc n)
+growth_token (suc old) new =
+    tenths_token (nat_lt new (suc old)) (distance (suc old) new * 1000 / suc old)
 
 abbrev pub value_token : Value → Token
-value_token (Number n) = integer_token (pos n)
+value_token (Number count) = integer_token (pos count)
 value_token (Moment time) = integer_token time
 value_token (Offset from to) = integer_token (to -ℤ from)
-value_token (Hundredths (Some n)) = hundredths_token n
+value_token (Hundredths (Some count)) = hundredths_token count
 value_token (Hundredths None) = null
 value_token (Time (Some time)) = integer_token (pos time)
 value_token (Time None) = null

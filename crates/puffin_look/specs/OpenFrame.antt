@@ -18,21 +18,21 @@ abbrev pub open_of : UnpackedFrameData → OpenFrame
 open_of frame = record { meta = frame.meta; streams = streams_held frame }
 
 abbrev pub opened_with : PacketFields → Result Streams FileError → Result OpenFrame FileError
-opened_with c (Ok streams) =
-    Ok (record { meta = c.meta; streams = streams })
-opened_with c (Err fault) = Err fault
+opened_with fields (Ok streams) =
+    Ok (record { meta = fields.meta; streams = streams })
+opened_with fields (Err fault) = Err fault
 
 -- a frame with these fields, or why its streams can't be unpacked
 abbrev pub opened_fields : PacketFields → Result OpenFrame FileError
-opened_fields c = opened_with c (streams_in_fields c)
+opened_fields fields = opened_with fields (streams_in_fields fields)
 
 -- the same of a frame that was read
 abbrev pub opened : Stored → Result OpenFrame FileError
-opened s = opened_fields (fields_of (frame_stored s))
+opened stored = opened_fields (fields_of (frame_stored stored))
 
 -- frames that were read, each unpacked
 abbrev pub AreOpened : List Stored → List OpenFrame → Type 0
 AreOpened [] [] = Unit {0}
-AreOpened [] (o ∷ os) = ⊥
-AreOpened (s ∷ ss) [] = ⊥
-AreOpened (s ∷ ss) (o ∷ os) = (opened s ≡ Ok o) × AreOpened ss os
+AreOpened [] (frame ∷ frames) = ⊥
+AreOpened (stored ∷ more) [] = ⊥
+AreOpened (stored ∷ more) (frame ∷ frames) = (opened stored ≡ Ok frame) × AreOpened more frames

@@ -45,14 +45,15 @@ id_json None = codes "null"
 id_json (Some id) = decimal id
 
 abbrev pub details_json : Details → List ℕ
-details_json d =
+details_json details =
     codes "["
-    ++ (id_json d.id
-    ++ ((codes "," ++ quoted (name_of d))
-    ++ ((codes "," ++ quoted d.file_path) ++ ((codes "," ++ decimal d.line_nr) ++ codes "]"))))
+    ++ (id_json details.id
+    ++ ((codes "," ++ quoted (name_of details))
+    ++ ((codes "," ++ quoted details.file_path)
+    ++ ((codes "," ++ decimal details.line_nr) ++ codes "]"))))
 
 abbrev pub details_element : Details → List ℕ
-details_element d = element (codes "details") (details_json d)
+details_element details = element (codes "details") (details_json details)
 
 -- in ascending order of id
 abbrev pub details_elements : Collection → List ℕ
@@ -61,21 +62,21 @@ details_elements known = flat_map details_element (values known.by_id)
 -- ---- a scope: its depth and id; its start in the frame and its duration; its text
 
 abbrev pub times_json : ℤ → Span → List ℕ
-times_json begin s =
-    (codes "," ++ signed_decimal (s.start -ℤ begin)) ++ (codes "," ++ decimal (time_of s))
+times_json begin span =
+    (codes "," ++ signed_decimal (span.start -ℤ begin)) ++ (codes "," ++ decimal (time_of span))
 
 abbrev pub row_json : ℤ → ℕ → Span → List ℕ
-row_json begin level s =
+row_json begin level span =
     (codes ",[" ++ decimal level)
-    ++ ((codes "," ++ decimal s.id)
-    ++ (times_json begin s ++ ((codes "," ++ quoted (text_in s.text)) ++ codes "]")))
+    ++ ((codes "," ++ decimal span.id)
+    ++ (times_json begin span ++ ((codes "," ++ quoted (text_in span.text)) ++ codes "]")))
 
 abbrev pub scope_json : ℤ → ScopeInContext → List ℕ
-scope_json begin s = row_json begin (cut (length s.around)) s.span
+scope_json begin scope = row_json begin (cut (length scope.around)) scope.span
 
 -- each scope of a forest, before the scopes in it
 abbrev pub rows_json : ℤ → Forest → List ℕ
-rows_json begin f = flat_map (scope_json begin) (nested_in [] f)
+rows_json begin forest = flat_map (scope_json begin) (nested_in [] forest)
 
 -- ---- a thread: its start and name, and then each of its scopes
 
@@ -83,7 +84,7 @@ abbrev pub key_json : ThreadKey → List ℕ
 key_json key = codes ",[\"" ++ (start_text key.start ++ (codes "\"," ++ quoted key.name))
 
 abbrev pub thread_json : ℤ → Tree → List ℕ
-thread_json begin t = key_json t.0 ++ (rows_json begin t.1 ++ codes "]")
+thread_json begin tree = key_json tree.0 ++ (rows_json begin tree.1 ++ codes "]")
 
 -- ---- a frame: its index, start and stop, and then each of its threads
 
@@ -94,8 +95,8 @@ head_json meta =
     ++ ((codes "\",\"" ++ signed_decimal meta.range_ns.1) ++ codes "\""))
 
 abbrev pub frame_json : TreeFrame → List ℕ
-frame_json f =
-    head_json f.meta ++ (flat_map (thread_json f.meta.range_ns.0) f.trees ++ codes "]")
+frame_json frame =
+    head_json frame.meta ++ (flat_map (thread_json frame.meta.range_ns.0) frame.trees ++ codes "]")
 
 -- ---- which frames
 
@@ -108,8 +109,9 @@ chosen_streams frames frame =
     if is_chosen frames frame.meta.frame_index then all_streams frame else []
 
 abbrev pub frame_element : PageFrames → TreeFrame → List ℕ
-frame_element frames f =
-    if is_chosen frames f.meta.frame_index then element (codes "frame") (frame_json f) else []
+frame_element frames frame =
+    if is_chosen frames frame.meta.frame_index then element (codes "frame") (frame_json frame)
+    else []
 
 -- the details of all scopes, and the frames of the page in the order of the file
 abbrev pub IsPageData : Collection → PageFrames → List OpenFrame → List ℕ → Type 0

@@ -54,8 +54,9 @@ path_text form meta parts =
 
 -- a frame, and the steps of its heaviest path, over all of its threads
 abbrev pub slow_text : Form → Collection → TreeFrame → List ℕ
-slow_text form known f =
-    head_text form f.meta ++ (path_text form f.meta (frame_parts known f) ++ tail_text form)
+slow_text form known frame =
+    head_text form frame.meta
+    ++ (path_text form frame.meta (frame_parts known frame) ++ tail_text form)
 
 -- a duration, and what is printed of the frame
 abbrev pub Slow : Type 0
@@ -65,7 +66,8 @@ abbrev pub duration : Slow → ℤ
 duration slow = slow.0
 
 abbrev pub slow_of : Form → Collection → TreeFrame → Slow
-slow_of form known f = (f.meta.range_ns.1 -ℤ f.meta.range_ns.0, slow_text form known f)
+slow_of form known frame =
+    (frame.meta.range_ns.1 -ℤ frame.meta.range_ns.0, slow_text form known frame)
 
 -- the slowest first, and of equally slow ones the one that comes first in the file
 abbrev pub slowest_first : Form → Collection → List TreeFrame → List Slow
@@ -74,7 +76,8 @@ slowest_first form known trees =
 
 -- this many slowest frames of those that are wanted, with their wanted threads
 abbrev pub AreSlowFrames : Form → Collection → Wanted → ℕ → List OpenFrame → List ℕ → Type 0
-AreSlowFrames form known wanted n frames text =
+AreSlowFrames form known wanted limit frames text =
     (trees : List TreeFrame)
     × AreTaken wanted frames trees
-    × (text ≡ list_text form [] (map (λ slow. slow.1) (take n (slowest_first form known trees))))
+    × (text
+    ≡ list_text form [] (map (λ slow. slow.1) (take limit (slowest_first form known trees))))

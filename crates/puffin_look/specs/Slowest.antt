@@ -16,14 +16,8 @@ module _ {X : Type 0} (duration : X → ℤ) where
       if is_faster_by row first then row ∷ (first ∷ rows)
       else first ∷ with_row_by rows row
 
-abbrev pub duration_of : FrameRow → ℤ
-duration_of row = row.duration_ns
-
-abbrev pub is_faster : FrameRow → FrameRow → Bool
-is_faster = is_faster_by duration_of
-
 abbrev pub with_row : List FrameRow → FrameRow → List FrameRow
-with_row = with_row_by duration_of
+with_row = with_row_by (λ (row : FrameRow). row.duration_ns)
 
 -- the slowest first, and of equally slow ones the one that comes first in the file
 abbrev pub slowest_first : List FrameRow → List FrameRow
@@ -31,8 +25,8 @@ slowest_first rows = fold with_row [] rows
 
 -- the list of this many slowest frames
 abbrev pub AreSlowestFrames : Form → ℕ → List OpenFrame → List ℕ → Type 0
-AreSlowestFrames form n frames text =
-    text ≡ frame_list form (take n (slowest_first (map frame_row frames)))
+AreSlowestFrames form limit frames text =
+    text ≡ frame_list form (take limit (slowest_first (map frame_row frames)))
 
 -- nothing is printed of any frames
 abbrev pub IsNoText : List OpenFrame → List ℕ → Type 0

@@ -1,5 +1,5 @@
 -- The list of the threads of a file.
-use Rattle.std.specs.Prelude.{◌≡◌, ℕ, ◌+◌, ℤ, List, [], ◌∷◌, ◌++◌, fold, map, codes, Option, Some, None}
+use Rattle.std.specs.Prelude.{◌≡◌, ℕ, ℤ, List, [], ◌∷◌, ◌++◌, fold, map, codes, Option, Some, None}
 use Rattle.std.specs.Fmt.{signed_decimal}
 use Rattle.std.specs.FinMap as tree
 use Rattle.puffin_threads.specs.Thread.ThreadKey.{ThreadKey}
@@ -20,11 +20,12 @@ with_frame totals frame = with_streams totals frame.streams
 abbrev pub totals_of : List OpenFrame → Totals
 totals_of frames = fold with_frame tree.empty frames
 
--- a thread as `report` takes it: its start, or `-` if it is unknown, and its name
+-- a thread's start, or `-` if it is unknown
 abbrev pub start_text : Option ℤ → List ℕ
 start_text None = codes "-"
 start_text (Some start) = signed_decimal start
 
+-- a thread as `report` takes it: its start, a colon and its name
 abbrev pub thread_word : ThreadKey → List ℕ
 thread_word key = start_text key.start ++ (codes ":" ++ key.name)
 
@@ -33,22 +34,22 @@ abbrev pub thread_text : ThreadKey → List ℕ
 thread_text key = start_text key.start ++ (codes ":" ++ escaped key.name)
 
 abbrev pub thread_cells : ThreadTotals → List Cell
-thread_cells t =
-    (codes "frames", Number t.frames) ∷ (codes "scopes", Number t.scopes)
-    ∷ (codes "bytes", Number t.bytes) ∷ (codes "start", Moment t.range_ns.0)
-    ∷ (codes "duration", Time (Some (length_of t.range_ns))) ∷ []
+thread_cells totals =
+    (codes "frames", Number totals.frames) ∷ (codes "scopes", Number totals.scopes)
+    ∷ (codes "bytes", Number totals.bytes) ∷ (codes "start", Moment totals.range_ns.0)
+    ∷ (codes "duration", Time (Some (length_of totals.range_ns))) ∷ []
 
 abbrev pub thread_line : Form → ThreadKey × ThreadTotals → List ℕ
-thread_line form e =
-    row_text form (thread_cells e.1) (Some (codes "thread", thread_word e.0))
+thread_line form entry =
+    row_text form (thread_cells entry.1) (Some (codes "thread", thread_word entry.0))
 
--- the names of the columns
-abbrev pub head_line : List ℕ
-head_line =
+-- the first line of a table
+abbrev pub column_names : List ℕ
+column_names =
     codes "        frames        scopes         bytes                      start    duration  thread\n"
 
 abbrev pub thread_list : Form → List (ThreadKey × ThreadTotals) → List ℕ
-thread_list form entries = list_text form head_line (map (thread_line form) entries)
+thread_list form entries = list_text form column_names (map (thread_line form) entries)
 
 -- the list of the threads of these frames, in the order of the threads
 abbrev pub IsThreadList : Form → List OpenFrame → List ℕ → Type 0

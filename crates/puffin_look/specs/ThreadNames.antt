@@ -5,9 +5,9 @@ use Rattle.std.specs.Str.{bytes_eq}
 use Rattle.puffin_data.specs.declared.file_error.FileError.{FileError}
 use Rattle.puffin_threads.specs.Thread.ThreadKey.{ThreadKey}
 use Rattle.puffin_frames.specs.Packet.Stored.{Stored}
-use Rattle.puffin_view.specs.View.File.{file_at, TookFrames, FailsToRead}
+use Rattle.puffin_view.specs.View.File.{file_at, TookFrames}
 use Rattle.puffin_look.specs.OpenFrame.{OpenFrame, AreOpened}
-use Rattle.puffin_look.specs.Printed.{Begins, HasFaultBehind, RefusesNone}
+use Rattle.puffin_look.specs.Printed.{Begins, HasFaultBehind, RefusesNone, StopsBeforeFrames}
 use Rattle.puffin_look.specs.declared.thread_names.Naming.{Naming}
 use Rattle.puffin_look.specs.declared.thread_names.Naming.TheVariants.{Text, Name, Beginning}
 use Rattle.puffin_look.specs.ThreadLines.{thread_text, totals_of}
@@ -18,6 +18,7 @@ is_named Text word key = bytes_eq (thread_text key) word
 is_named Name word key = bytes_eq key.name word
 is_named Beginning word key = bytes_eq (take (length word - 1) key.name ++ codes "*") word
 
+-- these, or the others if there are none
 abbrev pub or_else : List ThreadKey → List ThreadKey → List ThreadKey
 or_else [] others = others
 or_else (key ∷ keys) others = key ∷ keys
@@ -33,12 +34,13 @@ abbrev pub threads_in : List OpenFrame → List ThreadKey
 threads_in frames = map (λ e. e.0) (tree.entries (totals_of frames))
 
 -- These are the threads with a name in the frames of a file that are before its end or its first fault.
-pub record AreNamed (word : List ℕ) (unread left : Option (List ℕ)) (found : List ThreadKey) : Type 0 where
+pub record AreNamed (word : List ℕ) (unread left : Option (List ℕ))
+    (found : List ThreadKey) : Type 0 where
   pub stored : List Stored
   pub begins : Begins unread stored
   pub frames : List OpenFrame
   pub opens : AreOpened stored frames
   pub end : TookFrames file_at unread left stored
       ⊎ ((fault : FileError) × (HasFaultBehind RefusesNone unread left stored frames fault
-      ⊎ (FailsToRead file_at unread left fault × (stored ≡ []))))
+      ⊎ StopsBeforeFrames unread left stored fault))
   pub are : found ≡ threads_named word (threads_in frames)

@@ -1,7 +1,7 @@
 -- The scopes of a file by name: how often each was met, and what time it took.
 use Rattle.std.specs.Prelude.{◌≡◌, ◌⊎◌, ℕ, ◌+◌, ◌-◌, ◌*◌, ◌/◌, ◌^◌, ◌<◌, ◌≤◌, Bool, true, false, nat_lt, nat_le, List, [], ◌∷◌, ◌++◌, length, codes, map, fold, filter, count_by, sum, min, max, if◌then◌else◌, Option, Some, None}
 use Rattle.std.specs.FinMap as tree
-use Rattle.std.specs.List.{flat_map, list_any}
+use Rattle.std.specs.List.{flat_map}
 use Rattle.std.specs.List.Sorted.{IsPermutation, IsNonDecreasingBy}
 use Rattle.std.proofs.Math.Bool.{not}
 use Rattle.std.specs.Str.{bytes_eq}
@@ -12,14 +12,14 @@ use Rattle.puffin_data.specs.Text.{text_in}
 use Rattle.puffin_data.specs.Walk.PlacedScopes.{ScopeInContext, nested_in}
 use Rattle.puffin_threads.specs.Details.Collection.{Collection}
 use Rattle.puffin_frames.specs.Packet.Stored.{Stored}
-use Rattle.puffin_view.specs.View.File.{file_at, TookFrames, FailsToRead}
+use Rattle.puffin_view.specs.View.File.{file_at, TookFrames}
 use Rattle.puffin_view.specs.View.Stats.{cut}
 use Rattle.puffin_look.specs.OpenFrame.{OpenFrame, AreOpened}
-use Rattle.puffin_look.specs.Printed.{Begins, HasFaultBehind}
+use Rattle.puffin_look.specs.Printed.{Begins, HasFaultBehind, StopsBeforeFrames}
 use Rattle.puffin_look.specs.Trees.{TreeFrame}
 use Rattle.puffin_look.specs.Wanted.{AreTaken, RefusesTaken}
 use Rattle.puffin_look.specs.declared.wanted.Wanted.{Wanted}
-use Rattle.puffin_look.specs.Names.{name_or_id}
+use Rattle.puffin_look.specs.Names.{name_or_id, with_name}
 use Rattle.puffin_look.specs.FrameTree.{time_of}
 use Rattle.puffin_look.specs.Buckets.{bucket_of, last_of}
 use Rattle.puffin_look.specs.Cells.{length_of}
@@ -37,8 +37,9 @@ behind_name (byte ∷ bytes) = codes " (" ++ ((byte ∷ bytes) ++ codes ")")
 
 -- a scope's name, with its text if texts are kept apart
 abbrev pub scope_name : Collection → Bool → Span → List ℕ
-scope_name known texts s =
-    name_or_id s.id (tree.get known.by_id s.id) ++ (if texts then behind_name (text_in s.text) else [])
+scope_name known texts span =
+    name_or_id span.id (tree.get known.by_id span.id)
+    ++ (if texts then behind_name (text_in span.text) else [])
 
 -- A call of a scope with this name, or the time of a scope directly within one.
 pub record Piece : Type 0 where
@@ -52,7 +53,7 @@ outer_piece (Some name) time = record { name = name; is_call = false; time = tim
 
 -- the name of the innermost of these scopes
 abbrev pub inner_name : Collection → Bool → Option (List ℕ) → Span → Option (List ℕ)
-inner_name known texts outer s = Some (scope_name known texts s)
+inner_name known texts outer span = Some (scope_name known texts span)
 
 abbrev pub name_around : Collection → Bool → List Span → Option (List ℕ)
 name_around known texts around = fold (inner_name known texts) None around
@@ -62,14 +63,15 @@ pieces_at outer name time =
     record { name = name; is_call = true; time = time } ∷ outer_piece outer time
 
 abbrev pub scope_pieces : Collection → Bool → ScopeInContext → List Piece
-scope_pieces known texts s =
-    pieces_at (name_around known texts s.around) (scope_name known texts s.span) (time_of s.span)
+scope_pieces known texts scope =
+    pieces_at (name_around known texts scope.around) (scope_name known texts scope.span)
+    (time_of scope.span)
 
 abbrev pub forest_pieces : Collection → Bool → Forest → List Piece
-forest_pieces known texts f = flat_map (scope_pieces known texts) (nested_in [] f)
+forest_pieces known texts forest = flat_map (scope_pieces known texts) (nested_in [] forest)
 
 abbrev pub frame_pieces : Collection → Bool → TreeFrame → List Piece
-frame_pieces known texts f = flat_map (λ t. forest_pieces known texts t.1) f.trees
+frame_pieces known texts frame = flat_map (λ t. forest_pieces known texts t.1) frame.trees
 
 abbrev pub pieces : Collection → Bool → List TreeFrame → List Piece
 pieces known texts frames = flat_map (frame_pieces known texts) frames
@@ -96,8 +98,8 @@ HasRank rank times time =
 abbrev pub rank_of : ℕ → ℕ → ℕ
 rank_of percent calls = (calls * percent + 99) / 100
 
--- So many percent of the calls take at most this long: the time is the greatest in the bucket of the duration of that rank, but at
--- most the greatest duration. (A file with 2^64 calls or more isn't told of.)
+-- So many percent of the calls take at most this long: the time is the greatest in the bucket of the duration of that rank, but
+-- at most the greatest duration. (A file with 2^64 calls or more isn't told of.)
 abbrev pub IsPercentile : ℕ → List ℕ → ℕ → Type 0
 IsPercentile percent times value =
     length times < 2 ^ 64 → (exact : ℕ) → exact < 2 ^ 64 →
@@ -115,9 +117,6 @@ pub record IsRow (all : List Piece) (row : TopRow) : Type 0 where
   pub p99 : IsPercentile 99 (call_times all) row.p99
   pub greatest : row.greatest ≡ fold max 0 (call_times all)
 
-abbrev pub with_name : List (List ℕ) → List ℕ → List (List ℕ)
-with_name names name = if list_any (bytes_eq name) names then names else names ++ (name ∷ [])
-
 -- each name once, in the order in which they are met
 abbrev pub names_in : List Piece → List (List ℕ)
 names_in all = fold (λ names p. with_name names p.name) [] all
@@ -132,11 +131,11 @@ AreRowsOf all (name ∷ names) (row ∷ rows) =
 
 -- the durations of frames, together
 abbrev pub with_length : ℕ → TreeFrame → ℕ
-with_length whole f = cut (whole + length_of f.meta.range_ns)
+with_length whole frame = cut (whole + length_of frame.meta.range_ns)
 
 -- the number of frames
 abbrev pub with_one : ℕ → TreeFrame → ℕ
-with_one count f = cut (count + 1)
+with_one count frame = cut (count + 1)
 
 -- ---- a file
 
@@ -149,7 +148,8 @@ pub record IsTop (known : Collection) (wanted : Wanted) (texts : Bool)
   pub opens : AreOpened stored frames
   pub trees : List TreeFrame
   pub taken : AreTaken wanted frames trees
-  pub rows : AreRowsOf (pieces known texts trees) (names_in (pieces known texts trees)) top.rows.items
+  pub rows : AreRowsOf (pieces known texts trees) (names_in (pieces known texts trees))
+      top.rows.items
   pub whole : top.whole ≡ fold with_length 0 trees
   pub count : top.frames ≡ fold with_one 0 trees
 
@@ -162,7 +162,7 @@ pub record StopsReading (wanted : Wanted) (unread left : Option (List ℕ))
   pub opens : AreOpened stored frames
   pub outcome : IsOutside fault
       ⊎ HasFaultBehind (RefusesTaken wanted) unread left stored frames fault
-      ⊎ (FailsToRead file_at unread left fault × (stored ≡ []))
+      ⊎ StopsBeforeFrames unread left stored fault
 
 -- ---- order
 

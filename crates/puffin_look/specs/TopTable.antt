@@ -20,10 +20,10 @@ abbrev pub top_row : Form → ℕ → TopRow → List ℕ
 top_row form whole row =
     row_text form (top_cells whole row) (Some (codes "name", row.name.items))
 
--- the names of the columns
-abbrev pub head_line : List ℕ
-head_line =
+-- the first line of a table
+abbrev pub column_names : List ℕ
+column_names =
     codes "         calls       total         own       least      median         p95         p99    greatest   share  name\n"
 
 abbrev pub top_text : Form → ℕ → List TopRow → List ℕ
-top_text form whole rows = list_text form head_line (map (top_row form whole) rows)
+top_text form whole rows = list_text form column_names (map (top_row form whole) rows)

@@ -22,12 +22,14 @@ use Rattle.puffin_look.specs.ThreadLines.{start_text}
 -- ---- a time in microseconds, with three digits behind the point
 
 abbrev pub thousandths : ℕ → List ℕ
-thousandths n = decimal (n / 1000) ++ (46 ∷ digit (n / 100) ∷ digit (n / 10) ∷ digit n ∷ [])
+thousandths number =
+    decimal (number / 1000)
+    ++ (46 ∷ digit (number / 100) ∷ digit (number / 10) ∷ digit number ∷ [])
 
 -- how long after the origin; what is before it is at it
 abbrev pub at_least_zero : ℤ → ℕ
-at_least_zero (pos n) = n
-at_least_zero (negsuc n) = 0
+at_least_zero (pos time) = time
+at_least_zero (negsuc time) = 0
 
 abbrev pub since : ℤ → ℤ → ℕ
 since origin time = at_least_zero (time -ℤ origin)
@@ -43,24 +45,25 @@ times_text origin start stop =
 -- its file and line, if it has details, and the end of the event
 abbrev pub place_text : Option Details → List ℕ
 place_text None = codes "}}"
-place_text (Some d) =
-    (codes ",\"file\":" ++ quoted d.file_path)
-    ++ ((codes ",\"line\":" ++ decimal d.line_nr) ++ codes "}}")
+place_text (Some details) =
+    (codes ",\"file\":" ++ quoted details.file_path)
+    ++ ((codes ",\"line\":" ++ decimal details.line_nr) ++ codes "}}")
 
 abbrev pub labels_text : Option Details → ℕ → List ℕ → List ℕ
-labels_text d id text =
-    (codes ",\"name\":" ++ quoted (name_or_id id d))
-    ++ ((codes ",\"args\":{\"text\":" ++ quoted (text_in text)) ++ place_text d)
+labels_text details id text =
+    (codes ",\"name\":" ++ quoted (name_or_id id details))
+    ++ ((codes ",\"args\":{\"text\":" ++ quoted (text_in text)) ++ place_text details)
 
 abbrev pub scope_event : Overview → ℕ → Span → List ℕ
-scope_event o tid s =
+scope_event overview tid span =
     (codes ",\n{\"ph\":\"X\",\"pid\":1,\"tid\":" ++ decimal tid)
-    ++ (times_text o.start s.start s.stop
-    ++ labels_text (map.get o.details.by_id s.id) s.id s.text)
+    ++ (times_text overview.start span.start span.stop
+    ++ labels_text (map.get overview.details.by_id span.id) span.id span.text)
 
 -- each scope of a forest, before its children
 abbrev pub forest_events : Overview → ℕ → Forest → List ℕ
-forest_events o tid f = flat_map (λ s. scope_event o tid s.span) (nested_in [] f)
+forest_events overview tid forest =
+    flat_map (λ s. scope_event overview tid s.span) (nested_in [] forest)
 
 -- ---- threads
 
@@ -68,6 +71,7 @@ forest_events o tid f = flat_map (λ s. scope_event o tid s.span) (nested_in [] 
 abbrev pub Numbers : Type 0
 Numbers = map.FinMap key_cmp ℕ
 
+-- the number of a thread, or the next one if it has none
 abbrev pub number_or : Numbers → Option ℕ → ℕ
 number_or numbers (Some tid) = tid
 number_or numbers None = map.len numbers + 1
@@ -75,6 +79,7 @@ number_or numbers None = map.len numbers + 1
 abbrev pub number_of : Numbers → ThreadKey → ℕ
 number_of numbers key = number_or numbers (map.get numbers key)
 
+-- the numbers, with that of this thread
 abbrev pub numbered_or : Numbers → ThreadKey → Option ℕ → Numbers
 numbered_or numbers key (Some tid) = numbers
 numbered_or numbers key None = map.insert numbers key (map.len numbers + 1)
@@ -99,10 +104,11 @@ naming numbers key = naming_or numbers key (map.get numbers key)
 
 -- the scopes of a thread
 abbrev pub tree_events : Overview → Numbers → Tree → List ℕ
-tree_events o numbers t = naming numbers t.0 ++ forest_events o (number_of numbers t.0) t.1
+tree_events overview numbers tree =
+    naming numbers tree.0 ++ forest_events overview (number_of numbers tree.0) tree.1
 
 abbrev pub numbered_with : Numbers → Tree → Numbers
-numbered_with numbers t = numbered numbers t.0
+numbered_with numbers tree = numbered numbers tree.0
 
 -- ---- frames
 
@@ -116,14 +122,15 @@ frame_event origin meta =
     ++ ((codes "\",\"stop\":\"" ++ signed_decimal meta.range_ns.1) ++ codes "\"}}")))
 
 abbrev pub frame_events : Overview → Numbers → TreeFrame → List ℕ
-frame_events o numbers f =
-    frame_event o.start f.meta ++ outputs (tree_events o) numbered_with numbers f.trees
+frame_events overview numbers frame =
+    frame_event overview.start frame.meta
+    ++ outputs (tree_events overview) numbered_with numbers frame.trees
 
 abbrev pub numbered_by : Numbers → TreeFrame → Numbers
-numbered_by numbers f = fold numbered_with numbers f.trees
+numbered_by numbers frame = fold numbered_with numbers frame.trees
 
 abbrev pub events : Overview → Numbers → List TreeFrame → List ℕ
-events o numbers fs = outputs (frame_events o) numbered_by numbers fs
+events overview numbers frames = outputs (frame_events overview) numbered_by numbers frames
 
 -- ---- a file
 
@@ -137,7 +144,7 @@ trace_end = codes "\n]}\n"
 
 -- the trace of those of these frames that have these indices
 abbrev pub IsTrace : Overview → Option Indices → List OpenFrame → List ℕ → Type 0
-IsTrace o indices frames text =
+IsTrace overview indices frames text =
     (trees : List TreeFrame)
     × AreRead all_streams (frames_within indices frames) trees
-    × (text ≡ trace_head ++ (events o map.empty trees ++ trace_end))
+    × (text ≡ trace_head ++ (events overview map.empty trees ++ trace_end))

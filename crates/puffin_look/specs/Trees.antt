@@ -20,10 +20,10 @@ Tree = ThreadKey × Forest
 -- the streams of these threads, in order, spell these forests
 abbrev pub AreSpelled : List Entry → List Tree → Type 0
 AreSpelled [] [] = Unit {0}
-AreSpelled [] (t ∷ ts) = ⊥
-AreSpelled (e ∷ es) [] = ⊥
-AreSpelled (e ∷ es) (t ∷ ts) =
-    ((t.0 ≡ e.0) × Spells e.1.form e.1.bytes t.1) × AreSpelled es ts
+AreSpelled [] (tree ∷ trees) = ⊥
+AreSpelled (entry ∷ entries) [] = ⊥
+AreSpelled (entry ∷ entries) (tree ∷ trees) =
+    ((tree.0 ≡ entry.0) × Spells entry.1.form entry.1.bytes tree.1) × AreSpelled entries trees
 
 -- a frame's totals, and its scopes by thread
 pub record TreeFrame : Type 0 where
@@ -44,9 +44,9 @@ pub record IsRead (pick : Pick) (frame : OpenFrame) (tree : TreeFrame) : Type 0 
 -- frames, each with its scopes
 abbrev pub AreRead : Pick → List OpenFrame → List TreeFrame → Type 0
 AreRead pick [] [] = Unit {0}
-AreRead pick [] (t ∷ ts) = ⊥
-AreRead pick (f ∷ fs) [] = ⊥
-AreRead pick (f ∷ fs) (t ∷ ts) = IsRead pick f t × AreRead pick fs ts
+AreRead pick [] (tree ∷ trees) = ⊥
+AreRead pick (frame ∷ frames) [] = ⊥
+AreRead pick (frame ∷ frames) (tree ∷ trees) = IsRead pick frame tree × AreRead pick frames trees
 
 -- The streams of the first threads spell forests, and that of the next thread has this fault.
 pub record AreUnread (entries : List Entry) (fault : Error) : Type 0 where
@@ -60,5 +60,5 @@ pub record AreUnread (entries : List Entry) (fault : Error) : Type 0 where
 
 -- What items give, one after the other. Each is seen in a state that those before it leave.
 abbrev pub outputs : {S X Y : Type 0} → (S → X → List Y) → (S → X → S) → S → List X → List Y
-outputs out next s [] = []
-outputs out next s (x ∷ xs) = out s x ++ outputs out next (next s x) xs
+outputs out next state [] = []
+outputs out next state (item ∷ items) = out state item ++ outputs out next (next state item) items

@@ -15,18 +15,20 @@ use Rattle.puffin_look.specs.declared.wanted.Wanted.{Wanted}
 
 abbrev pub is_within : Option Indices → ℕ → Bool
 is_within None index = true
-is_within (Some i) index = nat_le i.first index && nat_le index i.last
+is_within (Some indices) index = nat_le indices.first index && nat_le index indices.last
 
 -- the frames with these indices
 abbrev pub frames_within : Option Indices → List OpenFrame → List OpenFrame
 frames_within None frames = frames
-frames_within (Some i) frames = filter (λ f. is_within (Some i) f.meta.frame_index) frames
+frames_within (Some indices) frames =
+    filter (λ f. is_within (Some indices) f.meta.frame_index) frames
 
 -- ---- threads
 
 abbrev pub is_one_of : List ThreadInfo → ThreadKey → Bool
 is_one_of threads key = list_any (λ t. has_same_key (key_of t) key) threads
 
+-- whether a thread is one of these, or of all
 abbrev pub is_among : Option (Vec ThreadInfo Global) → ThreadKey → Bool
 is_among None key = true
 is_among (Some threads) key = is_one_of threads.items key

@@ -7,6 +7,7 @@ pub mod Events
 pub mod Tracings
 pub mod TreeLines
 pub mod FrameTrees
+pub mod Keys
 pub mod Stacks
 pub mod Foldings
 pub mod Counts

@@ -1,8 +1,8 @@
 //! Compares the scopes of two files by name.
 
-ghost use Rattle.std.specs.Prelude.{◌≡◌, ◌++◌, ◌∷◌, [], ℕ, List, take, map, IfOk, OnOk, OnErr};
+ghost use Rattle.std.specs.Prelude.{◌≡◌, ◌++◌, List, take, map, IfOk, OnOk, OnErr};
 ghost use Rattle.std.specs.List.{list_any};
-ghost use Rattle.puffin_look.specs.Diff.{hundredths, per_frame, part_of, part_under, own_in, entry_of, entry_under, old_entries, new_entries, entries, change, grows_above, AreSorted};
+ghost use Rattle.puffin_look.specs.Diff.{hundredths, per_frame, part_of, own_in, entry_of, entries, change, grows_above, AreSorted};
 ghost use Rattle.puffin_look.specs.declared.diff.DiffRow.{DiffRow};
 ghost use Rattle.puffin_look.specs.inner.Diffs.{entry_in, new_entry_in, HasParts};
 
@@ -141,8 +141,8 @@ impl Both {
     }
 }
 
-/// Compares the scopes of two files by name: a row for each name of the old file, in its order, and behind them one for each name that
-/// only the new file has.
+/// Compares the scopes of two files by name: a row for each name of the old file, in its order, and behind them one for each name
+/// that only the new file has.
 pub fn compare(alloc: Global, old: &Top, new: &Top) -> Result<Diff, AllocError>
     ensures { IfOk result (λ diff. map entry_of diff.rows.items ≡ entries old.now new.now) }
 {

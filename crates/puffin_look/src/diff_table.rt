@@ -14,8 +14,8 @@ use puffin_data::FileError;
 use puffin_data::data::{Drain, write_all};
 use std::alloc::{AllocError, Global};
 
-/// The names of the columns.
-const HEAD: &[u8] =
+/// The first line of a table.
+const COLUMN_NAMES: &[u8] =
     b"     old_own     new_own   own_change   own_growth   old_total   new_total total_change total_growth     old_calls     new_calls  name\n";
 
 /// Returns the durations in each frame, or 0 if there are none.
@@ -65,15 +65,15 @@ fn push_row(form: Form, lines: &mut Lines, row: &DiffRow) -> Result<(), AllocErr
 fn text_of(alloc: Global, form: Form, diff: &Diff) -> Result<Vec<u8>, AllocError>
     ensures { IfOk result (λ text. text.items ≡ diff_text form diff.now.rows.items) }
 {
-    let mut lines = Lines::new(alloc, form, HEAD)?;
+    let mut lines = Lines::new(alloc, form, COLUMN_NAMES)?;
     for row in diff.rows.iter() {
         push_row(form, &mut lines, row)?;
     }
     lines.closed(form)
 }
 
-/// Prints what two files have, as [`print_top`](crate::print_top) does. Numbers are those in each frame; there are none where a file
-/// hasn't the name. A change has a sign, and as growth it is a share of the old time, if that isn't 0.
+/// Prints what two files have, as [`print_top`](crate::print_top) does. Numbers are those in each frame; there are none where a
+/// file hasn't the name. A change has a sign, and as growth it is a share of the old time, if that isn't 0.
 ///
 /// Fails with `Memory`, and then prints nothing, or with `Io` if a write fails, and then a prefix of the list is written.
 pub fn print_diff<D: Drain>(

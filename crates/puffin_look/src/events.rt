@@ -146,10 +146,10 @@ impl<'s, 'o> Visitor<'s> for Events<'o> {
 impl<'o> Events<'o> {
     /// Appends the events of a stream's scopes. Fails with the first fault of the stream, or with `Memory`.
     pub(crate) fn add_stream(&mut self, info: &StreamInfo) -> Answer<()>
-        ensures ok { OnOk result ((f : Forest)
-            × Spells (facts_of info.now).form (facts_of info.now).bytes f
+        ensures ok { OnOk result ((forest : Forest)
+            × Spells (facts_of info.now).form (facts_of info.now).bytes forest
             × IsWithText self.old self.new
-            (forest_events self.old.overview.now self.old.tid f)) }
+            (forest_events self.old.overview.now self.old.tid forest)) }
         ensures err { IfErr result (λ e.
             (e ≡ Error.Memory) ⊎ IsFault (facts_of info.now).form (facts_of info.now).bytes e) }
     {

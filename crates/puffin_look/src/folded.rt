@@ -97,12 +97,12 @@ fn lines_of(alloc: Global, stacks: &Stacks) -> Result<Vec<u8>, AllocError>
     Ok(text)
 }
 
-/// Prints the folded stacks of a file, which tools that draw flame graphs read: a line for each path of scopes, from the top level
-/// down, with its own time in nanoseconds in all frames together. That is the durations of the scopes with the path, less the
-/// durations of the scopes directly within them; a sum that doesn't fit `u64` is `u64::MAX`, and a difference that is negative is
-/// 0. The names of a path are separated by `;`, and a blank separates the path and the number. A name is that by the details
-/// of the [overview](crate::read_overview), or `#` and the id, with a `_` in place of each `;`, each blank and each control character. The paths
-/// are in the order in which they are first met.
+/// Prints the folded stacks of a file, which tools that draw flame graphs read: a line for each path of scopes, from the top
+/// level down, with its own time in nanoseconds in all frames together. That is the durations of the scopes with the path, less
+/// the durations of the scopes directly within them; a sum that doesn't fit `u64` is `u64::MAX`, and a difference that is
+/// negative is 0. The names of a path are separated by `;`, and a blank separates the path and the number. A name is that by the
+/// details of the [overview](crate::read_overview), or `#` and the id, with a `_` in place of each `;`, each blank and each
+/// control character. The paths are in the order in which they are first met.
 ///
 /// The wanted threads of the wanted frames count. Returns whether there is one.
 ///

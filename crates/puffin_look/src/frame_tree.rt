@@ -1,6 +1,6 @@
 //! Prints a frame of a file as a tree of scopes.
 
-ghost use Rattle.std.specs.Prelude.{◌≡◌, false, ◌++◌, ◌+◌, ◌⊎◌, OnOk, IfOk, IfErr};
+ghost use Rattle.std.specs.Prelude.{◌≡◌, ◌++◌, ◌+◌, ◌⊎◌, OnOk, IfOk, IfErr};
 ghost use Rattle.puffin_data.specs.declared.error.Error.{Error};
 ghost use Rattle.puffin_data.specs.Device.{CanFail, TookNothing};
 ghost use Rattle.puffin_data.specs.Honesty.{facts_of};
@@ -106,13 +106,13 @@ impl<'t> Listing for Trees<'t> {
     }
 }
 
-/// Prints the wanted frames of a file: for each a line with its range in nanoseconds and its duration, for each of its threads a line
-/// behind the names of the columns, and for each scope of the thread a line: its start in the frame, its duration, and its share of
-/// what it is nested in, in columns; two blanks for each scope that it is nested in; its name by the details of the
+/// Prints the wanted frames of a file: for each a line with its range in nanoseconds and its duration, for each of its threads a
+/// line behind the names of the columns, and for each scope of the thread a line: its start in the frame, its duration, and its
+/// share of what it is nested in, in columns; two blanks for each scope that it is nested in; its name by the details of the
 /// [overview](crate::read_overview), or `#` and the id; and its text in parentheses, unless it is empty.
 ///
-/// Returns whether a thread was printed. Fails as [`print_trace`](crate::print_trace) does; only the streams that are printed have
-/// to consist of scopes.
+/// Returns whether a thread was printed. Fails as [`print_trace`](crate::print_trace) does; only the streams that are printed
+/// have to consist of scopes.
 pub fn print_frame<S: Source, D: Drain>(
     alloc: Global,
     overview: &Overview,
@@ -139,6 +139,7 @@ pub fn print_frame<S: Source, D: Drain>(
     let mut trees = Trees {
         lines: Lines {
             text: Vec::new(alloc),
+            scratch: Vec::new(alloc),
             known: &overview.details,
             range_ns: (0, 0),
         },

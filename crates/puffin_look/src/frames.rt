@@ -29,8 +29,8 @@ fn thread_count(frame: &UnpackedFrameData) -> usize
     frame.thread_streams.len()
 }
 
-/// The names of the columns.
-pub(crate) const HEAD: &[u8] =
+/// The first line of a table.
+pub(crate) const COLUMN_NAMES: &[u8] =
     b"         frame       threads        scopes                      start    duration\n";
 
 /// What the line of a frame has of it.
@@ -91,7 +91,7 @@ impl FrameList {
         ensures { IfOk result (IsEmptyList form) }
     {
         Ok(FrameList {
-            lines: Lines::new(alloc, form, HEAD)?,
+            lines: Lines::new(alloc, form, COLUMN_NAMES)?,
             form,
         })
     }
@@ -124,13 +124,13 @@ impl Listing for FrameList {
     }
 }
 
-/// Prints the frames of a file with one of these indices, or all, each as soon as it was read: its index, the number of its threads
-/// and scopes, when it began, and its duration.
+/// Prints the frames of a file with one of these indices, or all, each as soon as it was read: its index, the number of its
+/// threads and scopes, when it began, and its duration.
 ///
 /// Fails with the first fault of the file, as [`FrameReader::next`](puffin_view::profile_view::FrameReader::next) does, or with
-/// `Compressed` or `BadStreams` for a frame that can't be unpacked. The list of the frames before it is then printed, or nothing if the
-/// file has no letters. Fails with `Memory`, or with `Io` if a read or a write fails, and then a prefix of the list of some first
-/// frames is written.
+/// `Compressed` or `BadStreams` for a frame that can't be unpacked. The list of the frames before it is then printed, or nothing
+/// if the file has no letters. Fails with `Memory`, or with `Io` if a read or a write fails, and then a prefix of the list of
+/// some first frames is written.
 pub fn print_frames<S: Source, D: Drain>(
     alloc: Global,
     source: &mut S,

@@ -102,7 +102,8 @@ fn heaviest(
     Ok(best)
 }
 
-/// Returns whether a path is followed to a scope: at the top level always, and else if it takes half of the time of the scope around it.
+/// Returns whether a path is followed to a scope: at the top level always, and else if it takes half of the time of the scope
+/// around it.
 fn is_followed(level: usize, time: u64, outer: u64) -> bool
     ensures { result ≡ is_followed level time outer }
 {

@@ -1,7 +1,7 @@
 //! Makes a list, line by line, in one of two forms.
 
 ghost use Rattle.std.specs.Prelude.{◌≡◌, ◌++◌, true, false, OnOk, IfOk};
-ghost use Rattle.puffin_look.specs.Forms.{opening, separator, closing, lead};
+ghost use Rattle.puffin_look.specs.Forms.{opening, separator, closing, separator_if};
 ghost use Rattle.puffin_look.specs.inner.Lining.{Adds};
 
 use std::alloc::{AllocError, Global};
@@ -9,8 +9,8 @@ use std::alloc::{AllocError, Global};
 /// How a list is printed.
 #[derive(Clone, Copy, Debug, PartialEq, Eq)]
 pub enum Form {
-    /// A table for a person: a line with the names of the columns, and a line for each row. Numbers have commas between thousands,
-    /// durations have a unit, and names have escapes for control characters.
+    /// A table for a person: a line with the names of the columns, and a line for each row. Numbers have commas between
+    /// thousands, durations have a unit, and names have escapes for control characters.
     Table,
     /// An array in JSON: an object for each row, one a line, with the names of the columns as keys. Times and durations are in
     /// nanoseconds, and shares in percent. A number beyond `2^53` is a string of its digits, and what isn't there is `null`.
@@ -19,11 +19,11 @@ pub enum Form {
 
 impl Form {
     /// Returns what stands in front of the lines, behind the line with the names of a table's columns.
-    fn opening(self, head: &'static [u8]) -> &'static [u8]
-        ensures { result.now ≡ opening self head.now }
+    fn opening(self, column_names: &'static [u8]) -> &'static [u8]
+        ensures { result.now ≡ opening self column_names.now }
     {
         match self {
-            Form::Table => head,
+            Form::Table => column_names,
             Form::Json => b"[",
         }
     }
@@ -61,22 +61,26 @@ pub(crate) struct Lines {
 
 impl Lines {
     /// Returns a list without lines. A table has a line with the names of its columns.
-    pub(crate) fn new(alloc: Global, form: Form, head: &'static [u8]) -> Result<Lines, AllocError>
-        ensures text { IfOk result (λ lines. lines.text.items ≡ opening form head.now) }
+    pub(crate) fn new(
+        alloc: Global,
+        form: Form,
+        column_names: &'static [u8],
+    ) -> Result<Lines, AllocError>
+        ensures text { IfOk result (λ lines. lines.text.items ≡ opening form column_names.now) }
         ensures separator { IfOk result (λ lines. lines.separator.now ≡ separator form) }
         ensures none { IfOk result (λ lines. lines.has_any ≡ false) }
     {
         Ok(Lines {
-            text: Vec::from_slice(alloc, form.opening(head))?,
+            text: Vec::from_slice(alloc, form.opening(column_names))?,
             separator: form.separator(),
             has_any: false,
         })
     }
 
     /// Begins a line: appends what stands between the lines so far and this one.
-    pub(crate) fn push_lead(&mut self) -> Result<(), AllocError>
+    pub(crate) fn begin_line(&mut self) -> Result<(), AllocError>
         ensures text { OnOk result (self.new.text.items
-            ≡ self.old.text.items ++ lead self.old.separator.now self.old.has_any) }
+            ≡ self.old.text.items ++ separator_if self.old.separator.now self.old.has_any) }
         ensures separator { self.new.separator ≡ self.old.separator }
         ensures any { OnOk result (self.new.has_any ≡ true) }
     {
@@ -91,7 +95,7 @@ impl Lines {
     pub(crate) fn add(&mut self, line: &[u8]) -> Result<(), AllocError>
         ensures { OnOk result (Adds self.old self.new line.now) }
     {
-        self.push_lead()?;
+        self.begin_line()?;
         self.text.extend_from_slice(line)
     }
 

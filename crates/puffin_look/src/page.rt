@@ -180,9 +180,9 @@ impl<'p> Listing for Page<'p> {
     }
 }
 
-/// Prints the data of a page, which stand within an HTML file, as `docs/TOOLS.md` describes them: an element for the details of each
-/// scope, by the [overview](crate::read_overview), and then one for each of these frames, in the order of the file, as soon as it was
-/// read. Each holds an array in JSON without a `<`, so no name or text ends it.
+/// Prints the data of a page, which stand within an HTML file, as `docs/TOOLS.md` describes them: an element for the details of
+/// each scope, by the [overview](crate::read_overview), and then one for each of these frames, in the order of the file, as soon
+/// as it was read. Each holds an array in JSON without a `<`, so no name or text ends it.
 ///
 /// Fails as [`print_trace`](crate::print_trace) does; only the streams of these frames have to consist of scopes.
 pub fn print_page_data<S: Source, D: Drain>(

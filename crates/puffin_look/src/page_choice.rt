@@ -47,9 +47,7 @@ impl Row {
 }
 
 impl Timed for Row {
-    ghost use Rattle.puffin_look.specs.PageChoice.{duration_of};
-
-    ghost duration = { duration_of };
+    ghost duration = { λ row. row.duration_ns };
 
     fn duration_ns(&self) -> NanoSecond {
         self.duration_ns
@@ -142,8 +140,9 @@ fn chosen(alloc: Global, rows: &Rows) -> Result<Vec<FrameIndex>, AllocError>
     Ok(choice.indices)
 }
 
-/// Returns the indices of the frames that a page has by default: the slowest frames of a file, and those at its end, as many as the
-/// limits allow. A frame whose streams have more bytes than there is room for is left out. Reads one frame at a time, and unpacks none.
+/// Returns the indices of the frames that a page has by default: the slowest frames of a file, and those at its end, as many as
+/// the limits allow. A frame whose streams have more bytes than there is room for is left out. Reads one frame at a time, and
+/// unpacks none.
 ///
 /// A file with a fault has the frames before it; printing it fails with the fault then. Fails only with `Io`, if a read fails, or
 /// with `Memory`.

@@ -1,6 +1,6 @@
 //! The scopes of a frame, as a page has them.
 
-ghost use Rattle.std.specs.Prelude.{◌≡◌, ◌++◌, ◌-ℤ◌, ◌⊎◌, codes, OnOk, IfErr};
+ghost use Rattle.std.specs.Prelude.{◌≡◌, ◌++◌, ◌⊎◌, OnOk, IfErr};
 ghost use Rattle.puffin_data.specs.declared.error.Error.{Error};
 ghost use Rattle.puffin_data.specs.Forest.{Forest};
 ghost use Rattle.puffin_data.specs.Forest.Spelling.{Spells};
@@ -91,9 +91,9 @@ impl PageRows {
 
     /// Appends a stream's scopes. Fails with the first fault of the stream, or with `Memory`.
     fn add_scopes(&mut self, info: &StreamInfo) -> Answer<()>
-        ensures ok { OnOk result ((f : Forest)
-            × Spells (facts_of info.now).form (facts_of info.now).bytes f
-            × HasMoreRows self.old self.new (rows_json self.old.begin f)) }
+        ensures ok { OnOk result ((forest : Forest)
+            × Spells (facts_of info.now).form (facts_of info.now).bytes forest
+            × HasMoreRows self.old self.new (rows_json self.old.begin forest)) }
         ensures err { IfErr result (λ e.
             (e ≡ Error.Memory) ⊎ IsFault (facts_of info.now).form (facts_of info.now).bytes e) }
     {
@@ -105,9 +105,10 @@ impl PageRows {
 
     /// Appends a thread with its scopes. Fails as [`PageRows::add_scopes`] does.
     pub(crate) fn add_stream(&mut self, thread: &ThreadInfo, info: &StreamInfo) -> Answer<()>
-        ensures ok { OnOk result ((f : Forest)
-            × Spells (facts_of info.now).form (facts_of info.now).bytes f
-            × HasMoreRows self.old self.new (thread_json self.old.begin (key_of thread.now, f))) }
+        ensures ok { OnOk result ((forest : Forest)
+            × Spells (facts_of info.now).form (facts_of info.now).bytes forest
+            × HasMoreRows self.old self.new
+            (thread_json self.old.begin (key_of thread.now, forest))) }
         ensures err { IfErr result (λ e.
             (e ≡ Error.Memory) ⊎ IsFault (facts_of info.now).form (facts_of info.now).bytes e) }
     {

@@ -2,7 +2,7 @@
 
 ghost use Rattle.std.specs.Prelude.{◌≡◌, ◌++◌, map, option_map, OnOk};
 ghost use Rattle.std.specs.List.{flat_map};
-ghost use Rattle.puffin_look.specs.Cells.{cell, width_of, value_text, row_cell, row_end};
+ghost use Rattle.puffin_look.specs.Cells.{cell, width_of, value_text, row_cell, heading, row_end};
 ghost use Rattle.puffin_look.specs.Objects.{row_text};
 ghost use Rattle.puffin_look.specs.inner.Lining.{Adds};
 ghost use Rattle.puffin_look.specs.inner.Rows.{cell_of, name_of};
@@ -88,16 +88,30 @@ pub(crate) type Cell = (&'static str, Value);
 /// The name of the last column, and the bytes that a row has in it.
 pub(crate) type Name<'n> = (&'static str, &'n [u8]);
 
-/// Appends cells, each in its column.
-pub(crate) fn push_cells(text: &mut Vec<u8>, cells: &[Cell]) -> Result<(), AllocError>
+/// Appends cells, each in its column. What `scratch` has is lost.
+pub(crate) fn push_cells(
+    text: &mut Vec<u8>,
+    scratch: &mut Vec<u8>,
+    cells: &[Cell],
+) -> Result<(), AllocError>
     ensures { OnOk result (
         text.new.items ≡ text.old.items ++ flat_map row_cell (map cell_of cells.now)) }
 {
-    let mut part = Vec::new(*text.allocator());
     for cell in cells {
-        part.clear();
-        push_value(&mut part, cell.1)?;
-        push_cell(text, cell.1.width(), &part)?;
+        scratch.clear();
+        push_value(scratch, cell.1)?;
+        push_cell(text, cell.1.width(), scratch)?;
+    }
+    Ok(())
+}
+
+/// Appends the names of columns, each where its values end.
+pub(crate) fn push_heading(text: &mut Vec<u8>, cells: &[Cell]) -> Result<(), AllocError>
+    ensures { OnOk result (
+        text.new.items ≡ text.old.items ++ heading (map cell_of cells.now)) }
+{
+    for cell in cells {
+        push_cell(text, cell.1.width(), cell.0.as_bytes())?;
     }
     Ok(())
 }
@@ -126,7 +140,8 @@ fn push_row(
 {
     match form {
         Form::Table => {
-            push_cells(text, cells)?;
+            let mut scratch = Vec::new(*text.allocator());
+            push_cells(text, &mut scratch, cells)?;
             push_end(text, name)
         }
         Form::Json => {
@@ -146,6 +161,6 @@ pub(crate) fn add_row(
     ensures { OnOk result (Adds lines.old lines.new (
         row_text form (map cell_of cells.now) (option_map name_of name.entry))) }
 {
-    lines.push_lead()?;
+    lines.begin_line()?;
     push_row(&mut lines.text, form, cells, name)
 }

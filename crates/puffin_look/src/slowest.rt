@@ -6,7 +6,7 @@ ghost use Rattle.puffin_look.specs.FrameLines.{frame_list};
 ghost use Rattle.puffin_look.specs.Printed.{IsPrinted, IsStopped, IsCutOff, RefusesNone};
 ghost use Rattle.puffin_look.specs.Slowest.{is_faster_by, with_row_by, AreSlowestFrames, IsNoText};
 
-use crate::frames::{FrameRow, HEAD, push_row};
+use crate::frames::{COLUMN_NAMES, FrameRow, push_row};
 use crate::lines::{Form, Lines};
 use crate::listing::{Listing, list_frames};
 use puffin_data::data::{Drain, Source, write_all};
@@ -26,9 +26,7 @@ pub(crate) trait Timed {
 }
 
 impl Timed for FrameRow {
-    ghost use Rattle.puffin_look.specs.Slowest.{duration_of};
-
-    ghost duration = { duration_of };
+    ghost duration = { λ row. row.duration_ns };
 
     fn duration_ns(&self) -> NanoSecond {
         self.duration_ns
@@ -103,18 +101,18 @@ impl Listing for Slowest {
 fn text_of(alloc: Global, form: Form, rows: &[FrameRow]) -> Result<Vec<u8>, AllocError>
     ensures { IfOk result (λ text. text.items ≡ frame_list form rows.now) }
 {
-    let mut lines = Lines::new(alloc, form, HEAD)?;
+    let mut lines = Lines::new(alloc, form, COLUMN_NAMES)?;
     for row in rows {
         push_row(form, &mut lines, row)?;
     }
     lines.closed(form)
 }
 
-/// Prints the `limit` slowest frames of a file as [`print_frames`](crate::print_frames) does, the slowest first, and of equally slow
-/// frames the one that comes first in the file.
+/// Prints the `limit` slowest frames of a file as [`print_frames`](crate::print_frames) does, the slowest first, and of equally
+/// slow frames the one that comes first in the file.
 ///
-/// Fails with the first fault of the file, as [`print_frames`](crate::print_frames) does, or with `Memory` or, if a read fails, with
-/// `Io`, and then prints nothing; or with `Io` if a write fails, and then a prefix of the list is written.
+/// Fails with the first fault of the file, as [`print_frames`](crate::print_frames) does, or with `Memory` or, if a read fails,
+/// with `Io`, and then prints nothing; or with `Io` if a write fails, and then a prefix of the list is written.
 pub fn print_slowest<S: Source, D: Drain>(
     alloc: Global,
     source: &mut S,

@@ -206,9 +206,9 @@ impl<'k> Stacks<'k> {
 
     /// Adds the scopes of a stream. Fails with the first fault of the stream, or with `Memory`.
     pub(crate) fn add_stream(&mut self, info: &StreamInfo) -> Answer<()>
-        ensures ok { OnOk result ((f : Forest)
-            × Spells (facts_of info.now).form (facts_of info.now).bytes f
-            × HasMoreParts self.old self.new (forest_parts self.old.known.now f)) }
+        ensures ok { OnOk result ((forest : Forest)
+            × Spells (facts_of info.now).form (facts_of info.now).bytes forest
+            × HasMoreParts self.old self.new (forest_parts self.old.known.now forest)) }
         ensures err { IfErr result (λ e.
             (e ≡ Error.Memory) ⊎ IsFault (facts_of info.now).form (facts_of info.now).bytes e) }
     {

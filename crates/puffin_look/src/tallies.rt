@@ -1,12 +1,11 @@
 //! Counts the scopes of a file by name.
 
-ghost use Rattle.std.specs.Prelude.{◌≡◌, ◌++◌, ◌-◌, ◌<◌, ◌⊎◌, [], List, ℕ, true, false, Some, map, slice_get, if◌then◌else◌, OnOk, IfOk, IfErr, IfSome};
+ghost use Rattle.std.specs.Prelude.{◌≡◌, ◌++◌, ◌-◌, ◌<◌, ◌⊎◌, [], List, ℕ, true, false, Some, map, slice_get, OnOk, IfOk, IfErr, IfSome};
 ghost use Rattle.std.specs.Map.{keys_of};
 ghost use Rattle.puffin_data.specs.declared.error.Error.{Error};
 ghost use Rattle.puffin_data.specs.Forest.{Forest};
 ghost use Rattle.puffin_data.specs.Forest.Spelling.{Spells};
 ghost use Rattle.puffin_data.specs.Honesty.{facts_of};
-ghost use Rattle.puffin_data.specs.Text.{text_in};
 ghost use Rattle.puffin_data.specs.Walk.{IsFault};
 ghost use Rattle.puffin_data.specs.Walk.FoundScopes.{found_of};
 ghost use Rattle.std.specs.FinMap as tree;
@@ -252,10 +251,10 @@ impl<'k> Tallies<'k> {
 
     /// Adds the scopes of a stream. Fails with the first fault of the stream, or with `Memory`.
     pub(crate) fn add_stream(&mut self, info: &StreamInfo) -> Answer<()>
-        ensures ok { OnOk result ((f : Forest)
-            × Spells (facts_of info.now).form (facts_of info.now).bytes f
+        ensures ok { OnOk result ((forest : Forest)
+            × Spells (facts_of info.now).form (facts_of info.now).bytes forest
             × HasMorePieces self.old self.new (
-            forest_pieces self.old.known.now self.old.texts f)) }
+            forest_pieces self.old.known.now self.old.texts forest)) }
         ensures err { IfErr result (λ e.
             (e ≡ Error.Memory) ⊎ IsFault (facts_of info.now).form (facts_of info.now).bytes e) }
     {

@@ -1,6 +1,6 @@
 //! The program's arguments.
 
-ghost use Rattle.std.specs.Prelude.{◌≡◌, ◌^◌, ◌<◌, length, Some, option_map, map, IfSome};
+ghost use Rattle.std.specs.Prelude.{◌≡◌, ◌<◌, length, Some, option_map, map, IfSome};
 ghost use Rattle.std.specs.String.{string_bytes};
 ghost use Rattle.puffin_look.specs.Arguments.{number_in, list_in, threaded_in, detailed_in, request_in, wish_of, request_of, behind_dot, from_to, range_in, frames_in, order_in};
 

@@ -120,8 +120,8 @@ fn threads_under(alloc: Global, word: &str, threads: &AllTotals) -> Answer<Vec<T
     threads_with(alloc, Naming::Beginning, word, threads)
 }
 
-/// Returns the threads of a file that a word names: the one that [`print_threads`](crate::print_threads) lists by this text, or if
-/// there is none, all with this name, or if there is none and the word ends in `*`, all whose names begin with what is before
+/// Returns the threads of a file that a word names: the one that [`print_threads`](crate::print_threads) lists by this text, or
+/// if there is none, all with this name, or if there is none and the word ends in `*`, all whose names begin with what is before
 /// that. They are in the order of the threads.
 ///
 /// A file with a fault has the threads of the frames before it. Fails only with `Io`, if a read fails, or with `Memory`.

@@ -81,8 +81,8 @@ fn word_of(alloc: Global, thread: &ThreadInfo) -> Result<Vec<u8>, AllocError>
     Ok(word)
 }
 
-/// The names of the columns.
-const HEAD: &[u8] =
+/// The first line of a table.
+const COLUMN_NAMES: &[u8] =
     b"        frames        scopes         bytes                      start    duration  thread\n";
 
 /// Returns the cells of a thread's totals.
@@ -117,7 +117,7 @@ fn text_of(alloc: Global, form: Form, threads: &AllTotals) -> Result<Vec<u8>, Al
     ensures { IfOk result (λ text. text.items
         ≡ thread_list form (tree.entries (by_key threads.now.totals.entries))) }
 {
-    let mut lines = Lines::new(alloc, form, HEAD)?;
+    let mut lines = Lines::new(alloc, form, COLUMN_NAMES)?;
     'threads: for (thread, totals) in threads.totals.iter() {
         push_row(form, &mut lines, thread, totals)?;
     }
@@ -131,13 +131,13 @@ pub(crate) fn fails_outside(answer: &Result<(), FileError>) -> bool
     matches!(answer, Err(FileError::Io | FileError::Memory))
 }
 
-/// Prints the threads of a file, in their order: for each its frames, scopes and bytes, when its first scope began and how long it was
-/// until its last one ended, and `START:NAME` as [`report`](puffin_report::print_report) takes it.
+/// Prints the threads of a file, in their order: for each its frames, scopes and bytes, when its first scope began and how long
+/// it was until its last one ended, and `START:NAME` as [`report`](puffin_report::print_report) takes it.
 ///
 /// Fails with the first fault of the file, as [`FrameReader::next`](puffin_view::profile_view::FrameReader::next) does, or with
-/// `Compressed` or `BadStreams` for a frame that can't be unpacked. The list of the threads in the frames before it is then printed, or
-/// nothing if the file has no letters. Fails with `Memory` or, if a read fails, with `Io`, and then prints nothing; or with `Io` if a
-/// write fails, and then a prefix of the list is written.
+/// `Compressed` or `BadStreams` for a frame that can't be unpacked. The list of the threads in the frames before it is then
+/// printed, or nothing if the file has no letters. Fails with `Memory` or, if a read fails, with `Io`, and then prints nothing;
+/// or with `Io` if a write fails, and then a prefix of the list is written.
 pub fn print_threads<S: Source, D: Drain>(
     alloc: Global,
     source: &mut S,

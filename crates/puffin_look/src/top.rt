@@ -1,14 +1,12 @@
 //! Lists the scopes of a file by name.
 
-ghost use Rattle.std.specs.Prelude.{◌≡◌, ◌+◌, ◌⊎◌, ◌≤◌, ◌-◌, ◌^◌, min, take, List, OnOk, OnErr, IfOk, IfErr, Err};
+ghost use Rattle.std.specs.Prelude.{◌≡◌, ◌+◌, ◌⊎◌, ◌≤◌, take, List, OnOk, OnErr, IfOk, IfErr, Err};
 ghost use Rattle.puffin_data.specs.declared.error.Error.{Error};
 ghost use Rattle.puffin_data.specs.Device.{CanFail};
 ghost use Rattle.puffin_data.specs.Honesty.{facts_of};
 ghost use Rattle.puffin_threads.specs.Thread.ThreadKey.{key_of};
-ghost use Rattle.puffin_look.specs.Buckets.{last_of};
 ghost use Rattle.puffin_look.specs.Cells.{length_of};
 ghost use Rattle.puffin_look.specs.Top.{rank_of, weight, AreSorted, IsTop, StopsReading};
-ghost use Rattle.puffin_look.specs.inner.Counts.{bucket_at};
 ghost use Rattle.puffin_look.specs.inner.Tallies.{tally_of, rows_of};
 ghost use Rattle.puffin_look.specs.declared.top.TopRow.{TopRow};
 ghost use Rattle.puffin_look.specs.inner.Tops.{percentile, HasTally, HaveTallies, StepsTally, IsTallyFault};
@@ -25,7 +23,8 @@ use puffin_frames::frame_data::UnpackedFrameData;
 use puffin_threads::thread_profiler::ThreadInfo;
 use std::alloc::{AllocError, Global};
 
-/// The scopes with a name: how often they were met, and their durations in nanoseconds. A sum that doesn't fit `u64` is `u64::MAX`.
+/// The scopes with a name: how often they were met, and their durations in nanoseconds. A sum that doesn't fit `u64` is
+/// `u64::MAX`.
 #[derive(Drop)]
 pub struct TopRow {
     /// The bytes of the name, and behind it the text in parentheses, if texts are kept apart.
@@ -189,9 +188,9 @@ impl<'t> Listing for Tallying<'t> {
     fn clear(&mut self) {}
 }
 
-/// Returns the scopes of a file by name, in the order in which the names are first met: for each name how often a scope with it was
-/// met, in all frames together, and what time it took. A name is that by the details of the [overview](crate::read_overview), or `#`
-/// and the id; with `texts`, scopes with different texts are kept apart.
+/// Returns the scopes of a file by name, in the order in which the names are first met: for each name how often a scope with it
+/// was met, in all frames together, and what time it took. A name is that by the details of the [overview](crate::read_overview),
+/// or `#` and the id; with `texts`, scopes with different texts are kept apart.
 ///
 /// The wanted threads of the wanted frames count.
 ///
@@ -227,8 +226,8 @@ pub fn read_top<S: Source>(
 }
 
 impl Top {
-    /// Sorts the rows, the heaviest first, and keeps so many of them. Equally heavy ones stay in their order. If memory runs out, the
-    /// rows stay as they were.
+    /// Sorts the rows, the heaviest first, and keeps so many of them. Equally heavy ones stay in their order. If memory runs out,
+    /// the rows stay as they were.
     pub fn sort_by(&mut self, order: By, limit: usize) -> Result<(), AllocError>
         ensures rows { OnOk result ((sorted : List TopRow)
             × AreSorted order self.old.rows.items sorted

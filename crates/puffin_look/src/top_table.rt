@@ -14,8 +14,8 @@ use puffin_data::FileError;
 use puffin_data::data::{Drain, write_all};
 use std::alloc::{AllocError, Global};
 
-/// The names of the columns.
-const HEAD: &[u8] =
+/// The first line of a table.
+const COLUMN_NAMES: &[u8] =
     b"         calls       total         own       least      median         p95         p99    greatest   share  name\n";
 
 /// Returns the cells of a row.
@@ -52,7 +52,7 @@ fn text_of(alloc: Global, form: Form, top: &Top) -> Result<Vec<u8>, AllocError>
     ensures { IfOk result (λ text.
         text.items ≡ top_text form top.now.whole top.now.rows.items) }
 {
-    let mut lines = Lines::new(alloc, form, HEAD)?;
+    let mut lines = Lines::new(alloc, form, COLUMN_NAMES)?;
     for row in top.rows.iter() {
         push_row(form, &mut lines, top.whole, row)?;
     }

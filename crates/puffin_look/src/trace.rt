@@ -182,9 +182,10 @@ fn no_trace(alloc: Global, overview: &Overview) -> Result<Trace<'_>, AllocError>
     })
 }
 
-/// Writes the scopes of a file, of the frames with these indices or of all, as a trace in the Trace Event Format, which viewers of traces open: a JSON object with an array of
-/// events, one a line, as `docs/FORMAT.md` lists them. Each frame is written as soon as it was read. Names are by the details of the
-/// [overview](crate::read_overview), and times count from its start; what is before that is at 0.
+/// Writes the scopes of a file, of the frames with these indices or of all, as a trace in the Trace Event Format, which viewers
+/// of traces open: a JSON object with an array of events, one a line, as `docs/FORMAT.md` lists them. Each frame is written as
+/// soon as it was read. Names are by the details of the [overview](crate::read_overview), and times count from its start; what is
+/// before that is at 0.
 ///
 /// Fails with the first fault of the file, as [`FrameReader::next`](puffin_view::profile_view::FrameReader::next) does, with
 /// `Compressed` or `BadStreams` for a frame that can't be unpacked, or with `Refused` for one with a stream whose bytes aren't

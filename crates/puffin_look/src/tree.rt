@@ -1,7 +1,7 @@
 //! The lines of a frame's scopes.
 
-ghost use Rattle.std.specs.Prelude.{◌≡◌, ◌++◌, ◌+◌, ◌<◌, ◌^◌, ◌⊎◌, OnOk, IfErr};
-ghost use Rattle.std.specs.FinMap as map;
+ghost use Rattle.std.specs.Prelude.{◌≡◌, ◌++◌, ◌+◌, ◌<◌, ◌^◌, ◌⊎◌, map, OnOk, IfErr};
+ghost use Rattle.std.specs.FinMap as tree;
 ghost use Rattle.puffin_data.specs.declared.error.Error.{Error};
 ghost use Rattle.puffin_data.specs.Forest.{Forest};
 ghost use Rattle.puffin_data.specs.Forest.Spelling.{Spells};
@@ -11,14 +11,15 @@ ghost use Rattle.puffin_data.specs.Walk.FoundScopes.{found_of};
 ghost use Rattle.puffin_threads.specs.Thread.ThreadKey.{key_of};
 ghost use Rattle.puffin_look.specs.Escapes.{escaped};
 ghost use Rattle.puffin_look.specs.Names.{name_or_id};
-ghost use Rattle.puffin_look.specs.FrameTree.{label_text, nested_line, thread_line, forest_lines, tree_text};
+ghost use Rattle.puffin_look.specs.FrameTree.{scope_cells, label_text, nested_line, thread_line, forest_lines, tree_text};
 ghost use Rattle.puffin_look.specs.Cells.{length_of};
+ghost use Rattle.puffin_look.specs.inner.Rows.{cell_of};
 ghost use Rattle.puffin_look.specs.inner.TreeLines.{HasMoreLines};
 
 use crate::columns::{push_indent, push_text};
 use crate::escapes::push_escaped;
 use crate::names::{details_under, number_name};
-use crate::rows::{Value, push_cells};
+use crate::rows::{Cell, Value, push_cells, push_heading};
 use crate::threads::push_thread;
 use crate::top::length_of;
 use puffin_data::data::{RawScope, StreamInfo, Visitor, text_of, walk_with};
@@ -31,7 +32,7 @@ use std::alloc::AllocError;
 fn push_name(text: &mut Vec<u8>, known: &ScopeCollection, id: u32) -> Result<(), AllocError>
     requires { 0 < id }
     ensures { OnOk result (text.new.items
-        ≡ text.old.items ++ escaped (name_or_id id (map.get known.now.by_id id))) }
+        ≡ text.old.items ++ escaped (name_or_id id (tree.get known.now.by_id id))) }
 {
     match details_under(known, id) {
         Some(details) => push_escaped(text, details.name().as_str().as_bytes()),
@@ -67,9 +68,21 @@ fn push_label(
     text.extend_from_slice(b"\n")
 }
 
-/// Appends a scope's line.
+/// Returns the cells of a scope's line: its start in the frame, its duration, and its share of what it is in.
+fn cells_of(begin: NanoSecond, start: NanoSecond, time: u64, outer: u64) -> [Cell; 3]
+    ensures { map cell_of result ≡ scope_cells begin start time outer }
+{
+    [
+        ("start", Value::Offset(begin, start)),
+        ("duration", Value::Time(Some(time))),
+        ("share", Value::Share(time, outer)),
+    ]
+}
+
+/// Appends a scope's line. What `scratch` has is lost.
 fn push_scope(
     text: &mut Vec<u8>,
+    scratch: &mut Vec<u8>,
     known: &ScopeCollection,
     begin: NanoSecond,
     outer: Outer,
@@ -81,12 +94,8 @@ fn push_scope(
     ensures level { OnOk result (outer.level < 2 ^ 63) }
 {
     let time = scope.stop.abs_diff(scope.start);
-    let cells = [
-        ("start", Value::Offset(begin, scope.start)),
-        ("duration", Value::Time(Some(time))),
-        ("share", Value::Share(time, outer.time)),
-    ];
-    push_cells(text, &cells)?;
+    let cells = cells_of(begin, scope.start, time, outer.time);
+    push_cells(text, scratch, &cells)?;
     text.extend_from_slice(b"  ")?;
     push_label(text, known, outer.level, scope)
 }
@@ -95,6 +104,8 @@ fn push_scope(
 #[derive(Drop)]
 pub(crate) struct Lines<'k> {
     pub text: Vec<u8>,
+    /// The memory in which each cell is made.
+    pub scratch: Vec<u8>,
     pub known: &'k ScopeCollection,
     /// The range of the frame whose scopes are met.
     pub range_ns: (NanoSecond, NanoSecond),
@@ -118,7 +129,14 @@ impl<'s, 'k> Visitor<'s> for Lines<'k> {
     ghost still_stands = { still_stands };
 
     fn enter(&mut self, within: Outer, scope: &RawScope<'s>) -> Answer<Outer> {
-        push_scope(&mut self.text, self.known, self.range_ns.0, within, scope)?;
+        push_scope(
+            &mut self.text,
+            &mut self.scratch,
+            self.known,
+            self.range_ns.0,
+            within,
+            scope,
+        )?;
         Ok(Outer {
             level: within.level + 1,
             time: scope.stop.abs_diff(scope.start),
@@ -132,8 +150,8 @@ impl<'k> Lines<'k> {
         ensures { OnOk result (HasMoreLines self.old self.new
             (thread_line (key_of thread.now))) }
     {
-        self.text
-            .extend_from_slice(b"       start    duration   share  thread ")?;
+        push_heading(&mut self.text, &cells_of(0, 0, 0, 0))?;
+        self.text.extend_from_slice(b"  thread ")?;
         push_thread(&mut self.text, thread)?;
         self.text.extend_from_slice(b"\n")
     }
@@ -151,10 +169,10 @@ impl<'k> Lines<'k> {
 
     /// Appends a thread's line and those of its scopes. Fails with the first fault of the stream, or with `Memory`.
     pub(crate) fn add_stream(&mut self, thread: &ThreadInfo, info: &StreamInfo) -> Answer<()>
-        ensures ok { OnOk result ((f : Forest)
-            × Spells (facts_of info.now).form (facts_of info.now).bytes f
+        ensures ok { OnOk result ((forest : Forest)
+            × Spells (facts_of info.now).form (facts_of info.now).bytes forest
             × HasMoreLines self.old self.new
-            (tree_text self.old.known.now self.old.range_ns (key_of thread.now, f))) }
+            (tree_text self.old.known.now self.old.range_ns (key_of thread.now, forest))) }
         ensures err { IfErr result (λ e.
             (e ≡ Error.Memory) ⊎ IsFault (facts_of info.now).form (facts_of info.now).bytes e) }
     {
@@ -164,10 +182,10 @@ impl<'k> Lines<'k> {
 
     /// Appends the lines of a stream's scopes. Fails as [`Lines::add_stream`] does.
     fn add_scopes(&mut self, info: &StreamInfo) -> Answer<()>
-        ensures ok { OnOk result ((f : Forest)
-            × Spells (facts_of info.now).form (facts_of info.now).bytes f
+        ensures ok { OnOk result ((forest : Forest)
+            × Spells (facts_of info.now).form (facts_of info.now).bytes forest
             × HasMoreLines self.old self.new
-            (forest_lines self.old.known.now self.old.range_ns f)) }
+            (forest_lines self.old.known.now self.old.range_ns forest)) }
         ensures err { IfErr result (λ e.
             (e ≡ Error.Memory) ⊎ IsFault (facts_of info.now).form (facts_of info.now).bytes e) }
     {

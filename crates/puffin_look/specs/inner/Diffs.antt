@@ -9,7 +9,7 @@ use Rattle.puffin_look.specs.declared.top.TopRow.{TopRow}
 use Rattle.puffin_look.specs.declared.diff.PerFrame.{PerFrame}
 
 abbrev pub has_name : List ℕ → Vec ℕ Global → Bool
-has_name name k = bytes_eq name k.items
+has_name name key = bytes_eq name key.items
 
 abbrev pub Held : Type 0
 Held = Vec ℕ Global × PerFrame

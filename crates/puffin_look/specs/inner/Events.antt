@@ -20,19 +20,20 @@ is_plain byte = nat_le 32 byte && (not (byte == 34) && not (byte == 92))
 
 -- details that are borrowed
 abbrev pub details_in : Option (Bor (Arc ScopeDetails Global)) → Option Details
-details_in o = option_map (λ d. details_of (arc_value d)) (option_copied o)
+details_in held = option_map (λ d. details_of (arc_value d)) (option_copied held)
 
 -- this text was appended, and the rest stayed
-pub record IsWithText (v u : Events) (more : List ℕ) : Type 0 where
-  pub text : u.text.items ≡ v.text.items ++ more
-  pub overview : u.overview ≡ v.overview
-  pub tid : u.tid ≡ v.tid
+pub record IsWithText (old new : Events) (more : List ℕ) : Type 0 where
+  pub text : new.text.items ≡ old.text.items ++ more
+  pub overview : new.overview ≡ old.overview
+  pub tid : new.tid ≡ old.tid
 
 abbrev pub scope_events : Events → List ScopeInContext → List ℕ
-scope_events v xs = flat_map (λ s. scope_event v.overview.now v.tid s.span) xs
+scope_events events scopes =
+    flat_map (λ s. scope_event events.overview.now events.tid s.span) scopes
 
 abbrev pub TakesScopes : Events → List ScopeInContext → Events → Type 0
-TakesScopes v xs u = IsWithText v u (scope_events v xs)
+TakesScopes old scopes new = IsWithText old new (scope_events old scopes)
 
 pub scopes_none : (v : Events) → TakesScopes v [] v
 scopes_none v =

@@ -8,5 +8,5 @@ use Rattle.puffin_look.specs.declared.overview.Overview.{Overview}
 -- the frames before the end or the first fault were read, or the reader or memory failed
 abbrev pub ReadsFrames : Option (List ℕ) → Option (List ℕ) → Overview →
     Result (Unit {0}) FileError → Type 0
-ReadsFrames unread left o (Ok x) = IsOverview unread left o
-ReadsFrames unread left o (Err e) = IsOutside e ⊎ IsOverview unread left o
+ReadsFrames unread left overview (Ok done) = IsOverview unread left overview
+ReadsFrames unread left overview (Err fault) = IsOutside fault ⊎ IsOverview unread left overview

@@ -22,37 +22,39 @@ use Rattle.puffin_look.specs.declared.folded.Folding.{Folding}
 
 -- ---- a thread
 
-pub record AddsStack (v u : Folding) (r : StreamFacts) : Type 0 where
+pub record AddsStack (old new : Folding) (facts : StreamFacts) : Type 0 where
   pub forest : Forest
-  pub spells : Spells r.form r.bytes forest
-  pub parts : HasMoreParts v.stacks u.stacks (forest_parts v.stacks.known.now forest)
-  pub found : u.is_found ≡ true
-  pub wanted : u.wanted ≡ v.wanted
+  pub spells : Spells facts.form facts.bytes forest
+  pub parts : HasMoreParts old.stacks new.stacks (forest_parts old.stacks.known.now forest)
+  pub found : new.is_found ≡ true
+  pub wanted : new.wanted ≡ old.wanted
 
 -- a thread's scopes were added, unless the thread isn't wanted
 abbrev pub StepsStack : Folding → Folding → ThreadKey → StreamFacts → Type 0
-StepsStack v u key r =
-    ((is_wanted v.wanted.now key ≡ true) × AddsStack v u r)
-    ⊎ ((is_wanted v.wanted.now key ≡ false) × (u ≡ v))
+StepsStack old new key facts =
+    ((is_wanted old.wanted.now key ≡ true) × AddsStack old new facts)
+    ⊎ ((is_wanted old.wanted.now key ≡ false) × (new ≡ old))
 
 abbrev pub IsStackFault : Folding → ThreadKey → StreamFacts → Error → Type 0
-IsStackFault v key r fault = (is_wanted v.wanted.now key ≡ true) × IsFault r.form r.bytes fault
+IsStackFault old key facts fault =
+    (is_wanted old.wanted.now key ≡ true) × IsFault facts.form facts.bytes fault
 
 -- ---- frames
 
 -- these frames were read, their scopes were added, and nothing was printed
-pub record TakesStacks (v : Folding) (frames : List OpenFrame) (text : List ℕ) (u : Folding) : Type 0 where
+pub record TakesStacks (old : Folding) (frames : List OpenFrame) (text : List ℕ)
+    (new : Folding) : Type 0 where
   pub none : text ≡ []
   pub trees : List TreeFrame
-  pub read : AreRead (wanted_streams v.wanted.now) frames trees
-  pub rows : rows_of u.stacks
-      ≡ fold with_part (rows_of v.stacks) (parts v.stacks.known.now trees)
-  pub known : u.stacks.known ≡ v.stacks.known
-  pub found : u.is_found ≡ found_in v.is_found trees
-  pub wanted : u.wanted ≡ v.wanted
+  pub read : AreRead (wanted_streams old.wanted.now) frames trees
+  pub rows : rows_of new.stacks
+      ≡ fold with_part (rows_of old.stacks) (parts old.stacks.known.now trees)
+  pub known : new.stacks.known ≡ old.stacks.known
+  pub found : new.is_found ≡ found_in old.is_found trees
+  pub wanted : new.wanted ≡ old.wanted
 
 abbrev pub RefusesFrame : Folding → OpenFrame → Error → Type 0
-RefusesFrame v frame cause = AreUnread (wanted_streams v.wanted.now frame) cause
+RefusesFrame old frame cause = AreUnread (wanted_streams old.wanted.now frame) cause
 
 -- ---- laws
 

@@ -23,39 +23,43 @@ use Rattle.puffin_look.specs.declared.frame_tree.Trees.{Trees}
 
 -- ---- a thread
 
-pub record AddsTree (v u : Trees) (key : ThreadKey) (r : StreamFacts) : Type 0 where
+pub record AddsTree (old new : Trees) (key : ThreadKey) (facts : StreamFacts) : Type 0 where
   pub forest : Forest
-  pub spells : Spells r.form r.bytes forest
-  pub lines : HasMoreLines v.lines u.lines (tree_text v.lines.known.now v.lines.range_ns (key, forest))
-  pub found : u.is_found ≡ true
-  pub wanted : u.wanted ≡ v.wanted
+  pub spells : Spells facts.form facts.bytes forest
+  pub lines : HasMoreLines old.lines new.lines (
+      tree_text old.lines.known.now old.lines.range_ns (key, forest))
+  pub found : new.is_found ≡ true
+  pub wanted : new.wanted ≡ old.wanted
 
 -- a thread's lines were appended, unless the thread isn't wanted
 abbrev pub StepsTree : Trees → Trees → ThreadKey → StreamFacts → Type 0
-StepsTree v u key r =
-    ((is_wanted v.wanted.now key ≡ true) × AddsTree v u key r)
-    ⊎ ((is_wanted v.wanted.now key ≡ false) × (u ≡ v))
+StepsTree old new key facts =
+    ((is_wanted old.wanted.now key ≡ true) × AddsTree old new key facts)
+    ⊎ ((is_wanted old.wanted.now key ≡ false) × (new ≡ old))
 
 abbrev pub IsTreeFault : Trees → ThreadKey → StreamFacts → Error → Type 0
-IsTreeFault v key r fault = (is_wanted v.wanted.now key ≡ true) × IsFault r.form r.bytes fault
+IsTreeFault old key facts fault =
+    (is_wanted old.wanted.now key ≡ true) × IsFault facts.form facts.bytes fault
 
 -- ---- frames
 
 -- these frames were read, and their text is this
-pub record TakesTrees (v : Trees) (frames : List OpenFrame) (text : List ℕ) (u : Trees) : Type 0 where
+pub record TakesTrees (old : Trees) (frames : List OpenFrame) (text : List ℕ)
+    (new : Trees) : Type 0 where
   pub trees : List TreeFrame
-  pub read : AreRead (wanted_streams v.wanted.now) frames trees
-  pub is : text ≡ flat_map (trees_text v.lines.known.now) trees
-  pub known : u.lines.known ≡ v.lines.known
-  pub found : u.is_found ≡ found_in v.is_found trees
-  pub wanted : u.wanted ≡ v.wanted
+  pub read : AreRead (wanted_streams old.wanted.now) frames trees
+  pub is : text ≡ flat_map (trees_text old.lines.known.now) trees
+  pub known : new.lines.known ≡ old.lines.known
+  pub found : new.is_found ≡ found_in old.is_found trees
+  pub wanted : new.wanted ≡ old.wanted
 
 abbrev pub RefusesFrame : Trees → OpenFrame → Error → Type 0
-RefusesFrame v frame cause = AreUnread (wanted_streams v.wanted.now frame) cause
+RefusesFrame old frame cause = AreUnread (wanted_streams old.wanted.now frame) cause
 
 -- the text of some frames, whether a thread was found or not
 abbrev pub IsAnyFrameText : Collection → Wanted → List OpenFrame → List ℕ → Type 0
-IsAnyFrameText known wanted frames text = (found : Bool) × IsFrameText known wanted found frames text
+IsAnyFrameText known wanted frames text =
+    (found : Bool) × IsFrameText known wanted found frames text
 
 -- ---- laws
 

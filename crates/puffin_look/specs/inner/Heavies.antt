@@ -3,4 +3,4 @@ use Rattle.puffin_look.specs.Heavy.{Step}
 use Rattle.puffin_look.specs.declared.heavy.Step as held
 
 abbrev pub step_of : held.Step → Step
-step_of s = (s.path.items, s.time)
+step_of step = (step.path.items, step.time)

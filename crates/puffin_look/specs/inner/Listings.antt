@@ -4,14 +4,14 @@ use Rattle.std.specs.Io.KnownBytes.{Appends}
 use Rattle.puffin_data.specs.declared.error.Error.{Error}
 use Rattle.puffin_data.specs.declared.file_error.FileError.{FileError}
 use Rattle.puffin_data.specs.declared.file_error.FileError.TheVariants as file
-use Rattle.puffin_data.specs.Device.{FailsAt, IsOutside, WritesBeginning}
+use Rattle.puffin_data.specs.Device.{IsOutside, WritesBeginning}
 use Rattle.puffin_frames.specs.Packet.Stored.{Stored}
 use Rattle.puffin_view.specs.View.File.{file_at, TookFrames, FailsToRead}
-use Rattle.puffin_view.specs.View.FrameFile.{frame_at, HasGiven}
+use Rattle.puffin_view.specs.View.FrameFile.{HasGiven}
 use Rattle.puffin_look.specs.OpenFrame.{OpenFrame, opened, AreOpened}
 use Rattle.puffin_look.specs.Wanted.{is_within, frames_within}
 use Rattle.puffin_look.specs.declared.wanted.Indices.{Indices}
-use Rattle.puffin_look.specs.Printed.{Begins, IsFull}
+use Rattle.puffin_look.specs.Printed.{Begins, StopsAtNext}
 
 -- ---- one frame
 
@@ -75,12 +75,11 @@ pub record StopsBehind {L : Type 0} (text : L → List ℕ)
       × ((fault ≡ file.Memory) ⊎ (state ≡ new)))
       -- the next frame can't be read
       ⊎ (Appends before after (text old ++ more) × (state ≡ new)
-      × (now : Option (List ℕ)) × HasGiven unread now stored
-      × (FailsAt fault now left frame_at ⊎ IsFull stored fault))
+      × StopsAtNext unread left stored fault)
       -- it can't be added
       ⊎ (Appends before after (text old ++ more)
-      × (s : Stored) × HasGiven unread left (stored ++ s ∷ [])
-      × FailsToAdd refuses indices state new (opened s) fault)
+      × (next : Stored) × HasGiven unread left (stored ++ next ∷ [])
+      × FailsToAdd refuses indices state new (opened next) fault)
 
 -- the file doesn't begin with its letters, or they can't be read
 pub record IsNoFile {L : Type 0} (takes : L → List OpenFrame → List ℕ → L → Type 0) (old new : L)

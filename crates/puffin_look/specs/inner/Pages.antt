@@ -19,19 +19,19 @@ use Rattle.puffin_look.specs.declared.page_rows.PageRows.{PageRows}
 -- ---- scopes
 
 -- this text was appended, and the frame's start stayed
-pub record HasMoreRows (v u : PageRows) (more : List ℕ) : Type 0 where
-  pub text : u.text.items ≡ v.text.items ++ more
-  pub begin : u.begin ≡ v.begin
+pub record HasMoreRows (old new : PageRows) (more : List ℕ) : Type 0 where
+  pub text : new.text.items ≡ old.text.items ++ more
+  pub begin : new.begin ≡ old.begin
 
 abbrev pub scopes_json : PageRows → List ScopeInContext → List ℕ
-scopes_json v xs = flat_map (scope_json v.begin) xs
+scopes_json rows scopes = flat_map (scope_json rows.begin) scopes
 
 abbrev pub TakesScopes : PageRows → List ScopeInContext → PageRows → Type 0
-TakesScopes v xs u = HasMoreRows v u (scopes_json v xs)
+TakesScopes old scopes new = HasMoreRows old new (scopes_json old scopes)
 
 -- how many scopes are open
 abbrev pub StandsFor : PageRows → ℕ → List Span → Type 0
-StandsFor v level around = level ≡ cut (length around)
+StandsFor rows level around = level ≡ cut (length around)
 
 pub scopes_none : (v : PageRows) → TakesScopes v [] v
 scopes_none v = record { text = sym (append-nil v.text.items); begin = refl }
@@ -55,14 +55,15 @@ still_stands u v xs level around t s = s
 -- ---- frames
 
 -- these frames were read, and their elements are this text
-pub record TakesPage (v : Page) (frames : List OpenFrame) (text : List ℕ) (u : Page) : Type 0 where
+pub record TakesPage (old : Page) (frames : List OpenFrame) (text : List ℕ)
+    (new : Page) : Type 0 where
   pub trees : List TreeFrame
-  pub read : AreRead (chosen_streams v.frames.now) frames trees
-  pub is : text ≡ flat_map (frame_element v.frames.now) trees
-  pub chosen : u.frames ≡ v.frames
+  pub read : AreRead (chosen_streams old.frames.now) frames trees
+  pub is : text ≡ flat_map (frame_element old.frames.now) trees
+  pub chosen : new.frames ≡ old.frames
 
 abbrev pub RefusesFrame : Page → OpenFrame → Error → Type 0
-RefusesFrame v frame cause = AreUnread (chosen_streams v.frames.now frame) cause
+RefusesFrame old frame cause = AreUnread (chosen_streams old.frames.now frame) cause
 
 pub page_none : (v : Page) → TakesPage v [] [] v
 page_none v = record { trees = []; read = tt; is = refl; chosen = refl }

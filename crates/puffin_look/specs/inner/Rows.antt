@@ -7,10 +7,10 @@ use Rattle.puffin_look.specs.Cells.{Cell, Name}
 use Rattle.puffin_look.specs.declared.rows.Value.{Value}
 
 abbrev pub cell_of : Bor (List ℕ) × Value → Cell
-cell_of c = (c.0.now, c.1)
+cell_of cell = (cell.0.now, cell.1)
 
 abbrev pub name_of : Bor (List ℕ) × Bor (List ℕ) → Name
-name_of n = (n.0.now, n.1.now)
+name_of name = (name.0.now, name.1.now)
 
 -- these tokens were written
 pub record Writes (old new : Written) (more : List Token) : Type 0 where

@@ -23,29 +23,32 @@ abbrev pub held_of : SlowFrame → Slow
 held_of row = (row.duration_ns, row.text.items)
 
 -- this is what is printed of a frame
-pub record ReadsSlow (form : Form) (known : Collection) (wanted : Wanted) (frame : OpenFrame) (text : List ℕ) : Type 0 where
+pub record ReadsSlow (form : Form) (known : Collection) (wanted : Wanted) (frame : OpenFrame)
+    (text : List ℕ) : Type 0 where
   pub tree : TreeFrame
   pub read : IsRead (wanted_streams wanted) frame tree
   pub is : text ≡ slow_text form known tree
 
 -- only so many are kept
 abbrev pub keeping : ℕ → Form → Collection → List Slow → TreeFrame → List Slow
-keeping n form known rows tree = take n (with_row_by duration rows (slow_of form known tree))
+keeping limit form known rows tree =
+    take limit (with_row_by duration rows (slow_of form known tree))
 
 -- these frames were read, the slowest were kept, and nothing was printed
-pub record TakesSlow (v : SlowFrames) (frames : List OpenFrame) (text : List ℕ) (u : SlowFrames) : Type 0 where
+pub record TakesSlow (old : SlowFrames) (frames : List OpenFrame) (text : List ℕ)
+    (new : SlowFrames) : Type 0 where
   pub none : text ≡ []
   pub trees : List TreeFrame
-  pub read : AreRead (wanted_streams v.wanted.now) frames trees
-  pub rows : map held_of u.rows.items
-      ≡ fold (keeping v.limit v.form v.known.now) (map held_of v.rows.items) trees
-  pub limit : u.limit ≡ v.limit
-  pub form : u.form ≡ v.form
-  pub known : u.known ≡ v.known
-  pub wanted : u.wanted ≡ v.wanted
+  pub read : AreRead (wanted_streams old.wanted.now) frames trees
+  pub rows : map held_of new.rows.items
+      ≡ fold (keeping old.limit old.form old.known.now) (map held_of old.rows.items) trees
+  pub limit : new.limit ≡ old.limit
+  pub form : new.form ≡ old.form
+  pub known : new.known ≡ old.known
+  pub wanted : new.wanted ≡ old.wanted
 
 abbrev pub RefusesFrame : SlowFrames → OpenFrame → Error → Type 0
-RefusesFrame v frame cause = AreUnread (wanted_streams v.wanted.now frame) cause
+RefusesFrame old frame cause = AreUnread (wanted_streams old.wanted.now frame) cause
 
 -- ---- laws
 

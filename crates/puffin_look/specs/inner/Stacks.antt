@@ -1,5 +1,5 @@
 -- What the folded stacks take from a stream, scope by scope.
-use Rattle.std.specs.Prelude.{◌≡◌, ℕ, zero, suc, ◌+◌, ◌-◌, true, false, List, [], ◌∷◌, ◌++◌, map, fold, slice_get, if◌then◌else◌, Option, Some, None}
+use Rattle.std.specs.Prelude.{◌≡◌, ℕ, ◌+◌, ◌-◌, true, false, List, [], ◌∷◌, ◌++◌, map, fold, slice_get, if◌then◌else◌, Option, Some, None}
 use Rattle.std.specs.Option.{option_and_then}
 use Rattle.std.specs.List.{flat_map, list_any}
 use Rattle.std.specs.Map.{keys_of}
@@ -15,6 +15,7 @@ use Rattle.puffin_data.specs.Walk.PlacedScopes.{ScopeInContext}
 use Rattle.puffin_threads.specs.Details.Collection.{Collection}
 use Rattle.puffin_view.specs.View.Stats.{cut}
 use Rattle.puffin_look.specs.Folded.{Part, scope_parts, path_of, path_line}
+use Rattle.puffin_look.specs.inner.Keys.{keys_of-append, place_stays}
 use Rattle.puffin_look.specs.declared.stacks.Times.{Times}
 use Rattle.puffin_look.specs.declared.stacks.Stacks.{Stacks}
 
@@ -24,24 +25,24 @@ abbrev pub no_times : Times
 no_times = record { whole = 0; nested = 0 }
 
 abbrev pub times_with : Times → ℕ → ℕ → Times
-times_with t whole nested =
-    record { whole = cut (t.whole + whole); nested = cut (t.nested + nested) }
+times_with times whole nested =
+    record { whole = cut (times.whole + whole); nested = cut (times.nested + nested) }
 
 abbrev pub Row : Type 0
 Row = List ℕ × Times
 
 abbrev pub row_with : Part → Row → Row
-row_with s row =
-    if bytes_eq s.path row.0 then (row.0, times_with row.1 s.whole s.nested) else row
+row_with part row =
+    if bytes_eq part.path row.0 then (row.0, times_with row.1 part.whole part.nested) else row
 
 abbrev pub new_row : List (List ℕ) → Part → List Row
-new_row paths s =
-    if list_any (bytes_eq s.path) paths then []
-    else (s.path, times_with no_times s.whole s.nested) ∷ []
+new_row paths part =
+    if list_any (bytes_eq part.path) paths then []
+    else (part.path, times_with no_times part.whole part.nested) ∷ []
 
 -- the times of all paths, with one part more
 abbrev pub with_part : List Row → Part → List Row
-with_part rows s = map (row_with s) rows ++ new_row (keys_of rows) s
+with_part rows part = map (row_with part) rows ++ new_row (keys_of rows) part
 
 -- ---- as the code holds them
 
@@ -49,13 +50,13 @@ abbrev pub Held : Type 0
 Held = Vec ℕ Global × Times
 
 abbrev pub row_of : Held → Row
-row_of e = (e.0.items, e.1)
+row_of entry = (entry.0.items, entry.1)
 
 abbrev pub rows_in : List Held → List Row
-rows_in es = map row_of es
+rows_in entries = map row_of entries
 
 abbrev pub rows_of : Stacks → List Row
-rows_of v = rows_in v.rows.entries
+rows_of stacks = rows_in stacks.rows.entries
 
 -- the path at a place
 abbrev pub path_at : List Row → Option ℕ → Option (List ℕ)
@@ -68,22 +69,22 @@ row_text row = path_line row.0 (row.1.whole - row.1.nested)
 -- ---- a stream
 
 -- these parts were added, and the details stayed
-pub record HasMoreParts (v u : Stacks) (more : List Part) : Type 0 where
-  pub rows : rows_of u ≡ fold with_part (rows_of v) more
-  pub known : u.known ≡ v.known
+pub record HasMoreParts (old new : Stacks) (more : List Part) : Type 0 where
+  pub rows : rows_of new ≡ fold with_part (rows_of old) more
+  pub known : new.known ≡ old.known
 
 abbrev pub all_parts : Stacks → List ScopeInContext → List Part
-all_parts v xs = flat_map (scope_parts v.known.now) xs
+all_parts stacks scopes = flat_map (scope_parts stacks.known.now) scopes
 
 abbrev pub TakesScopes : Stacks → List ScopeInContext → Stacks → Type 0
-TakesScopes v xs u = HasMoreParts v u (all_parts v xs)
+TakesScopes old scopes new = HasMoreParts old new (all_parts old scopes)
 
 -- what is kept is the place of the path of the innermost of these scopes, or nothing outside of all scopes
 abbrev pub StandsFor : Stacks → Option ℕ → List Span → Type 0
-StandsFor v None around = path_of v.known.now around ≡ None
-StandsFor v (Some i) around =
-    (path : List ℕ) × (path_of v.known.now around ≡ Some path)
-    × (slice_get (keys_of (rows_of v)) i ≡ Some path)
+StandsFor stacks None around = path_of stacks.known.now around ≡ None
+StandsFor stacks (Some place) around =
+    (path : List ℕ) × (path_of stacks.known.now around ≡ Some path)
+    × (slice_get (keys_of (rows_of stacks)) place ≡ Some path)
 
 -- ---- laws
 
@@ -97,22 +98,12 @@ keys_kept s (row ∷ rows) =
       | false ↦ ap (λ (ks : List (List ℕ)). row.0 ∷ ks) (keys_kept s rows)
     ]
 
-keys_joined : (xs ys : List Row) → keys_of (xs ++ ys) ≡ keys_of xs ++ keys_of ys
-keys_joined [] ys = refl
-keys_joined (x ∷ xs) ys = ap (λ (ks : List (List ℕ)). x.0 ∷ ks) (keys_joined xs ys)
-
 -- the paths stay, and a new one comes last
 pub keys_with : (rows : List Row) (s : Part) →
     keys_of (with_part rows s) ≡ keys_of rows ++ keys_of (new_row (keys_of rows) s)
 keys_with rows s =
-    keys_joined (map (row_with s) rows) (new_row (keys_of rows) s)
+    keys_of-append (map (row_with s) rows) (new_row (keys_of rows) s)
     ∙ ap (λ (ks : List (List ℕ)). ks ++ keys_of (new_row (keys_of rows) s)) (keys_kept s rows)
-
-front_kept : {X : Type 0} (xs ys : List X) (i : ℕ) (x : X) → slice_get xs i ≡ Some x →
-    slice_get (xs ++ ys) i ≡ Some x
-front_kept [] ys i x h = absurd (cc)
-front_kept (y ∷ xs) ys zero x h = h
-front_kept (y ∷ xs) ys (suc i) x h = front_kept xs ys i x h
 
 -- a path keeps its place
 pub place_kept : (rows : List Row) (s : Part) (w : Option ℕ) (path : List ℕ) →
@@ -120,7 +111,7 @@ pub place_kept : (rows : List Row) (s : Part) (w : Option ℕ) (path : List ℕ)
 place_kept rows s None path h = h
 place_kept rows s (Some i) path h =
     ap (λ (ks : List (List ℕ)). slice_get ks i) (keys_with rows s)
-    ∙ front_kept (keys_of rows) (keys_of (new_row (keys_of rows) s)) i path h
+    ∙ place_stays (keys_of rows) (keys_of (new_row (keys_of rows) s)) i path h
 
 pub places_kept : (rows : List Row) (more : List Part) (w : Option ℕ) (path : List ℕ) →
     path_at rows w ≡ Some path → path_at (fold with_part rows more) w ≡ Some path

@@ -15,9 +15,10 @@ use Rattle.puffin_view.specs.declared.thread_totals.AllTotals.{AllTotals}
 -- ---- threads
 
 -- the totals are those with these frames, and nothing was printed
-pub record TakesTotals (v : AllTotals) (frames : List OpenFrame) (text : List ℕ) (u : AllTotals) : Type 0 where
+pub record TakesTotals (old : AllTotals) (frames : List OpenFrame) (text : List ℕ)
+    (new : AllTotals) : Type 0 where
   pub none : text ≡ []
-  pub totals : by_key u.totals.entries ≡ fold with_frame (by_key v.totals.entries) frames
+  pub totals : by_key new.totals.entries ≡ fold with_frame (by_key old.totals.entries) frames
 
 pub totals_none : (v : AllTotals) → TakesTotals v [] [] v
 totals_none v = record { none = refl; totals = refl }
@@ -33,11 +34,12 @@ totals_more u v w xs ys s t a b = record {
 -- ---- the slowest frames
 
 -- the rows are those with these frames, and nothing was printed
-pub record TakesRows (v : Slowest) (frames : List OpenFrame) (text : List ℕ) (u : Slowest) : Type 0 where
+pub record TakesRows (old : Slowest) (frames : List OpenFrame) (text : List ℕ)
+    (new : Slowest) : Type 0 where
   pub none : text ≡ []
-  pub limit : u.limit ≡ v.limit
-  pub rows : u.rows.items
-      ≡ fold (λ rows frame. take v.limit (with_row rows (frame_row frame))) v.rows.items frames
+  pub limit : new.limit ≡ old.limit
+  pub rows : new.rows.items
+      ≡ fold (λ rows frame. take old.limit (with_row rows (frame_row frame))) old.rows.items frames
 
 pub rows_none : (v : Slowest) → TakesRows v [] [] v
 rows_none v = record { none = refl; limit = refl; rows = refl }
@@ -55,7 +57,7 @@ rows_more u v w xs ys s t a b = record {
 
 -- whether a call failed because the reader, the writer or memory did
 abbrev pub fails_outside : {X : Type 0} → Result X FileError → Bool
-fails_outside (Ok x) = false
+fails_outside (Ok done) = false
 fails_outside (Err file.Io) = true
 fails_outside (Err file.Memory) = true
 fails_outside (Err _) = false

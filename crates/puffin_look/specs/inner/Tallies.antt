@@ -1,5 +1,5 @@
 -- What the tallies of names take from a stream, scope by scope.
-use Rattle.std.specs.Prelude.{◌≡◌, ℕ, zero, suc, ◌+◌, ◌-◌, ◌^◌, min, max, Bool, true, false, List, [], ◌∷◌, ◌++◌, map, fold, slice_get, if◌then◌else◌, Option, Some, None}
+use Rattle.std.specs.Prelude.{◌≡◌, ℕ, ◌+◌, ◌-◌, ◌^◌, min, max, Bool, true, false, List, [], ◌∷◌, ◌++◌, map, fold, slice_get, if◌then◌else◌, Option, Some, None}
 use Rattle.std.specs.Option.{option_and_then}
 use Rattle.std.specs.List.{flat_map, list_any}
 use Rattle.std.specs.Map.{keys_of}
@@ -15,6 +15,7 @@ use Rattle.puffin_view.specs.View.Stats.{cut}
 use Rattle.puffin_look.specs.Buckets.{bucket_of}
 use Rattle.puffin_look.specs.Top.{Piece, scope_pieces, name_around}
 use Rattle.puffin_look.specs.inner.Counts.{with_time}
+use Rattle.puffin_look.specs.inner.Keys.{keys_of-append, place_stays}
 use Rattle.puffin_look.specs.declared.histogram.Count.{Count}
 use Rattle.puffin_look.specs.declared.tallies.Times.{Times}
 use Rattle.puffin_look.specs.declared.tallies.Tally.{Tally}
@@ -26,16 +27,16 @@ abbrev pub no_times : Times
 no_times = record { calls = 0; total = 0; nested = 0; least = 2 ^ 64 - 1; greatest = 0 }
 
 abbrev pub times_with_call : Times → ℕ → Times
-times_with_call t time = record {
-  calls = cut (t.calls + 1);
-  total = cut (t.total + time);
-  nested = t.nested;
-  least = min t.least time;
-  greatest = max t.greatest time;
+times_with_call times time = record {
+  calls = cut (times.calls + 1);
+  total = cut (times.total + time);
+  nested = times.nested;
+  least = min times.least time;
+  greatest = max times.greatest time;
 }
 
 abbrev pub times_with_nested : Times → ℕ → Times
-times_with_nested t time = record t { nested = cut (t.nested + time) }
+times_with_nested times time = record times { nested = cut (times.nested + time) }
 
 -- the times of a name, and its durations by bucket
 abbrev pub Counted : Type 0
@@ -45,16 +46,17 @@ abbrev pub no_tally : Counted
 no_tally = (no_times, [])
 
 abbrev pub tally_of : Tally → Counted
-tally_of t = (t.times, t.histogram.counts.items)
+tally_of tally = (tally.times, tally.histogram.counts.items)
 
 abbrev pub with_call : Counted → ℕ → Counted
-with_call t time = (times_with_call t.0 time, with_time t.1 (bucket_of time))
+with_call counted time = (times_with_call counted.0 time, with_time counted.1 (bucket_of time))
 
 abbrev pub with_nested : Counted → ℕ → Counted
-with_nested t time = (times_with_nested t.0 time, t.1)
+with_nested counted time = (times_with_nested counted.0 time, counted.1)
 
 abbrev pub with_piece : Counted → Piece → Counted
-with_piece t p = if p.is_call then with_call t p.time else with_nested t p.time
+with_piece counted piece =
+    if piece.is_call then with_call counted piece.time else with_nested counted piece.time
 
 -- ---- the names
 
@@ -62,7 +64,7 @@ abbrev pub Row : Type 0
 Row = List ℕ × Counted
 
 abbrev pub row_with : Piece → Row → Row
-row_with p row = if bytes_eq p.name row.0 then (row.0, with_piece row.1 p) else row
+row_with piece row = if bytes_eq piece.name row.0 then (row.0, with_piece row.1 piece) else row
 
 -- a name that is new comes last
 abbrev pub with_row : List Row → List ℕ → List Row
@@ -71,7 +73,7 @@ with_row rows name =
 
 -- the rows, with one piece more
 abbrev pub with_piece_in : List Row → Piece → List Row
-with_piece_in rows p = map (row_with p) (with_row rows p.name)
+with_piece_in rows piece = map (row_with piece) (with_row rows piece.name)
 
 -- ---- as the code holds them
 
@@ -79,13 +81,13 @@ abbrev pub Held : Type 0
 Held = Vec ℕ Global × Tally
 
 abbrev pub row_of : Held → Row
-row_of e = (e.0.items, tally_of e.1)
+row_of entry = (entry.0.items, tally_of entry.1)
 
 abbrev pub rows_in : List Held → List Row
-rows_in es = map row_of es
+rows_in entries = map row_of entries
 
 abbrev pub rows_of : Tallies → List Row
-rows_of v = rows_in v.rows.entries
+rows_of tallies = rows_in tallies.rows.entries
 
 -- the name at a place
 abbrev pub name_at : List Row → Option ℕ → Option (List ℕ)
@@ -94,23 +96,23 @@ name_at rows place = option_and_then (λ i. slice_get (keys_of rows) i) place
 -- ---- a stream
 
 -- these pieces were added, and the rest stayed
-pub record HasMorePieces (v u : Tallies) (more : List Piece) : Type 0 where
-  pub rows : rows_of u ≡ fold with_piece_in (rows_of v) more
-  pub known : u.known ≡ v.known
-  pub texts : u.texts ≡ v.texts
+pub record HasMorePieces (old new : Tallies) (more : List Piece) : Type 0 where
+  pub rows : rows_of new ≡ fold with_piece_in (rows_of old) more
+  pub known : new.known ≡ old.known
+  pub texts : new.texts ≡ old.texts
 
 abbrev pub all_pieces : Tallies → List ScopeInContext → List Piece
-all_pieces v xs = flat_map (scope_pieces v.known.now v.texts) xs
+all_pieces tallies scopes = flat_map (scope_pieces tallies.known.now tallies.texts) scopes
 
 abbrev pub TakesScopes : Tallies → List ScopeInContext → Tallies → Type 0
-TakesScopes v xs u = HasMorePieces v u (all_pieces v xs)
+TakesScopes old scopes new = HasMorePieces old new (all_pieces old scopes)
 
 -- what is kept is the place of the name of the innermost of these scopes, or nothing outside of all scopes
 abbrev pub StandsFor : Tallies → Option ℕ → List Span → Type 0
-StandsFor v None around = name_around v.known.now v.texts around ≡ None
-StandsFor v (Some i) around =
-    (name : List ℕ) × (name_around v.known.now v.texts around ≡ Some name)
-    × (slice_get (keys_of (rows_of v)) i ≡ Some name)
+StandsFor tallies None around = name_around tallies.known.now tallies.texts around ≡ None
+StandsFor tallies (Some place) around =
+    (name : List ℕ) × (name_around tallies.known.now tallies.texts around ≡ Some name)
+    × (slice_get (keys_of (rows_of tallies)) place ≡ Some name)
 
 -- ---- laws
 
@@ -124,23 +126,13 @@ keys_kept p (row ∷ rows) =
       | false ↦ ap (λ (ks : List (List ℕ)). row.0 ∷ ks) (keys_kept p rows)
     ]
 
-pub keys_joined : (xs ys : List Row) → keys_of (xs ++ ys) ≡ keys_of xs ++ keys_of ys
-keys_joined [] ys = refl
-keys_joined (x ∷ xs) ys = ap (λ (ks : List (List ℕ)). x.0 ∷ ks) (keys_joined xs ys)
-
-front_kept : {X : Type 0} (xs ys : List X) (i : ℕ) (x : X) → slice_get xs i ≡ Some x →
-    slice_get (xs ++ ys) i ≡ Some x
-front_kept [] ys i x h = absurd (cc)
-front_kept (y ∷ xs) ys zero x h = h
-front_kept (y ∷ xs) ys (suc i) x h = front_kept xs ys i x h
-
 named_by : (rows : List Row) (name : List ℕ) (i : ℕ) (there : List ℕ) (b : Bool) →
     slice_get (keys_of rows) i ≡ Some there →
     slice_get (keys_of (if b then rows else rows ++ (name, no_tally) ∷ [])) i ≡ Some there
 named_by rows name i there true h = h
 named_by rows name i there false h =
-    ap (λ (ks : List (List ℕ)). slice_get ks i) (keys_joined rows ((name, no_tally) ∷ []))
-    ∙ front_kept (keys_of rows) (name ∷ []) i there h
+    ap (λ (ks : List (List ℕ)). slice_get ks i) (keys_of-append rows ((name, no_tally) ∷ []))
+    ∙ place_stays (keys_of rows) (name ∷ []) i there h
 
 -- a name keeps its place where another is added
 pub named_still : (rows : List Row) (name : List ℕ) (i : ℕ) (there : List ℕ) →

@@ -24,48 +24,50 @@ use Rattle.puffin_look.specs.declared.top.TopRow.{TopRow}
 
 -- ---- a thread
 
-pub record AddsTally (v u : Tallying) (r : StreamFacts) : Type 0 where
+pub record AddsTally (old new : Tallying) (facts : StreamFacts) : Type 0 where
   pub forest : Forest
-  pub spells : Spells r.form r.bytes forest
-  pub pieces : HasMorePieces v.tallies u.tallies (
-      forest_pieces v.tallies.known.now v.tallies.texts forest)
-  pub whole : u.whole ≡ v.whole
-  pub count : u.frames ≡ v.frames
-  pub wanted : u.wanted ≡ v.wanted
+  pub spells : Spells facts.form facts.bytes forest
+  pub pieces : HasMorePieces old.tallies new.tallies (
+      forest_pieces old.tallies.known.now old.tallies.texts forest)
+  pub whole : new.whole ≡ old.whole
+  pub count : new.frames ≡ old.frames
+  pub wanted : new.wanted ≡ old.wanted
 
 -- a thread's scopes were added, unless the thread isn't wanted
 abbrev pub StepsTally : Tallying → Tallying → ThreadKey → StreamFacts → Type 0
-StepsTally v u key r =
-    ((is_wanted v.wanted.now key ≡ true) × AddsTally v u r)
-    ⊎ ((is_wanted v.wanted.now key ≡ false) × (u ≡ v))
+StepsTally old new key facts =
+    ((is_wanted old.wanted.now key ≡ true) × AddsTally old new facts)
+    ⊎ ((is_wanted old.wanted.now key ≡ false) × (new ≡ old))
 
 abbrev pub IsTallyFault : Tallying → ThreadKey → StreamFacts → Error → Type 0
-IsTallyFault v key r fault = (is_wanted v.wanted.now key ≡ true) × IsFault r.form r.bytes fault
+IsTallyFault old key facts fault =
+    (is_wanted old.wanted.now key ≡ true) × IsFault facts.form facts.bytes fault
 
 -- ---- frames
 
 -- these frames were read, their scopes were added, and nothing was printed
-pub record TakesTallies (v : Tallying) (frames : List OpenFrame) (text : List ℕ) (u : Tallying) : Type 0 where
+pub record TakesTallies (old : Tallying) (frames : List OpenFrame) (text : List ℕ)
+    (new : Tallying) : Type 0 where
   pub none : text ≡ []
   pub trees : List TreeFrame
-  pub read : AreRead (wanted_streams v.wanted.now) frames trees
-  pub rows : rows_of u.tallies
-      ≡ fold with_piece_in (rows_of v.tallies) (pieces v.tallies.known.now v.tallies.texts trees)
-  pub known : u.tallies.known ≡ v.tallies.known
-  pub texts : u.tallies.texts ≡ v.tallies.texts
-  pub whole : u.whole ≡ fold with_length v.whole trees
-  pub count : u.frames ≡ fold with_one v.frames trees
-  pub wanted : u.wanted ≡ v.wanted
+  pub read : AreRead (wanted_streams old.wanted.now) frames trees
+  pub rows : rows_of new.tallies
+      ≡ fold with_piece_in (rows_of old.tallies) (pieces old.tallies.known.now old.tallies.texts trees)
+  pub known : new.tallies.known ≡ old.tallies.known
+  pub texts : new.tallies.texts ≡ old.tallies.texts
+  pub whole : new.whole ≡ fold with_length old.whole trees
+  pub count : new.frames ≡ fold with_one old.frames trees
+  pub wanted : new.wanted ≡ old.wanted
 
 abbrev pub RefusesFrame : Tallying → OpenFrame → Error → Type 0
-RefusesFrame v frame cause = AreUnread (wanted_streams v.wanted.now frame) cause
+RefusesFrame old frame cause = AreUnread (wanted_streams old.wanted.now frame) cause
 
 -- ---- rows
 
 -- what so many percent of the calls don't exceed
 abbrev pub percentile : ℕ → Counted → ℕ
-percentile percent t =
-    min (last_of (bucket_at t.1 (rank_of percent t.0.calls))) t.0.greatest
+percentile percent tally =
+    min (last_of (bucket_at tally.1 (rank_of percent tally.0.calls))) tally.0.greatest
 
 -- the row of a name
 pub record HasTally (named : Row) (row : TopRow) : Type 0 where

@@ -15,43 +15,44 @@ use Rattle.puffin_look.specs.Trace.{Numbers, naming, numbered, numbered_by, tree
 use Rattle.puffin_look.specs.declared.trace.Trace.{Trace}
 
 abbrev pub numbers_of : Trace → Numbers
-numbers_of v = by_key v.numbers.entries
+numbers_of trace = by_key trace.numbers.entries
 
 -- ---- steps of a frame
 
 -- a thread was named, and has this number
-pub record NumbersThread (v u : Trace) (key : ThreadKey) (tid : ℕ) : Type 0 where
-  pub text : u.events.text.items ≡ v.events.text.items ++ thread_event tid key
-  pub overview : u.events.overview ≡ v.events.overview
-  pub numbers : numbers_of u ≡ insert (numbers_of v) key tid
+pub record NumbersThread (old new : Trace) (key : ThreadKey) (tid : ℕ) : Type 0 where
+  pub text : new.events.text.items ≡ old.events.text.items ++ thread_event tid key
+  pub overview : new.events.overview ≡ old.events.overview
+  pub numbers : numbers_of new ≡ insert (numbers_of old) key tid
 
 -- A thread has its number, and was named if it was met for the first time.
-pub record AddsThread (v u : Trace) (key : ThreadKey) : Type 0 where
-  pub text : u.events.text.items ≡ v.events.text.items ++ naming (numbers_of v) key
-  pub overview : u.events.overview ≡ v.events.overview
-  pub numbers : numbers_of u ≡ numbered (numbers_of v) key
+pub record AddsThread (old new : Trace) (key : ThreadKey) : Type 0 where
+  pub text : new.events.text.items ≡ old.events.text.items ++ naming (numbers_of old) key
+  pub overview : new.events.overview ≡ old.events.overview
+  pub numbers : numbers_of new ≡ numbered (numbers_of old) key
 
 -- the events of a thread's stream were appended
-pub record AddsStream (v u : Trace) (key : ThreadKey) (r : StreamFacts) : Type 0 where
+pub record AddsStream (old new : Trace) (key : ThreadKey) (facts : StreamFacts) : Type 0 where
   pub forest : Forest
-  pub spells : Spells r.form r.bytes forest
-  pub text : u.events.text.items
-      ≡ v.events.text.items ++ tree_events v.events.overview.now (numbers_of v) (key, forest)
-  pub overview : u.events.overview ≡ v.events.overview
-  pub numbers : numbers_of u ≡ numbered (numbers_of v) key
+  pub spells : Spells facts.form facts.bytes forest
+  pub text : new.events.text.items
+      ≡ old.events.text.items ++ tree_events old.events.overview.now (numbers_of old) (key, forest)
+  pub overview : new.events.overview ≡ old.events.overview
+  pub numbers : numbers_of new ≡ numbered (numbers_of old) key
 
 -- ---- frames
 
 -- these frames were read, and their events are this text
-pub record TakesTrace (v : Trace) (frames : List OpenFrame) (text : List ℕ) (u : Trace) : Type 0 where
+pub record TakesTrace (old : Trace) (frames : List OpenFrame) (text : List ℕ)
+    (new : Trace) : Type 0 where
   pub trees : List TreeFrame
   pub read : AreRead all_streams frames trees
-  pub is : text ≡ events v.events.overview.now (numbers_of v) trees
-  pub numbers : numbers_of u ≡ fold numbered_by (numbers_of v) trees
-  pub overview : u.events.overview ≡ v.events.overview
+  pub is : text ≡ events old.events.overview.now (numbers_of old) trees
+  pub numbers : numbers_of new ≡ fold numbered_by (numbers_of old) trees
+  pub overview : new.events.overview ≡ old.events.overview
 
 abbrev pub RefusesFrame : Trace → OpenFrame → Error → Type 0
-RefusesFrame v frame cause = AreUnread (all_streams frame) cause
+RefusesFrame old frame cause = AreUnread (all_streams frame) cause
 
 -- ---- laws
 

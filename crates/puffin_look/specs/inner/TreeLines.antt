@@ -11,21 +11,21 @@ use Rattle.puffin_look.specs.declared.tree.Lines.{Lines}
 use Rattle.puffin_look.specs.declared.tree.Outer.{Outer}
 
 -- this text was appended, and the rest stayed
-pub record HasMoreLines (v u : Lines) (more : List ℕ) : Type 0 where
-  pub text : u.text.items ≡ v.text.items ++ more
-  pub known : u.known ≡ v.known
-  pub range : u.range_ns ≡ v.range_ns
+pub record HasMoreLines (old new : Lines) (more : List ℕ) : Type 0 where
+  pub text : new.text.items ≡ old.text.items ++ more
+  pub known : new.known ≡ old.known
+  pub range : new.range_ns ≡ old.range_ns
 
 abbrev pub scope_lines : Lines → List ScopeInContext → List ℕ
-scope_lines v xs = flat_map (scope_line v.known.now v.range_ns) xs
+scope_lines lines scopes = flat_map (scope_line lines.known.now lines.range_ns) scopes
 
 abbrev pub TakesScopes : Lines → List ScopeInContext → Lines → Type 0
-TakesScopes v xs u = HasMoreLines v u (scope_lines v xs)
+TakesScopes old scopes new = HasMoreLines old new (scope_lines old scopes)
 
 -- what is kept belongs to the innermost of these scopes, or to the frame
-pub record StandsFor (v : Lines) (w : Outer) (around : List Span) : Type 0 where
-  pub level : w.level ≡ length around
-  pub time : w.time ≡ outer_time (length_of v.range_ns) around
+pub record StandsFor (lines : Lines) (outer : Outer) (around : List Span) : Type 0 where
+  pub level : outer.level ≡ length around
+  pub time : outer.time ≡ outer_time (length_of lines.range_ns) around
 
 pub scopes_none : (v : Lines) → TakesScopes v [] v
 scopes_none v = record { text = sym (append-nil v.text.items); known = refl; range = refl }

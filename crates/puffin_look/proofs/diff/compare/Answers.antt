@@ -14,8 +14,14 @@ loop-row-2-preserved c =
     let rows = new.rows.items in
     let at = c.loop-row-2.row-index in
     let row = c.row-item-in-loop-row-2.result in
-    let item : get_or rows at row ≡ row = ap (λ (rs : List TopRow). get_or rs at row) (sym c.deref-row-items-2.ensures.value) ∙ sym c.row-item-in-loop-row-2.is in
-    let done = take_more rows at row (omega (arith, c.loop-row-2-test.true, c.deref-row-items-2.ensures.len)) ∙ ap (λ (r : TopRow). take at rows ++ r ∷ []) item in
-    let step = c.in_ok-add_new.ensures ∙ ap (λ (n : List ℕ). map entry_of c.loop-row-2.rows.items ++ new_entry_in c.in_ok-parts_of.field-0.entries c.in_ok-parts_of-2.field-0.entries n) c.deref-in-loop-row-2.ensures.value in
-    new_more old new c.in_ok-parts_of.field-0.entries c.in_ok-parts_of-2.field-0.entries c.in_ok-parts_of.ensures c.in_ok-parts_of-2.ensures (take at rows) row _ _ _ c.loop-row-2.invariant step
+    let item : get_or rows at row ≡ row = ap (λ (rs : List TopRow). get_or rs at row) (sym c.deref-row-items-2.ensures.value)
+    ∙ sym c.row-item-in-loop-row-2.is in
+    let done = take_more rows at row (omega (arith, c.loop-row-2-test.true, c.deref-row-items-2.ensures.len))
+    ∙ ap (λ (r : TopRow). take at rows ++ r ∷ []) item in
+    let step = c.in_ok-add_new.ensures
+    ∙ ap (λ (n : List ℕ). map entry_of c.loop-row-2.rows.items
+    ++ new_entry_in c.in_ok-parts_of.field-0.entries c.in_ok-parts_of-2.field-0.entries n)
+    c.deref-in-loop-row-2.ensures.value in
+    new_more old new c.in_ok-parts_of.field-0.entries c.in_ok-parts_of-2.field-0.entries c.in_ok-parts_of.ensures
+    c.in_ok-parts_of-2.ensures (take at rows) row _ _ _ c.loop-row-2.invariant step
     ∙ ap (λ (rs : List TopRow). old_entries old new old.rows.items ++ new_entries old new rs) (sym done)

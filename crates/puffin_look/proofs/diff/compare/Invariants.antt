@@ -7,4 +7,6 @@ abbrev pub invariant-loop-row : goal.invariant-loop-row
 invariant-loop-row l = map entry_of l.rows.items ≡ old_entries l.old l.new (take l.row-index l.old.rows.items)
 
 abbrev pub invariant-loop-row-2 : goal.invariant-loop-row-2
-invariant-loop-row-2 l = map entry_of l.rows.items ≡ old_entries l.old l.new l.old.rows.items ++ new_entries l.old l.new (take l.row-index l.new.rows.items)
+invariant-loop-row-2 l =
+    map entry_of l.rows.items ≡ old_entries l.old l.new l.old.rows.items ++ new_entries l.old l.new
+    (take l.row-index l.new.rows.items)

@@ -15,9 +15,16 @@ returns-in_err-text-clause-err g c =
 pub returns-clause-ok : goal.returns-clause-ok
 returns-clause-ok g c =
     let table = c.deref.ensures.value ∙ c.in_ok-text.ensures in
-    on_ok_weaker c.write_all.result (λ app. subst (λ (t : List ℕ). Appends (g.D.Drain.contents c.args.drain.now) (g.D.Drain.contents c.write_all.new.drain) t) table app) c.write_all.ensures.ok
+    on_ok_weaker c.write_all.result
+    (λ app. subst (λ (t : List ℕ). Appends (g.D.Drain.contents c.args.drain.now) (g.D.Drain.contents c.write_all.new.drain) t)
+    table app) c.write_all.ensures.ok
 
 pub returns-clause-err : goal.returns-clause-err
 returns-clause-err g c =
     let table = c.deref.ensures.value ∙ c.in_ok-text.ensures in
-    cut_told _ _ c.write_all.result (λ e io part. (inl io, subst (λ (t : List ℕ). WritesBeginning (g.D.Drain.contents c.args.drain.now) (g.D.Drain.contents c.write_all.new.drain) t) table part)) c.write_all.ensures.err c.write_all.ensures.io
+    cut_told _ _ c.write_all.result
+    (λ e io part. (
+      inl io,
+      subst (λ (t : List ℕ). WritesBeginning (g.D.Drain.contents c.args.drain.now)
+          (g.D.Drain.contents c.write_all.new.drain) t) table part,
+    )) c.write_all.ensures.err c.write_all.ensures.io

@@ -1,12 +1,19 @@
-use Rattle.puffin_look.specs.DiffTable.{diff_row, head_line}
+-- The lines are those of the rows, one after the other.
+use Rattle.puffin_look.specs.DiffTable.{diff_row, column_names}
 use Rattle.puffin_look.proofs.Lined.{lists_begun, row_more, rows_closed}
 use Rattle.puffin_look.proofs.diff_table.text_of.Goals as goal
 
 pub loop-row-init : goal.loop-row-init
-loop-row-init c = lists_begun c.args.form head_line _ _ c.in_ok-lines.ensures.text c.in_ok-lines.ensures.separator c.in_ok-lines.ensures.none
+loop-row-init c =
+    lists_begun c.args.form column_names _ _ c.in_ok-lines.ensures.text c.in_ok-lines.ensures.separator c.in_ok-lines.ensures.none
 
 pub loop-row-preserved : goal.loop-row-preserved
-loop-row-preserved c = row_more (diff_row c.args.form) c.args.diff.now.rows.items _ c.deref-row-items.ensures.value _ _ c.loop-row.row-index c.row-item.result _ _ c.loop-row-test.true c.row-item.is c.in_ok-push_row.ensures c.loop-row.invariant
+loop-row-preserved c =
+    row_more (diff_row c.args.form) c.args.diff.now.rows.items
+    _ c.deref-row-items.ensures.value _ _ c.loop-row.row-index c.row-item.result _ _ c.loop-row-test.true c.row-item.is
+    c.in_ok-push_row.ensures c.loop-row.invariant
 
 pub returns : goal.returns
-returns c = rows_closed (diff_row c.args.form) c.args.diff.now.rows.items _ c.deref-row-items.ensures.value c.args.form head_line _ c.loop-row.row-index c.closed.result c.loop-row-test.false c.loop-row.invariant c.closed.ensures
+returns c =
+    rows_closed (diff_row c.args.form) c.args.diff.now.rows.items _ c.deref-row-items.ensures.value c.args.form column_names
+    _ c.loop-row.row-index c.closed.result c.loop-row-test.false c.loop-row.invariant c.closed.ensures

@@ -13,5 +13,8 @@ returns c =
     let start = to_z-of_z w64 c.args.scope.now.start (omega (arith, ints)) in
     let stop = to_z-of_z w64 c.args.scope.now.stop (omega (arith, ints)) in
     on_ok_weaker c.push_labels.result
-    (λ h. pushed3 _ _ _ _ _ _ _ c.in_ok-push_count.ensures (c.in_ok-push_times.ensures ∙ (λ i. c.push_count.new.text.items ++ times_text (origin i) (start i) (stop i))) (h ∙ ap (λ (d : Option Details). c.push_times.new.text.items ++ labels_text d c.args.scope.now.id c.args.scope.now.text.now) c.details_under-details.ensures))
+    (λ h. pushed3 _ _ _ _ _ _ _ c.in_ok-push_count.ensures (c.in_ok-push_times.ensures
+    ∙ (λ i. c.push_count.new.text.items ++ times_text (origin i) (start i) (stop i)))
+    (h ∙ ap (λ (d : Option Details). c.push_times.new.text.items
+    ++ labels_text d c.args.scope.now.id c.args.scope.now.text.now) c.details_under-details.ensures))
     c.push_labels.ensures

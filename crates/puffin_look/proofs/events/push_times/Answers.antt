@@ -15,5 +15,7 @@ returns c =
     let begun = c.since.ensures ∙ (λ i. since (origin i) (start i)) in
     let time = c.abs_diff.ensures ∙ (λ i. unsigned_abs (stop i -ℤ start i)) in
     on_ok_weaker c.push_micros-2.result
-    (λ h. pushed2 _ _ _ _ _ (c.in_ok-push_micros.ensures ∙ (λ i. c.args.text.now.items ++ (codes ",\"ts\":" ++ thousandths (begun i)))) (h ∙ (λ i. c.push_micros.new.text.items ++ (codes ",\"dur\":" ++ thousandths (time i)))))
+    (λ h. pushed2 _ _ _ _ _ (c.in_ok-push_micros.ensures
+    ∙ (λ i. c.args.text.now.items ++ (codes ",\"ts\":" ++ thousandths (begun i))))
+    (h ∙ (λ i. c.push_micros.new.text.items ++ (codes ",\"dur\":" ++ thousandths (time i)))))
     c.push_micros-2.ensures

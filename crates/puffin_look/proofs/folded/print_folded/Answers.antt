@@ -13,9 +13,14 @@ pub returns-in_err-write_all-clause-err : goal.returns-in_err-write_all-clause-e
 returns-in_err-write_all-clause-err g c =
     let p = err_from_is_err_and c.from_residual-in_err-write_all.result c.from_residual-in_err-write_all.ensures.1 in
     let lines = c.deref.ensures.value ∙ c.in_ok-lines.ensures in
-    rw (p.1, p.2) (inr (c.in_err-write_all.ensures.io.0, folding_cut _ _ _ _ _ _ c.in_ok-list_frames.ensures.ok c.new.ensures.rows c.args.overview.now.details c.new.ensures.known refl _ lines _ c.in_err-write_all.ensures.err))
+    rw (p.1, p.2) (inr (
+      c.in_err-write_all.ensures.io.0,
+      folding_cut _ _ _ _ _ _ c.in_ok-list_frames.ensures.ok c.new.ensures.rows c.args.overview.now.details c.new.ensures.known
+          refl _ lines _ c.in_err-write_all.ensures.err,
+    ))
 
 pub returns-clause-ok : goal.returns-clause-ok
 returns-clause-ok g c =
     let lines = c.deref.ensures.value ∙ c.in_ok-lines.ensures in
-    folding_printed _ _ _ _ _ _ c.in_ok-list_frames.ensures.ok c.new.ensures.rows c.args.overview.now.details c.new.ensures.known refl _ lines _ c.in_ok-write_all.ensures.ok
+    folding_printed _ _ _ _ _ _ c.in_ok-list_frames.ensures.ok c.new.ensures.rows c.args.overview.now.details c.new.ensures.known
+    refl _ lines _ c.in_ok-write_all.ensures.ok

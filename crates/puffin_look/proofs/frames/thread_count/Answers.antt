@@ -1,3 +1,4 @@
+-- A frame has as many threads as its map has entries.
 use Rattle.std.proofs.Common.{sym, ◌∙◌}
 use Rattle.puffin_view.proofs.lemmas.FrameStreams.{len_held}
 use Rattle.puffin_look.proofs.frames.thread_count.Goals as goal

@@ -9,4 +9,5 @@ use Rattle.puffin_look.proofs.heavy.push_steps.Given as goal
 abbrev pub invariant-loop-level : goal.invariant-loop-level
 invariant-loop-level l =
     Lists l.lines (step_lines l.form (length l.rows.entries - l.level) (rows_in l.rows.entries) l.level l.front.items l.outer)
-    (l.initial.lines.text.items ++ joined l.initial.lines.separator.now l.initial.lines.has_any (step_lines l.form (length l.rows.entries) (rows_in l.rows.entries) 0 [] l.whole))
+    (l.initial.lines.text.items ++ joined l.initial.lines.separator.now l.initial.lines.has_any
+    (step_lines l.form (length l.rows.entries) (rows_in l.rows.entries) 0 [] l.whole))

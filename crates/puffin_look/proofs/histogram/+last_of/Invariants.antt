@@ -1,3 +1,4 @@
+-- Each call has a lower bucket.
 use Rattle.puffin_look.proofs.histogram.+last_of.Given as goal
 
 abbrev pub decreases-last_of : goal.decreases-last_of

@@ -1,3 +1,4 @@
+-- The last duration of a bucket is near each duration in it.
 use Rattle.std.proofs.Common.{inl, inr, arith}
 use Rattle.std.proofs.lemmas.Bool.{cases_lt}
 use Rattle.puffin_look.proofs.Bucketing.{last_is_near}

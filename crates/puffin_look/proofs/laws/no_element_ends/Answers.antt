@@ -1,3 +1,4 @@
+-- No byte of an element begins a tag.
 use Rattle.puffin_look.proofs.PagesMade.{no_tag}
 use Rattle.puffin_look.proofs.laws.no_element_ends.Goals as goal
 

@@ -23,10 +23,12 @@ returns-clause-ok g c =
     let same = ap open_of c.deref.ensures in
     record {
       frame = open_of (arc_value c.in_ok-unpacked.unpacked);
-      opens = opened_so (packet_fields c.args.frame) (arc_value c.in_ok-unpacked.unpacked) c.in_ok-unpacked.ensures.unpacked c.in_ok-unpacked.ensures.meta;
+      opens = opened_so (packet_fields c.args.frame)
+          (arc_value c.in_ok-unpacked.unpacked) c.in_ok-unpacked.ensures.unpacked c.in_ok-unpacked.ensures.meta;
       more = added.0;
       pending = added.1;
-      taken = subst (λ (f : OpenFrame). g.L.Listing.takes c.args.listing.now (frames_within c.args.indices (f ∷ [])) added.0 c.add_wanted.new.listing) same added.2;
+      taken = subst (λ (f : OpenFrame). g.L.Listing.takes c.args.listing.now
+          (frames_within c.args.indices (f ∷ [])) added.0 c.add_wanted.new.listing) same added.2;
     }
 
 pub returns-in_err-add_wanted-clause-err : goal.returns-in_err-add_wanted-clause-err
@@ -39,7 +41,16 @@ returns-in_err-add_wanted-clause-err g c =
       | inr refused ↦ elim (told cause) [
         | inl memory ↦ inl memory
         | inr is ↦
-            let h = subst (λ (f : OpenFrame). (is_within c.args.indices f.meta.frame_index ≡ true) × g.L.Listing.refuses c.args.listing.now f cause) same refused in
-            inr (inr (open_of (arc_value c.in_ok-unpacked.unpacked), cause, opened_so (packet_fields c.args.frame) (arc_value c.in_ok-unpacked.unpacked) c.in_ok-unpacked.ensures.unpacked c.in_ok-unpacked.ensures.meta, is, h.0, h.1))
+            let h = subst (λ (f : OpenFrame). (is_within c.args.indices f.meta.frame_index ≡ true)
+            × g.L.Listing.refuses c.args.listing.now f cause) same refused in
+            inr (inr (
+              open_of (arc_value c.in_ok-unpacked.unpacked),
+              cause,
+              opened_so (packet_fields c.args.frame)
+                  (arc_value c.in_ok-unpacked.unpacked) c.in_ok-unpacked.ensures.unpacked c.in_ok-unpacked.ensures.meta,
+              is,
+              h.0,
+              h.1,
+            ))
       ]
     ])

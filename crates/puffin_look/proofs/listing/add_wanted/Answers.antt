@@ -8,7 +8,13 @@ use Rattle.puffin_look.proofs.listing.add_wanted.Goals as goal
 pub returns-then-is_within-clause-ok : goal.returns-then-is_within-clause-ok
 returns-then-is_within-clause-ok g c =
     on_ok_weaker c.add.result
-    (λ h. (h.0, h.1, subst (λ (fs : List OpenFrame). g.L.Listing.takes c.args.listing.now fs h.0 c.add.new.self) (one_left_in c.args.indices (open_of c.args.frame.now) (sym c.is_within.ensures ∙ c.if-is_within.true)) h.2)) c.add.ensures.ok
+    (λ h. (
+      h.0,
+      h.1,
+      subst (λ (fs : List OpenFrame). g.L.Listing.takes c.args.listing.now fs h.0 c.add.new.self)
+          (one_left_in c.args.indices (open_of c.args.frame.now) (sym c.is_within.ensures ∙ c.if-is_within.true)) h.2,
+    ))
+    c.add.ensures.ok
 
 pub returns-then-is_within-clause-err : goal.returns-then-is_within-clause-err
 returns-then-is_within-clause-err g c =
@@ -22,5 +28,7 @@ pub returns-else-is_within-clause-ok : goal.returns-else-is_within-clause-ok
 returns-else-is_within-clause-ok g c = (
   [],
   sym (append-nil (g.L.Listing.text c.args.listing.now)),
-  subst (λ (fs : List OpenFrame). g.L.Listing.takes c.args.listing.now fs [] c.args.listing.now) (none_left_in c.args.indices (open_of c.args.frame.now) (sym c.is_within.ensures ∙ c.if-is_within.false)) (g.met.L.Listing.takes_none c.args.listing.now),
+  subst (λ (fs : List OpenFrame). g.L.Listing.takes c.args.listing.now fs [] c.args.listing.now)
+      (none_left_in c.args.indices (open_of c.args.frame.now)
+      (sym c.is_within.ensures ∙ c.if-is_within.false)) (g.met.L.Listing.takes_none c.args.listing.now),
 )

@@ -1,3 +1,4 @@
+-- The frames so far were listed; where listing stops, and why.
 use Rattle.std.proofs.Common.{List, [], ◌∷◌, ◌++◌, inr, refl, subst, ◌∙◌, arith, length-append}
 use Rattle.std.proofs.lemmas.Result.{err_from_is_err_and}
 use Rattle.puffin_frames.specs.Packet.Stored.{Stored}
@@ -9,33 +10,37 @@ use Rattle.puffin_look.proofs.listing.list_behind.Goals as goal
 pub returns-in_err-write_all-clause-err : goal.returns-in_err-write_all-clause-err
 returns-in_err-write_all-clause-err g c =
     let p = err_from_is_err_and c.from_residual.result c.from_residual.ensures.1 in
-    rw (p.1, p.2) (λ unread begun. head_cut g.L.Listing.text g.L.Listing.takes c.args.indices g.L.Listing.refuses c.args.listing.now _ _ _ _ _ _ (g.met.L.Listing.takes_none c.args.listing.now) c.pending.ensures c.in_err-write_all.ensures.io.0 c.in_err-write_all.ensures.err)
+    rw (p.1, p.2) (λ unread begun. head_cut g.L.Listing.text g.L.Listing.takes c.args.indices g.L.Listing.refuses
+    c.args.listing.now _ _ _ _ _ _ (g.met.L.Listing.takes_none c.args.listing.now) c.pending.ensures
+    c.in_err-write_all.ensures.io.0 c.in_err-write_all.ensures.err)
 
 pub frames-init : goal.frames-init
-frames-init g c = (
-  [],
-  [],
-  λ unread begun. listing_begun g.L.Listing.text g.L.Listing.takes c.args.indices g.met.L.Listing.takes_more c.args.listing.now c.clear.new.self _ _ _ _ _ begun c.pending.ensures c.in_ok-write_all.ensures.ok c.clear.ensures.text c.clear.ensures.same,
-  refl,
-  refl,
-  c.in_ok-write_all.ensures.failures,
-)
+frames-init g c = record {
+  stored = [];
+  more = [];
+  listing = λ unread begun. listing_begun g.L.Listing.text g.L.Listing.takes c.args.indices g.met.L.Listing.takes_more c.args.listing.now
+      c.clear.new.self _ _ _ _ _ begun c.pending.ensures c.in_ok-write_all.ensures.ok c.clear.ensures.text c.clear.ensures.same;
+  count = refl;
+  reads = refl;
+  writes = c.in_ok-write_all.ensures.failures;
+}
 
 pub returns-in_err-frame-clause-err : goal.returns-in_err-frame-clause-err
 returns-in_err-frame-clause-err g c =
     let p = err_from_is_err_and c.from_residual-in_err-frame.result c.from_residual-in_err-frame.ensures.1 in
     let before = c.frames.invariant in
-    rw (p.1, p.2) (λ unread begun. not_read g.L.Listing.text g.L.Listing.takes c.args.indices g.L.Listing.refuses c.args.listing.now c.frames.listing _ _ _ _ _ before.0 before.1 _ (before.2 unread begun) c.in_err-frame.ensures.next)
+    rw (p.1, p.2) (λ unread begun. not_read g.L.Listing.text g.L.Listing.takes c.args.indices g.L.Listing.refuses
+    c.args.listing.now c.frames.listing _ _ _ _ _ before.stored before.more _ (before.listing unread begun) c.in_err-frame.ensures.next)
 
 pub returns-in_default-clause-ok : goal.returns-in_default-clause-ok
 returns-in_default-clause-ok g c = λ unread begun.
     let before = c.frames.invariant in
-    let h = before.2 unread begun in
+    let h = before.listing unread begun in
     record {
-      stored = before.0;
-      took = (rw c.in_default.is at c.in_ok-frame.ensures.end) _ before.0 h.given (omega (arith, before.3, c.frames-test.true));
+      stored = before.stored;
+      took = (rw c.in_default.is at c.in_ok-frame.ensures.end) _ before.stored h.given (omega (arith, before.count, c.frames-test.true));
       begins = inr (_, h.given);
-      more = before.1;
+      more = before.more;
       listed = h.listed;
       none_left = h.none_left;
       written = h.written;
@@ -47,11 +52,13 @@ returns-in_err-add_frame-clause-err g c =
     let before = c.frames.invariant in
     let frame = c.in-Some.frame in
     let fresh = opened_fresh frame (rw c.in-Some.is at c.in_ok-frame.ensures.fresh) in
-    let fails = subst (λ r. FailsToAdd g.L.Listing.refuses c.args.indices c.frames.listing c.add_frame.new.listing r c.in_err-add_frame.field-0.0) fresh c.in_err-add_frame.ensures.err in
+    let fails = subst (λ r. FailsToAdd g.L.Listing.refuses c.args.indices c.frames.listing c.add_frame.new.listing r
+    c.in_err-add_frame.field-0.0) fresh c.in_err-add_frame.ensures.err in
     rw (p.1, p.2) (λ unread begun.
-    let h = before.2 unread begun in
-    let given = (rw c.in-Some.is at c.in_ok-frame.ensures.given) _ before.0 h.given in
-    not_added g.L.Listing.text g.L.Listing.takes c.args.indices g.L.Listing.refuses c.args.listing.now c.frames.listing c.add_frame.new.listing _ _ _ _ _ before.0 (stored_of frame) before.1 c.in_err-add_frame.field-0.0 h given fails)
+    let h = before.listing unread begun in
+    let given = (rw c.in-Some.is at c.in_ok-frame.ensures.given) _ before.stored h.given in
+    not_added g.L.Listing.text g.L.Listing.takes c.args.indices g.L.Listing.refuses c.args.listing.now c.frames.listing
+    c.add_frame.new.listing _ _ _ _ _ before.stored (stored_of frame) before.more c.in_err-add_frame.field-0.0 h given fails)
 
 pub returns-in_err-write_all-2-clause-err : goal.returns-in_err-write_all-2-clause-err
 returns-in_err-write_all-2-clause-err g c =
@@ -59,11 +66,15 @@ returns-in_err-write_all-2-clause-err g c =
     let before = c.frames.invariant in
     let frame = c.in-Some.frame in
     let fresh = opened_fresh frame (rw c.in-Some.is at c.in_ok-frame.ensures.fresh) in
-    let added = subst (λ r. AddsFrame g.L.Listing.text g.L.Listing.takes c.args.indices c.frames.listing c.add_frame.new.listing r) fresh c.in_ok-add_frame.ensures.ok in
+    let added = subst
+    (λ r. AddsFrame g.L.Listing.text g.L.Listing.takes c.args.indices c.frames.listing c.add_frame.new.listing r) fresh
+    c.in_ok-add_frame.ensures.ok in
     rw (p.1, p.2) (λ unread begun.
-    let h = before.2 unread begun in
-    let given = (rw c.in-Some.is at c.in_ok-frame.ensures.given) _ before.0 h.given in
-    frame_cut g.L.Listing.text g.L.Listing.takes c.args.indices g.met.L.Listing.takes_more g.L.Listing.refuses c.args.listing.now c.frames.listing c.add_frame.new.listing _ _ _ _ _ _ before.0 (stored_of frame) before.1 _ _ h given added c.pending-in-frames.ensures c.in_err-write_all-2.ensures.io.0 c.in_err-write_all-2.ensures.err)
+    let h = before.listing unread begun in
+    let given = (rw c.in-Some.is at c.in_ok-frame.ensures.given) _ before.stored h.given in
+    frame_cut g.L.Listing.text g.L.Listing.takes c.args.indices g.met.L.Listing.takes_more g.L.Listing.refuses c.args.listing.now
+    c.frames.listing c.add_frame.new.listing _ _ _ _ _ _ before.stored (stored_of frame) before.more _ _ h given added
+    c.pending-in-frames.ensures c.in_err-write_all-2.ensures.io.0 c.in_err-write_all-2.ensures.err)
 
 pub frames-preserved : goal.frames-preserved
 frames-preserved g c =
@@ -71,19 +82,25 @@ frames-preserved g c =
     let frame = c.in-Some.frame in
     let one : List Stored = stored_of frame ∷ [] in
     let fresh = opened_fresh frame (rw c.in-Some.is at c.in_ok-frame.ensures.fresh) in
-    let added = subst (λ r. AddsFrame g.L.Listing.text g.L.Listing.takes c.args.indices c.frames.listing c.add_frame.new.listing r) fresh c.in_ok-add_frame.ensures.ok in (
-      before.0 ++ one,
-      before.1 ++ added.more,
-      λ unread begun.
-          let h = before.2 unread begun in
-          let given = (rw c.in-Some.is at c.in_ok-frame.ensures.given) _ before.0 h.given in
-          goes_on g.L.Listing.text g.L.Listing.takes c.args.indices g.met.L.Listing.takes_more c.args.listing.now c.frames.listing c.add_frame.new.listing c.clear-in-frames.new.self _ _ _ _ _ _ before.0 (stored_of frame) before.1 _ h given added c.pending-in-frames.ensures c.in_ok-write_all-2.ensures.ok c.clear-in-frames.ensures.text c.clear-in-frames.ensures.same,
-      omega (arith, length-append before.0 one, before.3),
-      c.in_ok-frame.ensures.failures ∙ before.4,
-      c.in_ok-write_all-2.ensures.failures ∙ before.5,
-    )
+    let added = subst
+    (λ r. AddsFrame g.L.Listing.text g.L.Listing.takes c.args.indices c.frames.listing c.add_frame.new.listing r) fresh
+    c.in_ok-add_frame.ensures.ok in record {
+      stored = before.stored ++ one;
+      more = before.more ++ added.more;
+      listing = λ unread begun.
+          let h = before.listing unread begun in
+          let given = (rw c.in-Some.is at c.in_ok-frame.ensures.given) _ before.stored h.given in
+          goes_on g.L.Listing.text g.L.Listing.takes c.args.indices g.met.L.Listing.takes_more c.args.listing.now c.frames.listing
+          c.add_frame.new.listing c.clear-in-frames.new.self _ _ _ _ _ _ before.stored (stored_of frame) before.more _ h given added
+          c.pending-in-frames.ensures c.in_ok-write_all-2.ensures.ok c.clear-in-frames.ensures.text
+          c.clear-in-frames.ensures.same;
+      count = omega (arith, length-append before.stored one, before.count);
+      reads = c.in_ok-frame.ensures.failures ∙ before.reads;
+      writes = c.in_ok-write_all-2.ensures.failures ∙ before.writes;
+    }
 
 pub returns-clause-err : goal.returns-clause-err
 returns-clause-err g c =
     let before = c.frames.invariant in
-    λ unread begun. too_many g.L.Listing.text g.L.Listing.takes c.args.indices g.L.Listing.refuses c.args.listing.now c.frames.listing _ _ _ _ before.0 before.1 (before.2 unread begun) (omega (arith, before.3, c.frames-test.false))
+    λ unread begun. too_many g.L.Listing.text g.L.Listing.takes c.args.indices g.L.Listing.refuses c.args.listing.now
+    c.frames.listing _ _ _ _ before.stored before.more (before.listing unread begun) (omega (arith, before.count, c.frames-test.false))

@@ -6,8 +6,13 @@ use Rattle.puffin_look.proofs.Listed.{IsListing}
 use Rattle.puffin_look.proofs.listing.list_behind.Given as goal
 
 abbrev pub invariant-frames : goal.invariant-frames
-invariant-frames g l =
-    (stored : List Stored) × (more : List ℕ)
-    × ((unread : Option (List ℕ)) → HasGiven unread (g.S.Source.remaining l.fn.source) [] → IsListing g.L.Listing.text g.L.Listing.takes l.indices l.fn.listing l.listing unread (g.S.Source.remaining l.source) (g.D.Drain.contents l.fn.drain) (g.D.Drain.contents l.drain) stored more)
-    × (length stored ≡ l.counter)
-    × (g.S.Source.failures l.source ≡ g.S.Source.failures l.fn.source) × (g.D.Drain.failures l.drain ≡ g.D.Drain.failures l.fn.drain)
+invariant-frames g l = record {
+  stored : List Stored;
+  more : List ℕ;
+  listing : (unread : Option (List ℕ)) → HasGiven unread (g.S.Source.remaining l.fn.source) []
+      → IsListing g.L.Listing.text g.L.Listing.takes l.indices l.fn.listing l.listing unread (g.S.Source.remaining l.source)
+      (g.D.Drain.contents l.fn.drain) (g.D.Drain.contents l.drain) stored more;
+  count : length stored ≡ l.counter;
+  reads : g.S.Source.failures l.source ≡ g.S.Source.failures l.fn.source;
+  writes : g.D.Drain.failures l.drain ≡ g.D.Drain.failures l.fn.drain;
+}

@@ -1,3 +1,4 @@
+-- The digits are a number of JSON.
 use Rattle.std.proofs.Common.{◌/◌, ◌≤◌, ◌^◌, subst, sym, ◌∙◌, rules}
 use Rattle.json.specs.Print.{IsNumber}
 use Rattle.puffin_look.proofs.JsonNumbers.{hundredths_number}

@@ -7,5 +7,6 @@ use Rattle.puffin_look.proofs.objects.push_members.Given as goal
 
 abbrev pub invariant-loop-cell : goal.invariant-loop-cell
 invariant-loop-cell l =
-    (l.writer.tokens ++ flat_map member_tokens (map cell_of (drop l.cell-index l.cells)) ≡ l.initial.writer.tokens ++ flat_map member_tokens (map cell_of l.cells))
+    (l.writer.tokens ++ flat_map member_tokens (map cell_of (drop l.cell-index l.cells)) ≡ l.initial.writer.tokens
+    ++ flat_map member_tokens (map cell_of l.cells))
     × (l.writer.before ≡ l.initial.writer.before)

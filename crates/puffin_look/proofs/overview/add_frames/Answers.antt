@@ -15,23 +15,23 @@ pub returns-in_err-frame-clause-read : goal.returns-in_err-frame-clause-read
 returns-in_err-frame-clause-read g c =
     let p = err_from_is_err_and c.from_residual-in_err-frame.result c.from_residual-in_err-frame.ensures.1 in
     let before = c.frames.invariant in
-    rw (p.1, p.2) (inr (stops_at _ _ _ _ before.0 before.1 before.2 _ c.in_err-frame.ensures.next))
+    rw (p.1, p.2) (inr (stops_at _ _ _ _ before.stored before.given before.read _ c.in_err-frame.ensures.next))
 
 pub frames-preserved : goal.frames-preserved
 frames-preserved g c =
     let before = c.frames.invariant in
     let frame = c.in-Some.frame in
     let one : List Stored = stored_of frame ∷ [] in
-    let given = (rw c.in-Some.is at c.in_ok-frame.ensures.given) _ before.0 before.1 in
-    let fresh = rw c.in-Some.is at c.in_ok-frame.ensures.fresh in (
-      before.0 ++ one,
-      given,
-      overview_more _ _ frame before.0 fresh before.2 c.in_ok-add.ensures.ok,
-      omega (arith, length-append before.0 one, before.3),
-      c.in_ok-frame.ensures.failures ∙ before.4,
-    )
+    let given = (rw c.in-Some.is at c.in_ok-frame.ensures.given) _ before.stored before.given in
+    let fresh = rw c.in-Some.is at c.in_ok-frame.ensures.fresh in record {
+      stored = before.stored ++ one;
+      given = given;
+      read = overview_more _ _ frame before.stored fresh before.read c.in_ok-add.ensures.ok;
+      count = omega (arith, length-append before.stored one, before.count);
+      failures = c.in_ok-frame.ensures.failures ∙ before.failures;
+    }
 
 pub returns-clause-read : goal.returns-clause-read
 returns-clause-read g c =
     let before = c.frames.invariant in
-    inr (too_many _ _ _ _ before.0 before.1 before.2 (omega (arith, before.3, c.frames-test.false)))
+    inr (too_many _ _ _ _ before.stored before.given before.read (omega (arith, before.count, c.frames-test.false)))

@@ -6,9 +6,10 @@ use Rattle.puffin_look.specs.FirstReading.{overview_of}
 use Rattle.puffin_look.proofs.overview.add_frames.Given as goal
 
 abbrev pub invariant-frames : goal.invariant-frames
-invariant-frames g l =
-    (stored : List Stored)
-    × HasGiven (g.S.Source.remaining l.fn.source) (g.S.Source.remaining l.source) stored
-    × (l.overview ≡ overview_of stored)
-    × (length stored ≡ l.counter)
-    × (g.S.Source.failures l.source ≡ g.S.Source.failures l.fn.source)
+invariant-frames g l = record {
+  stored : List Stored;
+  given : HasGiven (g.S.Source.remaining l.fn.source) (g.S.Source.remaining l.source) stored;
+  read : l.overview ≡ overview_of stored;
+  count : length stored ≡ l.counter;
+  failures : g.S.Source.failures l.source ≡ g.S.Source.failures l.fn.source;
+}

@@ -17,17 +17,23 @@ details-init c =
     let es = c.scopes_by_id.result.now.entries in
     let same : c.into_iter-details-iterator.result ≡ es = search rules in
     let sorted : IsStrictlySortedBy nat_cmp (keys_of es) = search rules in
-    let all : values c.args.known.now.by_id ≡ shared_details (values_of es) = ap values (sym c.scopes_by_id.ensures.details) ∙ values_held es sorted in
-    ap (λ (t : List ℕ). t ++ flat_map details_element (shared_details (values_of c.into_iter-details-iterator.result))) c.new-text.ensures.items
+    let all : values c.args.known.now.by_id ≡ shared_details (values_of es) = ap values (sym c.scopes_by_id.ensures.details)
+    ∙ values_held es sorted in
+    ap (λ (t : List ℕ). t ++ flat_map details_element (shared_details (values_of c.into_iter-details-iterator.result)))
+    c.new-text.ensures.items
     ∙ ap (λ es. flat_map details_element (shared_details (values_of es))) same
     ∙ ap (λ (ds : List Details). flat_map details_element ds) (sym all)
 
 pub details-preserved : goal.details-preserved
 details-preserved c =
     let left = rest_more deref_pair _ _ _ _ c.in-Some.is c.next.ensures.steps in
-    let json = c.deref-in-details.ensures.value ∙ c.in_ok-push_details.ensures ∙ (λ i. c.new-json.ensures.items i ++ details_json (details_of (c.deref.ensures i))) in
-    details_more _ _ _ _ _ _ left (c.in_ok-push_element.ensures ∙ ap (λ (t : List ℕ). c.details.text.items ++ element (codes "details") t) json) c.details.invariant
+    let json = c.deref-in-details.ensures.value ∙ c.in_ok-push_details.ensures
+    ∙ (λ i. c.new-json.ensures.items i ++ details_json (details_of (c.deref.ensures i))) in
+    details_more _ _ _ _ _ _ left (c.in_ok-push_element.ensures
+    ∙ ap (λ (t : List ℕ). c.details.text.items ++ element (codes "details") t) json) c.details.invariant
 
 pub returns : goal.returns
 returns c =
-    sym (append-nil c.details.text.items) ∙ ap (λ es. c.details.text.items ++ flat_map details_element (shared_details (values_of es))) (sym c.in-None.ensures.steps.0) ∙ c.details.invariant
+    sym (append-nil c.details.text.items)
+    ∙ ap (λ es. c.details.text.items ++ flat_map details_element (shared_details (values_of es)))
+    (sym c.in-None.ensures.steps.0) ∙ c.details.invariant

@@ -22,12 +22,15 @@ pub streams-init : goal.streams-init
 streams-init c =
     let same : c.into_iter-thread-iterator.result ≡ c.args.frame.now.thread_streams.entries = search rules in
     let head = c.in_ok-push_head.ensures ∙ ap (λ (t : List ℕ). t ++ head_json c.args.frame.now.meta) c.new.ensures.items in
-    making_at c.args.frame.now.meta _ _ _ head (to_z-of_z w64 c.args.frame.now.meta.range_ns.0 (omega (arith, ints))) (ap (map entry_of) same)
+    making_at c.args.frame.now.meta
+    _ _ _ head (to_z-of_z w64 c.args.frame.now.meta.range_ns.0 (omega (arith, ints))) (ap (map entry_of) same)
 
 pub streams-preserved : goal.streams-preserved
 streams-preserved c =
     let left = ap (map entry_of) (rest_more deref_pair _ _ _ _ c.in-Some.is c.next.ensures.steps) in
-    let h = subst (λ (r : StreamFacts). (f : Forest) × Spells r.form r.bytes f × HasMoreRows c.streams.rows c.add_stream.new.self (thread_json c.streams.rows.begin (key_of c.in-Some.thread.now, f))) (ap facts_of c.deref.ensures) c.in_ok-add_stream.ensures.ok in
+    let h = subst (λ (r : StreamFacts). (f : Forest) × Spells r.form r.bytes f × HasMoreRows c.streams.rows c.add_stream.new.self
+    (thread_json c.streams.rows.begin (key_of c.in-Some.thread.now, f))) (ap facts_of c.deref.ensures)
+    c.in_ok-add_stream.ensures.ok in
     making_more c.args.frame.now.meta _ _ _ _ _ _ h.0 left c.streams.invariant h.1 h.2
 
 pub returns-in_err-add_stream-clause-err : goal.returns-in_err-add_stream-clause-err
@@ -38,10 +41,13 @@ returns-in_err-add_stream-clause-err c =
     let fault_of = subst (λ (r : StreamFacts). IsFault r.form r.bytes c.in_err-add_stream.field-0.0) (ap facts_of c.deref.ensures) in
     rw (p.1, p.2) (elim (c.in_err-add_stream.ensures.err) [
       | inl memory ↦ inl memory
-      | inr fault ↦ inr (subst (λ (es : List Entry). AreUnread es c.in_err-add_stream.field-0.0) (sym (entries_held c.args.frame.now.thread_streams.entries sorted)) (making_unread c.args.frame.now.meta _ _ _ _ _ _ left c.streams.invariant (fault_of fault)))
+      | inr fault ↦ inr (subst (λ (es : List Entry). AreUnread es c.in_err-add_stream.field-0.0)
+          (sym (entries_held c.args.frame.now.thread_streams.entries sorted))
+          (making_unread c.args.frame.now.meta _ _ _ _ _ _ left c.streams.invariant (fault_of fault)))
     ])
 
 pub returns-clause-ok : goal.returns-clause-ok
 returns-clause-ok c =
     let sorted : IsStrictlySortedBy thread_cmp (keys_of c.args.frame.now.thread_streams.entries) = search rules in
-    frame_made c.args.frame.now.meta _ _ _ _ _ (ap (map entry_of) c.in-None.ensures.steps.0) c.streams.invariant (entries_held c.args.frame.now.thread_streams.entries sorted) c.in_ok-extend_from_slice.ensures.items
+    frame_made c.args.frame.now.meta _ _ _ _ _ (ap (map entry_of) c.in-None.ensures.steps.0) c.streams.invariant
+    (entries_held c.args.frame.now.thread_streams.entries sorted) c.in_ok-extend_from_slice.ensures.items

@@ -12,8 +12,12 @@ returns-in_err-details_text-clause-err g c =
 
 pub returns-clause-ok : goal.returns-clause-ok
 returns-clause-ok g c =
-    on_ok_weaker c.list_frames.result (page_printed _ _ c.args.overview.now.details c.args.frames.now c.in_ok-details_text.ensures refl _ _ _ _) c.list_frames.ensures.ok
+    on_ok_weaker c.list_frames.result
+    (page_printed _ _ c.args.overview.now.details c.args.frames.now c.in_ok-details_text.ensures refl
+    _ _ _ _) c.list_frames.ensures.ok
 
 pub returns-clause-err : goal.returns-clause-err
 returns-clause-err g c =
-    if_err_so c.list_frames.result (λ e h. page_stopped _ _ c.args.overview.now.details c.args.frames.now c.in_ok-details_text.ensures refl _ _ _ _ e h) c.list_frames.ensures.err
+    if_err_so c.list_frames.result
+    (λ e h. page_stopped _ _ c.args.overview.now.details c.args.frames.now c.in_ok-details_text.ensures refl _ _ _ _ e h)
+    c.list_frames.ensures.err

@@ -16,5 +16,7 @@ returns c =
     let file : c.as_str-2.result.now ≡ d.file_path = search rules in
     let named = c.in_ok-push_member.ensures ∙ ap (λ (t : List ℕ). c.push_id.new.text.items ++ (codes "," ++ quoted t)) name in
     let placed = c.in_ok-push_member-2.ensures ∙ ap (λ (t : List ℕ). c.push_member.new.text.items ++ (codes "," ++ quoted t)) file in
-    on_ok_weaker c.extend_from_slice-2.result (pushed6 _ _ _ _ _ _ _ _ _ _ _ _ _ c.in_ok-extend_from_slice.ensures.items id named placed c.in_ok-push_count.ensures)
-    (appended_if c.extend_from_slice-2.result c.extend_from_slice-2.new.self.items c.push_count.new.text.items (codes "]") c.extend_from_slice-2.ensures.items)
+    on_ok_weaker c.extend_from_slice-2.result
+    (pushed6 _ _ _ _ _ _ _ _ _ _ _ _ _ c.in_ok-extend_from_slice.ensures.items id named placed c.in_ok-push_count.ensures)
+    (appended_if c.extend_from_slice-2.result c.extend_from_slice-2.new.self.items c.push_count.new.text.items
+    (codes "]") c.extend_from_slice-2.ensures.items)

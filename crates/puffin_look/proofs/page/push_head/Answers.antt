@@ -13,4 +13,5 @@ returns c =
     let first = c.in_ok-push_moment.ensures ∙ (λ i. c.push_count.new.text.items ++ (codes ",\"" ++ signed_decimal (start i))) in
     let last = c.in_ok-push_moment-2.ensures ∙ (λ i. c.push_moment.new.text.items ++ (codes "\",\"" ++ signed_decimal (stop i))) in
     on_ok_weaker c.extend_from_slice.result (pushed4 _ _ _ _ _ _ _ _ _ c.in_ok-push_count.ensures first last)
-    (appended_if c.extend_from_slice.result c.extend_from_slice.new.self.items c.push_moment-2.new.text.items (codes "\"") c.extend_from_slice.ensures.items)
+    (appended_if c.extend_from_slice.result c.extend_from_slice.new.self.items c.push_moment-2.new.text.items
+    (codes "\"") c.extend_from_slice.ensures.items)

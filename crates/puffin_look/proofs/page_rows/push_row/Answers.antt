@@ -11,7 +11,11 @@ use Rattle.puffin_look.proofs.page_rows.push_row.Goals as goal
 pub returns : goal.returns
 returns c =
     let begin = to_z-of_z w64 c.args.begin c.ranges.begin in
-    let times = c.in_ok-push_times.ensures ∙ (λ i. c.push_count-2.new.text.items ++ times_json (begin i) (found_of c.args.scope.now).span) in
-    let text = c.in_ok-push_member.ensures ∙ ap (λ (t : List ℕ). c.push_times.new.text.items ++ (codes "," ++ quoted t)) c.text_of.ensures in
-    on_ok_weaker c.extend_from_slice.result (pushed5 _ _ _ _ _ _ _ _ _ _ _ c.in_ok-push_count.ensures c.in_ok-push_count-2.ensures times text)
-    (appended_if c.extend_from_slice.result c.extend_from_slice.new.self.items c.push_member.new.text.items (codes "]") c.extend_from_slice.ensures.items)
+    let times = c.in_ok-push_times.ensures
+    ∙ (λ i. c.push_count-2.new.text.items ++ times_json (begin i) (found_of c.args.scope.now).span) in
+    let text = c.in_ok-push_member.ensures
+    ∙ ap (λ (t : List ℕ). c.push_times.new.text.items ++ (codes "," ++ quoted t)) c.text_of.ensures in
+    on_ok_weaker c.extend_from_slice.result
+    (pushed5 _ _ _ _ _ _ _ _ _ _ _ c.in_ok-push_count.ensures c.in_ok-push_count-2.ensures times text)
+    (appended_if c.extend_from_slice.result c.extend_from_slice.new.self.items c.push_member.new.text.items
+    (codes "]") c.extend_from_slice.ensures.items)

@@ -14,7 +14,11 @@ returns c =
     let stop = to_z-of_z w64 c.args.scope.now.stop (omega (arith, ints)) in
     let time = c.abs_diff.ensures ∙ (λ i. unsigned_abs (stop i -ℤ start i)) in
     let offset = c.in_ok-push_difference.ensures ∙ (λ i. c.extend_from_slice.new.self.items ++ signed_decimal (start i -ℤ begin i)) in
-    let first = pushed2 c.args.text.now.items c.extend_from_slice.new.self.items c.push_difference.new.text.items (codes ",") (signed_decimal (c.args.scope.now.start -ℤ c.args.begin)) c.in_ok-extend_from_slice.ensures.items offset in
+    let first = pushed2 c.args.text.now.items c.extend_from_slice.new.self.items c.push_difference.new.text.items (codes ",")
+    (signed_decimal (c.args.scope.now.start -ℤ c.args.begin)) c.in_ok-extend_from_slice.ensures.items offset in
     on_ok_weaker c.push_count.result
-    (λ h. pushed2 c.args.text.now.items c.push_difference.new.text.items c.push_count.new.text.items (codes "," ++ signed_decimal (c.args.scope.now.start -ℤ c.args.begin)) (codes "," ++ decimal (unsigned_abs (c.args.scope.now.stop -ℤ c.args.scope.now.start))) first (h ∙ (λ i. c.push_difference.new.text.items ++ (codes "," ++ decimal (time i)))))
+    (λ h. pushed2 c.args.text.now.items c.push_difference.new.text.items c.push_count.new.text.items
+    (codes "," ++ signed_decimal (c.args.scope.now.start -ℤ c.args.begin)) (codes ","
+    ++ decimal (unsigned_abs (c.args.scope.now.stop -ℤ c.args.scope.now.start))) first
+    (h ∙ (λ i. c.push_difference.new.text.items ++ (codes "," ++ decimal (time i)))))
     c.push_count.ensures

@@ -7,6 +7,8 @@ use Rattle.puffin_look.proofs.quoting.push_escaped.Goals as goal
 
 pub returns : goal.returns
 returns c =
-    let written = quoted_behind _ _ _ _ _ _ c.into_inner.ensures.items (c.string.ensures.room.0 ∙ c.new-writer.ensures.before ∙ c.new.ensures.items) c.new-writer.ensures.tokens c.in_ok-string.ensures.ok in
+    let written = quoted_behind _ _ _ _ _ _ c.into_inner.ensures.items (c.string.ensures.room.0 ∙ c.new-writer.ensures.before
+    ∙ c.new.ensures.items) c.new-writer.ensures.tokens c.in_ok-string.ensures.ok in
     on_ok_weaker c.extend_from_slice.result (λ h. h ∙ ap (λ (t : List ℕ). c.args.text.now.items ++ t) (c.deref.ensures.value ∙ written))
-    (appended_if c.extend_from_slice.result c.extend_from_slice.new.self.items c.args.text.now.items c.deref.result.now c.extend_from_slice.ensures.items)
+    (appended_if c.extend_from_slice.result c.extend_from_slice.new.self.items c.args.text.now.items c.deref.result.now
+    c.extend_from_slice.ensures.items)

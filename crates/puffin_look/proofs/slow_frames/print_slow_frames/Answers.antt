@@ -14,10 +14,21 @@ returns-in_err-list_frames-clause-err g c =
 
 pub returns-clause-ok : goal.returns-clause-ok
 returns-clause-ok g c =
-    let lines = c.deref-2.ensures.value ∙ c.in_ok-text.ensures ∙ ap (λ (rows : List SlowFrame). list_text c.args.form [] (map (λ (row : SlowFrame). row.text.items) rows)) c.deref.ensures.value in
-    on_ok_weaker c.write_all.result (slow_printed _ _ _ _ _ _ c.in_ok-list_frames.ensures.ok c.new.ensures.items c.args.overview.now.details refl _ lines _) c.write_all.ensures.ok
+    let lines = c.deref-2.ensures.value ∙ c.in_ok-text.ensures
+    ∙ ap (λ (rows : List SlowFrame). list_text c.args.form [] (map (λ (row : SlowFrame). row.text.items) rows))
+    c.deref.ensures.value in
+    on_ok_weaker c.write_all.result
+    (slow_printed _ _ _ _ _ _ c.in_ok-list_frames.ensures.ok c.new.ensures.items c.args.overview.now.details refl _ lines _)
+    c.write_all.ensures.ok
 
 pub returns-clause-err : goal.returns-clause-err
 returns-clause-err g c =
-    let lines = c.deref-2.ensures.value ∙ c.in_ok-text.ensures ∙ ap (λ (rows : List SlowFrame). list_text c.args.form [] (map (λ (row : SlowFrame). row.text.items) rows)) c.deref.ensures.value in
-    cut_told _ _ c.write_all.result (λ e io part. inr (io, slow_cut _ _ _ _ _ _ c.in_ok-list_frames.ensures.ok c.new.ensures.items c.args.overview.now.details refl _ lines _ part)) c.write_all.ensures.err c.write_all.ensures.io
+    let lines = c.deref-2.ensures.value ∙ c.in_ok-text.ensures
+    ∙ ap (λ (rows : List SlowFrame). list_text c.args.form [] (map (λ (row : SlowFrame). row.text.items) rows))
+    c.deref.ensures.value in
+    cut_told _ _ c.write_all.result
+    (λ e io part. inr (
+      io,
+      slow_cut _ _ _ _ _ _ c.in_ok-list_frames.ensures.ok c.new.ensures.items c.args.overview.now.details
+          refl _ lines _ part,
+    )) c.write_all.ensures.err c.write_all.ensures.io

@@ -14,9 +14,16 @@ returns-in_err-list_frames-clause-err g c =
 pub returns-clause-ok : goal.returns-clause-ok
 returns-clause-ok g c =
     let lines = c.deref-2.ensures.value ∙ c.in_ok-text.ensures ∙ ap (frame_list c.args.form) c.deref.ensures.value in
-    on_ok_weaker c.write_all.result (slowest_printed _ _ _ _ _ _ c.in_ok-list_frames.ensures.ok c.args.form c.new.ensures.items _ lines _) c.write_all.ensures.ok
+    on_ok_weaker c.write_all.result
+    (slowest_printed _ _ _ _ _ _ c.in_ok-list_frames.ensures.ok c.args.form c.new.ensures.items _ lines _)
+    c.write_all.ensures.ok
 
 pub returns-clause-err : goal.returns-clause-err
 returns-clause-err g c =
     let lines = c.deref-2.ensures.value ∙ c.in_ok-text.ensures ∙ ap (frame_list c.args.form) c.deref.ensures.value in
-    cut_told _ _ c.write_all.result (λ e io part. inr (io, slowest_cut _ _ _ _ _ _ c.in_ok-list_frames.ensures.ok c.args.form c.new.ensures.items _ lines _ part)) c.write_all.ensures.err c.write_all.ensures.io
+    cut_told _ _ c.write_all.result
+    (λ e io part. inr (
+      io,
+      slowest_cut _ _ _ _ _ _ c.in_ok-list_frames.ensures.ok c.args.form c.new.ensures.items
+          _ lines _ part,
+    )) c.write_all.ensures.err c.write_all.ensures.io

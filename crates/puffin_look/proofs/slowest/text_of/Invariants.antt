@@ -1,11 +1,11 @@
 -- The lines so far and those of the rows that are left are all lines.
 use Rattle.std.proofs.Common.{◌++◌, drop, map}
 use Rattle.puffin_look.specs.Forms.{opening, lines_text}
-use Rattle.puffin_look.specs.FrameLines.{frame_line, head_line}
+use Rattle.puffin_look.specs.FrameLines.{frame_line, column_names}
 use Rattle.puffin_look.proofs.Lined.{Lists}
 use Rattle.puffin_look.proofs.slowest.text_of.Given as goal
 
 abbrev pub invariant-loop-row : goal.invariant-loop-row
 invariant-loop-row l =
     Lists l.lines (map (frame_line l.form) (drop l.row-index l.rows))
-    (opening l.form head_line ++ lines_text l.form (map (frame_line l.form) l.rows))
+    (opening l.form column_names ++ lines_text l.form (map (frame_line l.form) l.rows))

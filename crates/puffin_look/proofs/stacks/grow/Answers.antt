@@ -1,3 +1,4 @@
+-- The times of the path at the place have grown, and no others.
 use Rattle.std.proofs.Common.{sym, ap, ◌∙◌}
 use Rattle.std.specs.Option.{option_copied_mut}
 use Rattle.puffin_look.specs.inner.Stacks.{rows_in}
@@ -10,7 +11,8 @@ pub returns-in-Some : goal.returns-in-Some
 returns-in-Some c = λ path at.
     let value = sym c.get_index_mut.ensures.value ∙ ap option_copied_mut c.in-Some.is in
     ap (λ (t : Times). rows_in (set_value_at c.args.rows.now.entries c.args.place t)) c.with.ensures
-    ∙ part_added (record { path = path; whole = c.args.whole; nested = c.args.nested }) c.args.rows.now.entries c.args.place c.in-Some.times.now at value c.get_index_mut.ensures.unique
+    ∙ part_added (record { path = path; whole = c.args.whole; nested = c.args.nested }) c.args.rows.now.entries c.args.place
+    c.in-Some.times.now at value c.get_index_mut.ensures.unique
 
 pub returns-in_default : goal.returns-in_default
 returns-in_default c = λ path at.

@@ -9,10 +9,12 @@ use Rattle.puffin_look.proofs.tallies.place_of.Goals as goal
 
 pub returns-in-Some-clause-rows : goal.returns-in-Some-clause-rows
 returns-in-Some-clause-rows c =
-    sym (row_there (rows_in c.args.rows.now.entries) c.args.name.now c.in-Some.place (place_found c.args.rows.now.entries c.args.name.now c.in-Some.place (sym c.get_index_of.ensures.index ∙ c.in-Some.is)))
+    sym (row_there (rows_in c.args.rows.now.entries) c.args.name.now c.in-Some.place
+    (place_found c.args.rows.now.entries c.args.name.now c.in-Some.place (sym c.get_index_of.ensures.index ∙ c.in-Some.is)))
 
 pub returns-in-Some-clause-place : goal.returns-in-Some-clause-place
-returns-in-Some-clause-place c = place_found c.args.rows.now.entries c.args.name.now c.in-Some.place (sym c.get_index_of.ensures.index ∙ c.in-Some.is)
+returns-in-Some-clause-place c =
+    place_found c.args.rows.now.entries c.args.name.now c.in-Some.place (sym c.get_index_of.ensures.index ∙ c.in-Some.is)
 
 pub returns-clause-rows : goal.returns-clause-rows
 returns-clause-rows c =
@@ -27,5 +29,8 @@ returns-clause-place c =
     let new = sym c.get_index_of.ensures.found ∙ ap is_some c.in_default.is in
     let own = c.in_ok-extend_from_slice.ensures.items ∙ ap (λ (bs : List ℕ). bs ++ c.args.name.now) c.new-own.ensures.items in
     let none = ap (λ (p : List ℕ). lookup (has_path p) c.args.rows.now.entries) own ∙ no_value _ new in
-    ap (λ es. slice_get (keys_of (rows_in es)) c.len-place.result) (c.in_ok-insert.ensures.entries ∙ insert_entry-new same_key c.args.rows.now c.extend_from_slice.new.self c.none.result none)
-    ∙ ap (slice_get (keys_of (rows_in _))) c.len-place.ensures.len ∙ place_added c.args.rows.now.entries c.extend_from_slice.new.self c.none.result c.args.name.now own
+    ap (λ es. slice_get (keys_of (rows_in es)) c.len-place.result)
+    (c.in_ok-insert.ensures.entries
+    ∙ insert_entry-new same_key c.args.rows.now c.extend_from_slice.new.self c.none.result none)
+    ∙ ap (slice_get (keys_of (rows_in _))) c.len-place.ensures.len
+    ∙ place_added c.args.rows.now.entries c.extend_from_slice.new.self c.none.result c.args.name.now own

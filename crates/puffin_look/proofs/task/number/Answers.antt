@@ -1,3 +1,4 @@
+-- The digits are a number of 64 bits, or there is none.
 use Rattle.std.proofs.Common.{lit<, ◌∙◌}
 use Rattle.puffin_look.proofs.Numbers.{number_read, is_not_plus}
 use Rattle.puffin_look.proofs.task.number.Goals as goal

@@ -1,3 +1,4 @@
+-- The threads so far that the word names, and in the end all of them.
 use Rattle.std.proofs.Common.{rules}
 use Rattle.std.specs.Map.{keys_of}
 use Rattle.std.specs.List.Sorted.{IsStrictlySortedBy}

@@ -1,3 +1,4 @@
+-- The lines are those of the threads, one after the other.
 use Rattle.std.proofs.Common.{rules}
 use Rattle.std.proofs.lemmas.Map.Iter.{rest_more}
 use Rattle.std.proofs.lemmas.Result.{IfOk-weaker}
@@ -16,4 +17,6 @@ threads-preserved c =
 pub returns : goal.returns
 returns c =
     let sorted : IsStrictlySortedBy thread_cmp (keys_of c.args.threads.now.totals.entries) = search rules in
-    IfOk-weaker c.closed.result _ _ (λ text is. lines_done c.args.form _ text.items _ _ c.in-None.ensures.steps.0 c.threads.invariant is sorted) c.closed.ensures
+    IfOk-weaker c.closed.result
+    _ _ (λ text is. lines_done c.args.form _ text.items _ _ c.in-None.ensures.steps.0 c.threads.invariant is sorted)
+    c.closed.ensures

@@ -11,4 +11,5 @@ returns-in_err-list_frames-clause-err g c =
 
 pub returns-clause-ok : goal.returns-clause-ok
 returns-clause-ok g c =
-    top_told _ _ _ _ _ _ c.in_ok-list_frames.ensures.ok c.new.ensures.rows c.args.overview.now.details c.new.ensures.known c.args.texts c.new.ensures.texts refl refl _ c.in_ok-rows_of.ensures refl refl
+    top_told _ _ _ _ _ _ c.in_ok-list_frames.ensures.ok c.new.ensures.rows c.args.overview.now.details c.new.ensures.known
+    c.args.texts c.new.ensures.texts refl refl _ c.in_ok-rows_of.ensures refl refl

@@ -1,49 +1,81 @@
 -- What was written is the trace of the frames that were read.
-use Rattle.std.proofs.Common.{ℕ, ◌+◌, inl, inr, refl, ap, sym, ◌∙◌}
+use Rattle.std.proofs.Common.{inr, refl, sym, ◌∙◌}
 use Rattle.std.proofs.lemmas.Result.{err_from_is_err_and, on_ok_weaker}
 use Rattle.puffin_look.proofs.Listed.{if_err_so}
-use Rattle.puffin_look.proofs.ThreadsPrinted.{not_io}
 use Rattle.puffin_look.specs.Trace.{trace_end, IsTrace}
 use Rattle.puffin_look.specs.Trees.{all_streams}
 use Rattle.puffin_look.specs.Wanted.{RefusesUnread}
 use Rattle.puffin_look.specs.inner.Tracings.{TakesTrace, RefusesFrame}
-use Rattle.puffin_look.proofs.Closings.{none_written, no_letters, told_open, told_closed, told_printed, end_cut}
+use Rattle.puffin_look.proofs.Closings.{end_failed, none_written, no_letters, told_open, told_closed, told_printed, end_cut}
 use Rattle.puffin_look.proofs.TracePrinted.{text_in, none_said, closed}
 use Rattle.puffin_look.proofs.trace.print_trace.Goals as goal
 
 pub returns-in_err-trace-clause-err : goal.returns-in_err-trace-clause-err
 returns-in_err-trace-clause-err g c =
     let p = err_from_is_err_and c.from_residual.result c.from_residual.ensures.1 in
-    rw p.1 (none_written (IsTrace c.args.overview.now c.args.indices) (RefusesUnread c.args.indices all_streams) _ (none_said c.args.overview.now c.args.indices) _ _ _ p.0 (inr p.2))
+    rw p.1 (none_written (IsTrace c.args.overview.now c.args.indices)
+    (RefusesUnread c.args.indices all_streams) _ (none_said c.args.overview.now c.args.indices) _ _ _ p.0 (inr p.2))
 
 pub returns-in_err-read_magic-clause-err : goal.returns-in_err-read_magic-clause-err
 returns-in_err-read_magic-clause-err g c =
     let p = err_from_is_err_and c.from_residual-in_err-read_magic.result c.from_residual-in_err-read_magic.ensures.1 in
-    rw (p.1, p.2) (no_letters (IsTrace c.args.overview.now c.args.indices) (RefusesUnread c.args.indices all_streams) _ (none_said c.args.overview.now c.args.indices) _ _ _ _ c.in_err-read_magic.ensures.err)
+    rw (p.1, p.2) (no_letters (IsTrace c.args.overview.now c.args.indices)
+    (RefusesUnread c.args.indices all_streams) _ (none_said c.args.overview.now c.args.indices)
+    _ _ _ _ c.in_err-read_magic.ensures.err)
 
 pub returns-then-fails_outside-clause-err : goal.returns-then-fails_outside-clause-err
 returns-then-fails_outside-clause-err g c =
-    told_open text_in TakesTrace RefusesFrame c.args.indices (IsTrace c.args.overview.now c.args.indices) (RefusesUnread c.args.indices all_streams) trace_end c.in_ok-trace.trace c.list_behind-answer.new.listing (closed c.args.overview.now c.args.indices c.in_ok-trace.trace c.in_ok-trace.ensures.text c.in_ok-trace.ensures.none c.in_ok-trace.ensures.overview) (λ frames more v frame cause taken there refused. (there, refused)) _ _ _ _ _ c.list_behind-answer.result refl (sym c.fails_outside.ensures ∙ c.if-fails_outside.true)
-    (on_ok_weaker c.list_behind-answer.result (λ h. h _ c.in_ok-read_magic.ensures.begun) c.list_behind-answer.ensures.ok, if_err_so c.list_behind-answer.result (λ e h. h _ c.in_ok-read_magic.ensures.begun) c.list_behind-answer.ensures.err)
+    told_open text_in TakesTrace RefusesFrame c.args.indices (IsTrace c.args.overview.now c.args.indices)
+    (RefusesUnread c.args.indices all_streams) trace_end c.in_ok-trace.trace c.list_behind-answer.new.listing
+    (closed c.args.overview.now c.args.indices c.in_ok-trace.trace c.in_ok-trace.ensures.text c.in_ok-trace.ensures.none
+    c.in_ok-trace.ensures.overview)
+    (λ frames more v frame cause taken there refused. (there, refused)) _ _ _ _ _ c.list_behind-answer.result refl
+    (sym c.fails_outside.ensures ∙ c.if-fails_outside.true) (
+      on_ok_weaker c.list_behind-answer.result (λ h. h _ c.in_ok-read_magic.ensures.begun) c.list_behind-answer.ensures.ok,
+      if_err_so c.list_behind-answer.result (λ e h. h _ c.in_ok-read_magic.ensures.begun) c.list_behind-answer.ensures.err,
+    )
 
 pub returns-in_err-write_all-clause-err : goal.returns-in_err-write_all-clause-err
 returns-in_err-write_all-clause-err g c =
     let p = err_from_is_err_and c.from_residual-in_err-write_all.result c.from_residual-in_err-write_all.ensures.1 in
-    rw (p.1, p.2) (end_cut text_in TakesTrace RefusesFrame c.args.indices (IsTrace c.args.overview.now c.args.indices) (RefusesUnread c.args.indices all_streams) trace_end c.in_ok-trace.trace c.list_behind-answer.new.listing (closed c.args.overview.now c.args.indices c.in_ok-trace.trace c.in_ok-trace.ensures.text c.in_ok-trace.ensures.none c.in_ok-trace.ensures.overview) (λ frames more v frame cause taken there refused. (there, refused)) _ _ _ _ _ c.list_behind-answer.result _ (sym c.fails_outside.ensures ∙ c.if-fails_outside.false)
-    (on_ok_weaker c.list_behind-answer.result (λ h. h _ c.in_ok-read_magic.ensures.begun) c.list_behind-answer.ensures.ok, if_err_so c.list_behind-answer.result (λ e h. h _ c.in_ok-read_magic.ensures.begun) c.list_behind-answer.ensures.err) c.in_err-write_all.ensures.io.0 c.in_err-write_all.ensures.err)
+    rw (p.1, p.2) (end_cut text_in TakesTrace RefusesFrame c.args.indices (IsTrace c.args.overview.now c.args.indices)
+    (RefusesUnread c.args.indices all_streams) trace_end c.in_ok-trace.trace c.list_behind-answer.new.listing
+    (closed c.args.overview.now c.args.indices c.in_ok-trace.trace c.in_ok-trace.ensures.text c.in_ok-trace.ensures.none
+    c.in_ok-trace.ensures.overview)
+    (λ frames more v frame cause taken there refused. (there, refused)) _ _ _ _ _ c.list_behind-answer.result
+    _ (sym c.fails_outside.ensures ∙ c.if-fails_outside.false) (
+      on_ok_weaker c.list_behind-answer.result (λ h. h _ c.in_ok-read_magic.ensures.begun) c.list_behind-answer.ensures.ok,
+      if_err_so c.list_behind-answer.result (λ e h. h _ c.in_ok-read_magic.ensures.begun) c.list_behind-answer.ensures.err,
+    )
+    c.in_err-write_all.ensures.io.0 c.in_err-write_all.ensures.err)
 
 pub returns-clause-ok : goal.returns-clause-ok
 returns-clause-ok g c =
-    told_printed text_in TakesTrace RefusesFrame c.args.indices (IsTrace c.args.overview.now c.args.indices) (RefusesUnread c.args.indices all_streams) trace_end c.in_ok-trace.trace c.list_behind-answer.new.listing (closed c.args.overview.now c.args.indices c.in_ok-trace.trace c.in_ok-trace.ensures.text c.in_ok-trace.ensures.none c.in_ok-trace.ensures.overview) (λ frames more v frame cause taken there refused. (there, refused)) _ _ _ _ _ c.list_behind-answer.result (on_ok_weaker c.list_behind-answer.result (λ h. h _ c.in_ok-read_magic.ensures.begun) c.list_behind-answer.ensures.ok, if_err_so c.list_behind-answer.result (λ e h. h _ c.in_ok-read_magic.ensures.begun) c.list_behind-answer.ensures.err) c.in_ok-write_all.ensures.ok
+    told_printed text_in TakesTrace RefusesFrame c.args.indices (IsTrace c.args.overview.now c.args.indices)
+    (RefusesUnread c.args.indices all_streams) trace_end c.in_ok-trace.trace c.list_behind-answer.new.listing
+    (closed c.args.overview.now c.args.indices c.in_ok-trace.trace c.in_ok-trace.ensures.text c.in_ok-trace.ensures.none
+    c.in_ok-trace.ensures.overview)
+    (λ frames more v frame cause taken there refused. (there, refused)) _ _ _ _ _ c.list_behind-answer.result (
+      on_ok_weaker c.list_behind-answer.result (λ h. h _ c.in_ok-read_magic.ensures.begun) c.list_behind-answer.ensures.ok,
+      if_err_so c.list_behind-answer.result (λ e h. h _ c.in_ok-read_magic.ensures.begun) c.list_behind-answer.ensures.err,
+    )
+    c.in_ok-write_all.ensures.ok
 
 pub returns-clause-err : goal.returns-clause-err
 returns-clause-err g c =
-    told_closed text_in TakesTrace RefusesFrame c.args.indices (IsTrace c.args.overview.now c.args.indices) (RefusesUnread c.args.indices all_streams) trace_end c.in_ok-trace.trace c.list_behind-answer.new.listing (closed c.args.overview.now c.args.indices c.in_ok-trace.trace c.in_ok-trace.ensures.text c.in_ok-trace.ensures.none c.in_ok-trace.ensures.overview) (λ frames more v frame cause taken there refused. (there, refused)) _ _ _ _ _ c.list_behind-answer.result (sym c.fails_outside.ensures ∙ c.if-fails_outside.false) (on_ok_weaker c.list_behind-answer.result (λ h. h _ c.in_ok-read_magic.ensures.begun) c.list_behind-answer.ensures.ok, if_err_so c.list_behind-answer.result (λ e h. h _ c.in_ok-read_magic.ensures.begun) c.list_behind-answer.ensures.err) c.in_ok-write_all.ensures.ok
+    told_closed text_in TakesTrace RefusesFrame c.args.indices (IsTrace c.args.overview.now c.args.indices)
+    (RefusesUnread c.args.indices all_streams) trace_end c.in_ok-trace.trace c.list_behind-answer.new.listing
+    (closed c.args.overview.now c.args.indices c.in_ok-trace.trace c.in_ok-trace.ensures.text c.in_ok-trace.ensures.none
+    c.in_ok-trace.ensures.overview)
+    (λ frames more v frame cause taken there refused. (there, refused)) _ _ _ _ _ c.list_behind-answer.result
+    (sym c.fails_outside.ensures
+    ∙ c.if-fails_outside.false) (
+      on_ok_weaker c.list_behind-answer.result
+          (λ h. h _ c.in_ok-read_magic.ensures.begun) c.list_behind-answer.ensures.ok,
+      if_err_so c.list_behind-answer.result
+          (λ e h. h _ c.in_ok-read_magic.ensures.begun) c.list_behind-answer.ensures.err,
+    ) c.in_ok-write_all.ensures.ok
 
 pub returns-in_err-write_all-clause-io : goal.returns-in_err-write_all-clause-io
-returns-in_err-write_all-clause-io g c =
-    let same = c.list_behind-answer.ensures.drained (not_io c.list_behind-answer.result (sym c.fails_outside.ensures ∙ c.if-fails_outside.false)) in
-    λ is. elim (c.in_err-write_all.ensures.io.1) [
-      | inl failed ↦ inr (inl (failed ∙ ap (λ (n : ℕ). n + 1) same))
-      | inr nothing ↦ inr (inr nothing)
-    ]
+returns-in_err-write_all-clause-io g c = λ is. end_failed c.list_behind-answer.result _ _ _
+    (sym c.fails_outside.ensures ∙ c.if-fails_outside.false) c.list_behind-answer.ensures.drained c.in_err-write_all.ensures.io.1

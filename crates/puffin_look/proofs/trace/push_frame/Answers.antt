@@ -13,8 +13,12 @@ returns c =
     let start = to_z-of_z w64 c.args.meta.now.range_ns.0 (omega (arith, ints)) in
     let stop = to_z-of_z w64 c.args.meta.now.range_ns.1 (omega (arith, ints)) in
     let time = c.since.ensures ∙ (λ i. since (origin i) (start i)) in
-    let instant = c.in_ok-push_micros.ensures ∙ (λ i. c.args.text.now.items ++ (codes ",\n{\"ph\":\"i\",\"s\":\"p\",\"pid\":1,\"tid\":0,\"ts\":" ++ thousandths (time i))) in
-    let first = c.in_ok-push_moment.ensures ∙ (λ i. c.push_count.new.text.items ++ (codes "\",\"args\":{\"start\":\"" ++ signed_decimal (start i))) in
+    let instant = c.in_ok-push_micros.ensures
+    ∙ (λ i. c.args.text.now.items
+    ++ (codes ",\n{\"ph\":\"i\",\"s\":\"p\",\"pid\":1,\"tid\":0,\"ts\":" ++ thousandths (time i))) in
+    let first = c.in_ok-push_moment.ensures
+    ∙ (λ i. c.push_count.new.text.items ++ (codes "\",\"args\":{\"start\":\"" ++ signed_decimal (start i))) in
     let last = c.in_ok-push_moment-2.ensures ∙ (λ i. c.push_moment.new.text.items ++ (codes "\",\"stop\":\"" ++ signed_decimal (stop i))) in
     on_ok_weaker c.extend_from_slice.result (pushed5 _ _ _ _ _ _ _ _ _ _ _ instant c.in_ok-push_count.ensures first last)
-    (appended_if c.extend_from_slice.result c.extend_from_slice.new.self.items c.push_moment-2.new.text.items (codes "\"}}") c.extend_from_slice.ensures.items)
+    (appended_if c.extend_from_slice.result c.extend_from_slice.new.self.items c.push_moment-2.new.text.items
+    (codes "\"}}") c.extend_from_slice.ensures.items)

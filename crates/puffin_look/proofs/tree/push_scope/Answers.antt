@@ -1,11 +1,11 @@
 -- The line's parts, one after the other.
-use Rattle.std.proofs.Common.{[], ◌∷◌, ◌++◌, ◌-ℤ◌, ◌∙◌, codes, Some, w64, arith}
+use Rattle.std.proofs.Common.{List, ◌++◌, ◌-ℤ◌, ap, ◌∙◌, w64, arith}
 use Rattle.std.specs.List.{flat_map}
 use Rattle.std.specs.Prelude.{unsigned_abs}
 use Rattle.std.proofs.lemmas.Int.{ints, to_z-of_z}
 use Rattle.std.proofs.lemmas.Result.{on_ok_weaker}
-use Rattle.puffin_look.specs.Cells.{row_cell}
-use Rattle.puffin_look.specs.declared.rows.Value.TheVariants.{Offset, Time, Share}
+use Rattle.puffin_look.specs.Cells.{Cell, row_cell}
+use Rattle.puffin_look.specs.FrameTree.{scope_cells}
 use Rattle.puffin_look.proofs.Pushed.{pushed3}
 use Rattle.puffin_look.proofs.tree.push_scope.Goals as goal
 
@@ -15,5 +15,7 @@ returns-clause-text c =
     let start = to_z-of_z w64 c.args.scope.now.start (omega (arith, ints)) in
     let stop = to_z-of_z w64 c.args.scope.now.stop (omega (arith, ints)) in
     let time = c.abs_diff-time.ensures ∙ (λ i. unsigned_abs (stop i -ℤ start i)) in
-    let cells = c.in_ok-push_cells.ensures ∙ (λ i. c.args.text.now.items ++ flat_map row_cell ((codes "start", Offset (begin i) (start i)) ∷ (codes "duration", Time (Some (time i))) ∷ (codes "share", Share (time i) c.args.outer.time) ∷ [])) in
+    let cells = c.in_ok-push_cells.ensures
+    ∙ ap (λ (cells : List Cell). c.args.text.now.items ++ flat_map row_cell cells)
+    (c.cells_of-cells.ensures ∙ (λ i. scope_cells (begin i) (start i) (time i) c.args.outer.time)) in
     on_ok_weaker c.push_label.result (pushed3 _ _ _ _ _ _ _ cells c.in_ok-extend_from_slice.ensures.items) c.push_label.ensures.text

@@ -1,3 +1,4 @@
+-- Two threads are the same if they have the same key.
 use Rattle.std.proofs.Common.{◌∙◌}
 use Rattle.puffin_threads.specs.Thread.ThreadKey.{key_of}
 use Rattle.puffin_threads.proofs.lemmas.ThreadKeys.{same_parts}

@@ -1,3 +1,4 @@
+-- The counts in front of the place have lower buckets, and those from it on have not.
 use Rattle.std.proofs.Common.{rules, of_calls, ◌≡◌, List, true, false, subst, sym}
 use Rattle.std.specs.Prelude.{nat_lt}
 use Rattle.std.specs.List.Sorted.{IsPartitionPoint, IsNonDecreasingBy}
@@ -12,5 +13,8 @@ returns-clause-point c =
     let all = c.args.self.now.counts.items in
     let same : c.deref.result.now ≡ all = c.deref.ensures.value in
     let sorted : IsNonDecreasingBy by_bucket c.deref.result.now = subst (IsNonDecreasingBy by_bucket) (sym same) c.args.self.now.sorted in
-    let point = c.partition_point.ensures.partitioned (λ (x : Count). nat_lt x.bucket c.args.bucket) (always_returns_same _ _ _ (λ a r f k. search (rules, of_calls))) (IsPartitionedBy-ltb by_bucket c.deref.result.now c.args.bucket sorted) in
-    subst (λ (l : List Count). IsPartitionPoint (λ (x : Count). nat_lt x.bucket c.args.bucket ≡ true) (λ (x : Count). nat_lt x.bucket c.args.bucket ≡ false) l c.partition_point.result) same point
+    let point = c.partition_point.ensures.partitioned (λ (x : Count). nat_lt x.bucket c.args.bucket)
+    (always_returns_same _ _ _ (λ a r f k. search (rules, of_calls))) (IsPartitionedBy-ltb by_bucket c.deref.result.now
+    c.args.bucket sorted) in
+    subst (λ (l : List Count). IsPartitionPoint (λ (x : Count). nat_lt x.bucket c.args.bucket
+    ≡ true) (λ (x : Count). nat_lt x.bucket c.args.bucket ≡ false) l c.partition_point.result) same point

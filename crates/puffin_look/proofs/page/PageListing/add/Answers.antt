@@ -8,7 +8,8 @@ use Rattle.puffin_look.proofs.page.PageListing.add.Goals as goal
 
 pub returns-in_ok-push_element-clause-ok : goal.returns-in_ok-push_element-clause-ok
 returns-in_ok-push_element-clause-ok c =
-    let text = c.in_ok-push_element.ensures ∙ ap (λ (t : List ℕ). c.args.self.now.text.items ++ element (codes "frame") t) c.deref.ensures.value in
+    let text = c.in_ok-push_element.ensures
+    ∙ ap (λ (t : List ℕ). c.args.self.now.text.items ++ element (codes "frame") t) c.deref.ensures.value in
     frame_placed c.args.self.now (open_of c.args.frame.now) _ _ (sym c.has.ensures ∙ c.if-has.true) c.in_ok-json.ensures.ok text refl
 
 pub returns-else-has-clause-ok : goal.returns-else-has-clause-ok

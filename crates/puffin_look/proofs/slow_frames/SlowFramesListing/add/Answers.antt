@@ -9,5 +9,7 @@ pub returns-clause-ok : goal.returns-clause-ok
 returns-clause-ok c = (
   [],
   refl,
-  frame_kept c.args.self.now _ (open_of c.args.frame.now) _ c.in_ok-text.ensures.ok (to_z-of_z w64 c.duration_ns.result (omega (arith, ints)) ∙ c.duration_ns.ensures) c.in_ok-keep.ensures refl refl refl refl,
+  frame_kept c.args.self.now _ (open_of c.args.frame.now)
+      _ c.in_ok-text.ensures.ok (to_z-of_z w64 c.duration_ns.result (omega (arith, ints))
+      ∙ c.duration_ns.ensures) c.in_ok-keep.ensures refl refl refl refl,
 )

@@ -1,3 +1,4 @@
+-- The row of the frame was kept, if it is slow enough.
 use Rattle.std.proofs.Common.{[], take, refl, ap, ◌∙◌}
 use Rattle.puffin_look.specs.Slowest.{with_row}
 use Rattle.puffin_look.specs.declared.frames.FrameRow.{FrameRow}

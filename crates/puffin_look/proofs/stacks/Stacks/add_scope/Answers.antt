@@ -10,9 +10,12 @@ pub returns-in-Some-clause-added : goal.returns-in-Some-clause-added
 returns-in-Some-clause-added c =
     let set = c.in_ok-set_path.ensures in
     let path = c.deref.ensures.value ∙ set.path in
-    let first = c.in_ok-place.ensures.rows ∙ (λ i. with_part (rows_in ((set.rows i).entries)) (record { path = path i; whole = c.args.time; nested = 0 })) in
+    let first = c.in_ok-place.ensures.rows
+    ∙ (λ i. with_part (rows_in ((set.rows i).entries)) (record { path = path i; whole = c.args.time; nested = 0 })) in
     record {
-      rows = scope_nested (rows_of c.args.self.now) (rows_in c.add_time.new.rows.entries) (rows_in c.grow.new.rows.entries) (label c.args.self.now.known.now c.args.id) c.args.time c.args.outer c.in-Some.outer c.in-Some.is c.requires.outer first c.grow.ensures;
+      rows = scope_nested (rows_of c.args.self.now) (rows_in c.add_time.new.rows.entries) (rows_in c.grow.new.rows.entries)
+          (label c.args.self.now.known.now c.args.id) c.args.time c.args.outer c.in-Some.outer c.in-Some.is c.requires.outer first
+          c.grow.ensures;
       known = set.known;
     }
 
@@ -20,6 +23,9 @@ pub returns-in-Some-clause-place : goal.returns-in-Some-clause-place
 returns-in-Some-clause-place c =
     let set = c.in_ok-set_path.ensures in
     let path = c.deref.ensures.value ∙ set.path in
-    let first = c.in_ok-place.ensures.rows ∙ (λ i. with_part (rows_in ((set.rows i).entries)) (record { path = path i; whole = c.args.time; nested = 0 })) in
-    place_nested (rows_of c.args.self.now) (rows_in c.add_time.new.rows.entries) (rows_in c.grow.new.rows.entries) (label c.args.self.now.known.now c.args.id) c.args.time c.args.outer c.in-Some.outer c.in-Some.is c.requires.outer first c.grow.ensures
+    let first = c.in_ok-place.ensures.rows
+    ∙ (λ i. with_part (rows_in ((set.rows i).entries)) (record { path = path i; whole = c.args.time; nested = 0 })) in
+    place_nested (rows_of c.args.self.now) (rows_in c.add_time.new.rows.entries) (rows_in c.grow.new.rows.entries)
+    (label c.args.self.now.known.now c.args.id) c.args.time c.args.outer c.in-Some.outer c.in-Some.is c.requires.outer first
+    c.grow.ensures
     c.in_ok-place.place _ (c.in_ok-place.ensures.place ∙ ap Some path)

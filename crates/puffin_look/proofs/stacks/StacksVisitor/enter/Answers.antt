@@ -11,4 +11,5 @@ returns-clause-ok c = λ around stands.
     let start = to_z-of_z w64 c.args.scope.now.start (omega (arith, ints)) in
     let stop = to_z-of_z w64 c.args.scope.now.stop (omega (arith, ints)) in
     let time = c.abs_diff-time.ensures ∙ (λ i. unsigned_abs (stop i -ℤ start i)) in
-    entered c.args.self.now _ c.args.within c.in_ok-place.place around (found_of c.args.scope.now).span _ time c.in_ok-place.ensures.added c.in_ok-place.ensures.place stands
+    entered c.args.self.now _ c.args.within c.in_ok-place.place around
+    (found_of c.args.scope.now).span _ time c.in_ok-place.ensures.added c.in_ok-place.ensures.place stands

@@ -12,5 +12,7 @@ returns-clause-ok c = λ around stands.
     let stop = to_z-of_z w64 c.args.scope.now.stop (omega (arith, ints)) in
     let time = c.abs_diff-time.ensures ∙ (λ i. unsigned_abs (stop i -ℤ start i)) in
     let set = c.in_ok-set_name.ensures in
-    let more = renamed c.args.self.now c.set_name.new.self c.add_scope.new.self c.args.within _ _ set.rows set.known set.texts set.name c.in_ok-place.ensures.added in
-    entered c.args.self.now c.add_scope.new.self c.args.within c.in_ok-place.place around (found_of c.args.scope.now).span _ time more (c.in_ok-place.ensures.place ∙ ap Some set.name) stands
+    let more = renamed c.args.self.now c.set_name.new.self c.add_scope.new.self c.args.within _ _ set.rows set.known set.texts
+    set.name c.in_ok-place.ensures.added in
+    entered c.args.self.now c.add_scope.new.self c.args.within c.in_ok-place.place around
+    (found_of c.args.scope.now).span _ time more (c.in_ok-place.ensures.place ∙ ap Some set.name) stands

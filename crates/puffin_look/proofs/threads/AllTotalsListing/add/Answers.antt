@@ -1,3 +1,4 @@
+-- The totals are those with the frame.
 use Rattle.std.proofs.Common.{[], refl}
 use Rattle.std.proofs.lemmas.Result.{on_ok_weaker}
 use Rattle.puffin_look.proofs.threads.AllTotalsListing.add.Goals as goal

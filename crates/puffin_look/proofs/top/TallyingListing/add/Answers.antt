@@ -22,7 +22,9 @@ streams-init c =
 pub streams-preserved : goal.streams-preserved
 streams-preserved c =
     let left = ap (map entry_of) (rest_more deref_pair _ _ _ _ c.in-Some.is c.next.ensures.steps) in
-    tallying_more _ _ _ _ _ _ _ left c.streams.invariant (subst (λ (r : StreamFacts). StepsTally c.streams.self c.add_stream.new.self (key_of c.in-Some.thread.now) r) (ap facts_of c.deref.ensures) c.in_ok-add_stream.ensures.ok)
+    tallying_more _ _ _ _ _ _ _ left c.streams.invariant
+    (subst (λ (r : StreamFacts). StepsTally c.streams.self c.add_stream.new.self (key_of c.in-Some.thread.now) r)
+    (ap facts_of c.deref.ensures) c.in_ok-add_stream.ensures.ok)
 
 pub returns-in_err-add_stream-clause-err : goal.returns-in_err-add_stream-clause-err
 returns-in_err-add_stream-clause-err c =
@@ -32,10 +34,15 @@ returns-in_err-add_stream-clause-err c =
     let fault_of = subst (λ (r : StreamFacts). IsFault r.form r.bytes c.in_err-add_stream.field-0.0) (ap facts_of c.deref.ensures) in
     rw (p.1, p.2) (elim (c.in_err-add_stream.ensures.err) [
       | inl memory ↦ inl memory
-      | inr fault ↦ inr (frame_unread c.args.self.now (open_of c.args.frame.now) _ _ (entries_held c.args.frame.now.thread_streams.entries sorted) (tallying_unread _ _ _ _ _ _ _ left c.streams.invariant fault.0 (fault_of fault.1)))
+      | inr fault ↦ inr (frame_unread c.args.self.now
+          (open_of c.args.frame.now) _ _ (entries_held c.args.frame.now.thread_streams.entries sorted)
+          (tallying_unread _ _ _ _ _ _ _ left c.streams.invariant fault.0 (fault_of fault.1)))
     ])
 
 pub returns-clause-ok : goal.returns-clause-ok
 returns-clause-ok c =
     let sorted : IsStrictlySortedBy thread_cmp (keys_of c.args.frame.now.thread_streams.entries) = search rules in
-    frame_tallied c.args.self.now (open_of c.args.frame.now) _ _ _ _ (ap (map entry_of) c.in-None.ensures.steps.0) c.streams.invariant (entries_held c.args.frame.now.thread_streams.entries sorted) refl refl (omega (arith, c.saturating_add-self.ensures, c.length_of.ensures)) (omega (arith, c.saturating_add-self-2.ensures))
+    frame_tallied c.args.self.now
+    (open_of c.args.frame.now) _ _ _ _ (ap (map entry_of) c.in-None.ensures.steps.0) c.streams.invariant
+    (entries_held c.args.frame.now.thread_streams.entries sorted) refl refl
+    (omega (arith, c.saturating_add-self.ensures, c.length_of.ensures)) (omega (arith, c.saturating_add-self-2.ensures))

@@ -13,6 +13,7 @@ returns-clause-ok c =
       record {
         text = c.in_ok-push_thread_event.ensures;
         overview = refl;
-        numbers = thread_inserted c.args.self.now.numbers.entries c.insert.new.self.entries c.in_ok-clone.field-0 c.args.thread.now _ c.in_ok-insert.ensures.entries c.in_ok-clone.ensures.ok;
+        numbers = thread_inserted c.args.self.now.numbers.entries c.insert.new.self.entries c.in_ok-clone.field-0
+            c.args.thread.now _ c.in_ok-insert.ensures.entries c.in_ok-clone.ensures.ok;
       },
     )

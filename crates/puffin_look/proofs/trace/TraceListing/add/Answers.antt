@@ -24,7 +24,9 @@ streams-init c =
 pub streams-preserved : goal.streams-preserved
 streams-preserved c =
     let left = ap (map entry_of) (rest_more deref_pair _ _ _ _ c.in-Some.is c.next.ensures.steps) in
-    tracing_more _ _ _ _ _ _ _ left c.streams.invariant (subst (λ (r : StreamFacts). AddsStream c.streams.self c.add_stream.new.self (key_of c.in-Some.thread.now) r) (ap facts_of c.deref.ensures) c.in_ok-add_stream.ensures.ok)
+    tracing_more _ _ _ _ _ _ _ left c.streams.invariant
+    (subst (λ (r : StreamFacts). AddsStream c.streams.self c.add_stream.new.self (key_of c.in-Some.thread.now) r)
+    (ap facts_of c.deref.ensures) c.in_ok-add_stream.ensures.ok)
 
 pub returns-in_err-add_stream-clause-err : goal.returns-in_err-add_stream-clause-err
 returns-in_err-add_stream-clause-err c =
@@ -34,7 +36,8 @@ returns-in_err-add_stream-clause-err c =
     let fault_of = subst (λ (r : StreamFacts). IsFault r.form r.bytes c.in_err-add_stream.field-0.0) (ap facts_of c.deref.ensures) in
     rw (p.1, p.2) (elim (c.in_err-add_stream.ensures.err) [
       | inl memory ↦ inl memory
-      | inr fault ↦ inr (tracing_unread _ _ _ _ _ _ (open_of c.args.frame.now) _ left c.streams.invariant (entries_held c.args.frame.now.thread_streams.entries sorted) (fault_of fault))
+      | inr fault ↦ inr (tracing_unread _ _ _ _ _ _ (open_of c.args.frame.now) _ left c.streams.invariant
+          (entries_held c.args.frame.now.thread_streams.entries sorted) (fault_of fault))
     ])
 
 pub returns-clause-ok : goal.returns-clause-ok
@@ -42,4 +45,7 @@ returns-clause-ok c =
     let sorted : IsStrictlySortedBy thread_cmp (keys_of c.args.frame.now.thread_streams.entries) = search rules in
     let origin = to_z-of_z w64 c.args.self.now.events.overview.now.start (omega (arith, ints)) in
     let text = c.in_ok-push_frame.ensures ∙ (λ i. c.args.self.now.events.text.items ++ frame_event (origin i) c.args.frame.now.meta) in
-    frame_traced c.args.self.now (record c.args.self.now { events = record c.args.self.now.events { text = c.push_frame.new.text } }) _ (open_of c.args.frame.now) _ _ text refl refl (ap (map entry_of) c.in-None.ensures.steps.0) c.streams.invariant (entries_held c.args.frame.now.thread_streams.entries sorted)
+    frame_traced c.args.self.now
+    (record c.args.self.now { events = record c.args.self.now.events { text = c.push_frame.new.text } })
+    _ (open_of c.args.frame.now) _ _ text refl refl (ap (map entry_of) c.in-None.ensures.steps.0) c.streams.invariant
+    (entries_held c.args.frame.now.thread_streams.entries sorted)

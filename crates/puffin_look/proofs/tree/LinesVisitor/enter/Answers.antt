@@ -19,7 +19,8 @@ returns-clause-ok c = λ around stands.
     let level = stands.level in (
       record {
         text = c.in_ok-push_scope.ensures.text ∙ (λ i. v.text.items ++ nested_line v.known.now (begin i) (stands.level i) (stands.time i) s)
-            ∙ ap (λ (t : List ℕ). v.text.items ++ t) (sym (append-nil (scope_line v.known.now v.range_ns (record { around = around; span = s }))));
+            ∙ ap (λ (t : List ℕ). v.text.items
+            ++ t) (sym (append-nil (scope_line v.known.now v.range_ns (record { around = around; span = s }))));
         known = refl;
         range = refl;
       },
