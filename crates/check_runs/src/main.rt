@@ -7,8 +7,8 @@ use anyhow::{Context, Result};
 use puffin::data::{Buffered, Counted};
 use puffin::global_profiler::GlobalProfiler;
 use puffin::light::{
-    Frames, Place, Program, Records, Rounds, Scopes, Settings, Thread, ThreadCounts, in_rounds,
-    profiled,
+    Frames, Place, Program, Records, Rounds, Scopes, Settings, Thread, ThreadCounts, run_rounds,
+    run_threads,
 };
 use puffin::merge::MergeScope;
 use puffin::profile_view::FrameView;
@@ -126,7 +126,7 @@ fn run<R: AllocGlobal + Clock + Print + Threads + Wait + Copy + Send + Sync>(
     scopes: &Scopes,
     game: &Game,
 ) -> Result<()> {
-    let outcome = in_rounds(rt, names, scopes, &Settings::default(), 3, game)?;
+    let outcome = run_rounds(rt, names, scopes, &Settings::default(), 3, game)?;
     report(&rt, title, names, &outcome.view.lock(&rt))
 }
 
@@ -155,7 +155,7 @@ fn run_untaken<R: AllocGlobal + Clock + Print + Threads + Wait + Copy + Send + S
         max_pending_bytes: 1_000_000,
         ..Settings::default()
     };
-    let outcome = profiled(rt, &["alone"], scopes, &settings, program)?;
+    let outcome = run_threads(rt, &["alone"], scopes, &settings, program)?;
     let ThreadCounts {
         reported,
         unreported,

@@ -1,6 +1,6 @@
 //! Three threads that work in rounds, for a run in which one allocation or the start of one thread is refused.
 
-use puffin::light::{GuardState, Outcome, Place, Records, Rounds, Scopes, Settings, in_rounds};
+use puffin::light::{GuardState, Outcome, Place, Records, Rounds, Scopes, Settings, run_rounds};
 use puffin::{Result, place};
 use std::alloc::Global;
 use std::io;
@@ -103,7 +103,7 @@ pub(crate) fn run<R: AllocGlobal + Clock + Print + Threads + Wait + Copy + Send 
     let Ok((scopes, parts)) = registered(rt.alloc()) else {
         return println!(rt; "parts 0 begun 0 refused").ok();
     };
-    let outcome = in_rounds(
+    let outcome = run_rounds(
         rt,
         &["a", "b", "c"],
         &scopes,

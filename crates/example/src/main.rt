@@ -8,7 +8,7 @@ mod picture;
 use anyhow::{Context, Result};
 use picture::Picture;
 use puffin::data::Counted;
-use puffin::light::{Frames, Place, Program, Records, Scopes, Settings, profiled};
+use puffin::light::{Frames, Place, Program, Records, Scopes, Settings, run_threads};
 use puffin::profile_view::{FrameView, FrameWriter};
 use puffin::{place, profile};
 use std::fs::File;
@@ -83,7 +83,7 @@ fn main(rt: HostRuntime) -> Result<()> {
             Counted::new(File::create(&rt, out.as_str())?),
         )?),
     };
-    let outcome = profiled(rt, &names, &scopes, &Settings::default(), &studio)?;
+    let outcome = run_threads(rt, &names, &scopes, &Settings::default(), &studio)?;
     println!(rt; "steps {}", studio.picture.steps.load(Ordering::Relaxed))?;
     let view = outcome.view.lock(&rt);
     print(&rt, out.as_str(), &view, outcome.settled.handed)

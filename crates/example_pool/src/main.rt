@@ -1,7 +1,7 @@
 //! Four threads answer a hundred requests. Each request is recorded under a name of its own, as if it had a thread of its own.
 #![tactic(auto)]
 
-use puffin::light::{Frames, Place, Pool, Records, Scopes, Settings, pooled, save};
+use puffin::light::{Frames, Place, Pool, Records, Scopes, Settings, run_pool, save};
 use puffin::{place, profile};
 use std::alloc::Global;
 use std::io;
@@ -71,7 +71,7 @@ fn main(rt: HostRuntime) -> anyhow::Result<()> {
         taken: AtomicU64::new(0),
         steps: AtomicUsize::new(0),
     };
-    let outcome = pooled(rt, THREADS, &scopes, &Settings::default(), &server)?;
+    let outcome = run_pool(rt, THREADS, &scopes, &Settings::default(), &server)?;
     let steps = server.steps.load(Ordering::SeqCst);
     println!(rt;
         "steps {steps} scopes handed out {}",

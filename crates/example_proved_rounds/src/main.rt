@@ -5,7 +5,7 @@ ghost use Rattle.std.specs.Prelude.{◌≡◌, IfOk, None, length};
 ghost use Rattle.puffin.specs.Places.{details_in};
 ghost use Rattle.example_proved_rounds.specs.Game.{pace_of, ShowsGame};
 
-use puffin::light::{Outcome, Place, Records, Rounds, Scopes, Settings, in_rounds};
+use puffin::light::{Outcome, Place, Records, Rounds, Scopes, Settings, run_rounds};
 use puffin::{place, profile};
 use std::io;
 use std::rt::Clock;
@@ -68,7 +68,7 @@ fn play<R: AllocGlobal + Threads + Wait + Clock + Copy + Send + Sync>(
         → ShowsGame (length (details_in scopes.now)) game.now outcome) }
 {
     let names = ["north", "east", "south", "west"];
-    in_rounds(rt, &names, scopes, &Settings::default(), 10, game)
+    run_rounds(rt, &names, scopes, &Settings::default(), 10, game)
 }
 
 fn main(rt: HostRuntime) -> anyhow::Result<()> {

@@ -10,7 +10,7 @@ use anyhow::{Context, Result};
 use puffin::data::Counted;
 use puffin::global_profiler::{Emitted, GlobalProfiler};
 use puffin::light::{
-    Frames, Place, Records, Rotation, RotationLimits, Rounds, Scopes, Settings, Thread, in_rounds,
+    Frames, Place, Records, Rotation, RotationLimits, Rounds, Scopes, Settings, Thread, run_rounds,
 };
 use puffin::profile_view::{FrameReader, FrameWriter};
 use puffin::{FileError, place, profile};
@@ -144,7 +144,7 @@ fn main(rt: HostRuntime) -> Result<()> {
         places: Places::new(&mut scopes)?,
         files: Mutex::new(Rotation::new(rt, folder.as_str(), limits)?),
     };
-    let outcome = in_rounds(
+    let outcome = run_rounds(
         rt,
         &["left", "right"],
         &scopes,

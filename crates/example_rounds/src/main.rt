@@ -1,7 +1,7 @@
 //! Four threads work in rounds; a frame is taken after each round.
 #![tactic(auto)]
 
-use puffin::light::{Place, Records, Rounds, Scopes, Settings, in_rounds, save};
+use puffin::light::{Place, Records, Rounds, Scopes, Settings, run_rounds, save};
 use puffin::{place, profile};
 use std::io;
 use std::sync::Wait;
@@ -40,7 +40,7 @@ fn main(rt: HostRuntime) -> anyhow::Result<()> {
         physics: place!(scopes, "update", "physics")?,
     };
     let names = ["north", "east", "south", "west"];
-    let outcome = in_rounds(rt, &names, &scopes, &Settings::default(), 10, &game)?;
+    let outcome = run_rounds(rt, &names, &scopes, &Settings::default(), 10, &game)?;
     let handed = outcome.settled.handed;
     println!(rt; "scopes handed out {handed}")?;
     Ok(save(&rt, "frames.puffin", &outcome.view.lock(&rt))?)

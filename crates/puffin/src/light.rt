@@ -12,10 +12,10 @@
 //! | take a frame of one thread | [`Thread::new_frame`] |
 //! | write frames to a file | [`save`] |
 //! | write each frame as it comes, to files that replace each other | [`Rotation`] |
-//! | profile several threads that work in rounds, with a frame for each round | [`Rounds`], [`in_rounds`] |
-//! | profile several threads, and take frames when you choose | [`Program`], [`profiled`] |
+//! | profile several threads that work in rounds, with a frame for each round | [`Rounds`], [`run_rounds`] |
+//! | profile several threads, and take frames when you choose | [`Program`], [`run_threads`] |
 //! | take frames until all threads have ended | [`Frames::take_until_ended`], [`Frames::wait`] |
-//! | profile a server or a pool, each of whose jobs has a name of its own | [`Pool`], [`pooled`] |
+//! | profile a server or a pool, each of whose jobs has a name of its own | [`Pool`], [`run_pool`] |
 //! | name the leader of several threads, limit what their scopes may take, or set what their view keeps | [`Settings`] |
 
 mod counted;
@@ -43,10 +43,10 @@ pub use files::{SaveCause, SaveError, save};
 pub use guard::{Guard, GuardState, Records};
 pub use outcome::{Failed, Outcome, ThreadCounts};
 pub use place::Place;
-pub use pool::{Pool, pooled};
-pub use program::{Frames, Program, profiled};
+pub use pool::{Pool, run_pool};
+pub use program::{Frames, Program, run_threads};
 pub use rotation::{Rotation, RotationLimits};
-pub use rounds::{Rounds, in_rounds};
+pub use rounds::{Rounds, run_rounds};
 pub use scopes::{Scopes, ThreadScopes};
 pub use settings::Settings;
 pub use thread::Thread;

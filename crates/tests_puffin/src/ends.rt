@@ -1,7 +1,7 @@
 //! How a leader learns that the threads of its program have ended.
 
 use crate::equal::equal;
-use puffin::light::{Frames, Place, Program, Records, Scopes, Settings, profiled};
+use puffin::light::{Frames, Place, Program, Records, Scopes, Settings, run_threads};
 use puffin::{place, profile};
 use std::io;
 use std::process::Abort;
@@ -43,7 +43,7 @@ fn fails_at_once<R: AllocGlobal + Clock + Threads + Wait + Abort + Copy + Send +
     let mut scopes = Scopes::new(rt.alloc()).expect(&rt, "scopes");
     let step = place!(scopes, "step").expect(&rt, "a place");
     let failing = Failing { step, every };
-    let outcome = profiled(rt, &["a", "b"], &scopes, &Settings::default(), &failing).expect(
+    let outcome = run_threads(rt, &["a", "b"], &scopes, &Settings::default(), &failing).expect(
         &rt,
         "the threads",
     );
@@ -104,7 +104,7 @@ fn a_leader_is_told_how_many_threads_work(rt: HostRuntime) {
         before: AtomicUsize::new(100),
         after: AtomicUsize::new(100),
     };
-    let outcome = profiled(rt, &["a", "b"], &scopes, &Settings::default(), &meeting).expect(
+    let outcome = run_threads(rt, &["a", "b"], &scopes, &Settings::default(), &meeting).expect(
         &rt,
         "the threads",
     );

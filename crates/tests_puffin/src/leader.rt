@@ -4,7 +4,8 @@ use crate::equal::equal;
 use puffin::frame_data::FrameData;
 use puffin::global_profiler::{Emitted, Settled};
 use puffin::light::{
-    Frames, Place, Program, Records, Rounds, Scopes, Settings, ThreadCounts, in_rounds, profiled,
+    Frames, Place, Program, Records, Rounds, Scopes, Settings, ThreadCounts, run_rounds,
+    run_threads,
 };
 use puffin::{Result, place, profile};
 use std::alloc::Global;
@@ -91,7 +92,7 @@ fn the_leader_s_part_of_a_round_is_in_its_frame(rt: HostRuntime) {
         leader: "helm",
         ..Settings::default()
     };
-    let outcome = in_rounds(rt, &["a", "b"], &scopes, &settings, 4, &places).expect(
+    let outcome = run_rounds(rt, &["a", "b"], &scopes, &settings, 4, &places).expect(
         &rt,
         "the rounds",
     );
@@ -142,7 +143,7 @@ impl Program for Watch {
 fn a_leader_s_scopes_are_counted_apart_from_the_threads(rt: HostRuntime) {
     let (scopes, places) = registered(rt.alloc()).expect(&rt, "the places");
     let watch = Watch { places };
-    let outcome = profiled(rt, &["a", "b"], &scopes, &Settings::default(), &watch).expect(
+    let outcome = run_threads(rt, &["a", "b"], &scopes, &Settings::default(), &watch).expect(
         &rt,
         "the threads",
     );
@@ -215,7 +216,7 @@ fn the_leader_decides_after_each_round_whether_there_is_another(rt: HostRuntime)
         places,
         shown: AtomicUsize::new(0),
     };
-    let outcome = in_rounds(
+    let outcome = run_rounds(
         rt,
         &["a", "b"],
         &scopes,
@@ -242,7 +243,7 @@ fn a_program_ends_with_its_last_round(rt: HostRuntime) {
         places,
         shown: AtomicUsize::new(0),
     };
-    let outcome = in_rounds(rt, &["a", "b"], &scopes, &Settings::default(), 2, &ending).expect(
+    let outcome = run_rounds(rt, &["a", "b"], &scopes, &Settings::default(), 2, &ending).expect(
         &rt,
         "the rounds",
     );

@@ -2,7 +2,7 @@
 
 use crate::equal::equal;
 use puffin::light::{
-    Frames, Place, Pool, Program, Records, Scopes, Settings, ThreadCounts, pooled, profiled,
+    Frames, Place, Pool, Program, Records, Scopes, Settings, ThreadCounts, run_pool, run_threads,
 };
 use puffin::{place, profile};
 use std::alloc::Global;
@@ -90,7 +90,7 @@ fn counts(calls: u64) -> ThreadCounts {
 #[test]
 fn a_program_counts_the_scopes_that_are_left_open(rt: HostRuntime) {
     let (scopes, leaving) = registered(rt.alloc()).expect(&rt, "a place");
-    let outcome = profiled(rt, &["a", "b"], &scopes, &Settings::default(), &leaving).expect(
+    let outcome = run_threads(rt, &["a", "b"], &scopes, &Settings::default(), &leaving).expect(
         &rt,
         "the threads",
     );
@@ -105,6 +105,9 @@ fn a_program_counts_the_scopes_that_are_left_open(rt: HostRuntime) {
 #[test]
 fn a_pool_counts_the_scopes_that_its_jobs_leave_open(rt: HostRuntime) {
     let (scopes, leaving) = registered(rt.alloc()).expect(&rt, "a place");
-    let outcome = pooled(rt, 1, &scopes, &Settings::default(), &leaving).expect(&rt, "the threads");
+    let outcome = run_pool(rt, 1, &scopes, &Settings::default(), &leaving).expect(
+        &rt,
+        "the threads",
+    );
     equal(&rt, outcome.threads.as_slice(), [counts(3)].as_slice());
 }

@@ -5,7 +5,7 @@ use puffin::data::Counted;
 use puffin::global_profiler::{GlobalProfiler, Settled};
 use puffin::light::{
     Frames, GuardState, Outcome, Place, Program, Records, Rounds, SaveCause, SaveError, Scopes,
-    Settings, Thread, in_rounds, profiled, save,
+    Settings, Thread, run_rounds, run_threads, save,
 };
 use puffin::profile_view::FrameView;
 use puffin::thread_profiler::NsSource;
@@ -108,7 +108,7 @@ fn a_view_is_saved_and_replaced(rt: HostRuntime) {
     let name = "light.puffin";
     save(&rt, name, &FrameView::new(rt.alloc())).expect(&rt, "a saved view");
     let (scopes, places) = registered(rt.alloc()).expect(&rt, "the places");
-    let outcome = in_rounds(rt, &["a", "b"], &scopes, &Settings::default(), 1, &places).expect(
+    let outcome = run_rounds(rt, &["a", "b"], &scopes, &Settings::default(), 1, &places).expect(
         &rt,
         "the rounds",
     );
@@ -133,7 +133,7 @@ fn refusal(saved: std::result::Result<(), SaveError<'_>>) -> Option<io::ErrorKin
 #[test]
 fn a_full_device_and_a_missing_folder_refuse_a_view(rt: HostRuntime) {
     let (scopes, places) = registered(rt.alloc()).expect(&rt, "the places");
-    let outcome = in_rounds(rt, &["a", "b"], &scopes, &Settings::default(), 1, &places).expect(
+    let outcome = run_rounds(rt, &["a", "b"], &scopes, &Settings::default(), 1, &places).expect(
         &rt,
         "the rounds",
     );
@@ -192,7 +192,7 @@ fn has<R: Abort + Wait>(rt: &R, outcome: &Outcome, reported: &[u64], sum: u64, f
 #[test]
 fn a_frame_is_taken_after_each_round(rt: HostRuntime) {
     let (scopes, places) = registered(rt.alloc()).expect(&rt, "the places");
-    let outcome = in_rounds(
+    let outcome = run_rounds(
         rt,
         &["a", "b", "c"],
         &scopes,
@@ -202,7 +202,7 @@ fn a_frame_is_taken_after_each_round(rt: HostRuntime) {
     )
     .expect(&rt, "the rounds");
     has(&rt, &outcome, &[0, 10, 10], 20, 5);
-    let outcome = in_rounds(
+    let outcome = run_rounds(
         rt,
         &["a", "b", "c"],
         &scopes,
@@ -217,17 +217,17 @@ fn a_frame_is_taken_after_each_round(rt: HostRuntime) {
 #[test]
 fn one_thread_two_and_64(rt: HostRuntime) {
     let (scopes, places) = registered(rt.alloc()).expect(&rt, "the places");
-    let outcome = in_rounds(rt, &["a"], &scopes, &Settings::default(), 2, &places).expect(
+    let outcome = run_rounds(rt, &["a"], &scopes, &Settings::default(), 2, &places).expect(
         &rt,
         "the rounds",
     );
     has(&rt, &outcome, &[0], 0, 0);
-    let outcome = in_rounds(rt, &["a", "b"], &scopes, &Settings::default(), 2, &places).expect(
+    let outcome = run_rounds(rt, &["a", "b"], &scopes, &Settings::default(), 2, &places).expect(
         &rt,
         "the rounds",
     );
     has(&rt, &outcome, &[0, 4], 4, 2);
-    let outcome = in_rounds(rt, &["a"; 64], &scopes, &Settings::default(), 2, &places).expect(
+    let outcome = run_rounds(rt, &["a"; 64], &scopes, &Settings::default(), 2, &places).expect(
         &rt,
         "the rounds",
     );
@@ -259,7 +259,7 @@ impl Program for Uneven {
 fn all_that_threads_report_is_handed_out_or_pending(rt: HostRuntime) {
     let (scopes, places) = registered(rt.alloc()).expect(&rt, "the places");
     let uneven = Uneven { places };
-    let outcome = profiled(rt, &["a", "b", "c"], &scopes, &Settings::default(), &uneven).expect(
+    let outcome = run_threads(rt, &["a", "b", "c"], &scopes, &Settings::default(), &uneven).expect(
         &rt,
         "the threads",
     );
@@ -305,7 +305,7 @@ impl Rounds for Rising {
 fn a_thread_keeps_its_state_from_round_to_round(rt: HostRuntime) {
     let (scopes, places) = registered(rt.alloc()).expect(&rt, "the places");
     let rising = Rising { places };
-    let outcome = in_rounds(
+    let outcome = run_rounds(
         rt,
         &["a", "b", "c", "d"],
         &scopes,

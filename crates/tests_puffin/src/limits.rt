@@ -4,7 +4,7 @@ use crate::equal::equal;
 use crate::global_profiler::{emitted, holds, report};
 use puffin::global_profiler::{Collector, GlobalProfiler};
 use puffin::light::{
-    Frames, Outcome, Place, Program, Records, Scopes, Settings, Thread, ThreadCounts, profiled,
+    Frames, Outcome, Place, Program, Records, Scopes, Settings, Thread, ThreadCounts, run_threads,
 };
 use puffin::thread_profiler::NsSource;
 use puffin::{Error, place, profile};
@@ -148,7 +148,7 @@ fn a_run_whose_frames_nobody_takes_stays_below_its_limits(rt: HostRuntime) {
         max_pending_bytes: 100 * 31,
         ..Settings::default()
     };
-    let outcome = profiled(rt, &["a"], &scopes, &settings, &untaken).expect(&rt, "the program");
+    let outcome = run_threads(rt, &["a"], &scopes, &settings, &untaken).expect(&rt, "the program");
     let Outcome { threads, .. } = &outcome;
     let counts = threads.first().copied();
     equal(

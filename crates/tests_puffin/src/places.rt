@@ -6,7 +6,7 @@ use puffin::data::StreamInfoRef;
 use puffin::frame_data::FrameIndex;
 use puffin::global_profiler::{GlobalProfiler, Sink};
 use puffin::light::{
-    GuardState, Place, Records, Rounds, Scopes, Settings, Thread, ThreadCounts, in_rounds,
+    GuardState, Place, Records, Rounds, Scopes, Settings, Thread, ThreadCounts, run_rounds,
 };
 use puffin::profile_view::FrameView;
 use puffin::scope_details::ScopeDetails;
@@ -144,7 +144,7 @@ impl Rounds for Foreign {
 #[test]
 fn a_program_counts_the_scopes_that_are_refused(rt: HostRuntime) {
     let (scopes, foreign) = own_and_other(rt.alloc()).expect(&rt, "the places");
-    let outcome = in_rounds(rt, &["a", "b"], &scopes, &Settings::default(), 3, &foreign).expect(
+    let outcome = run_rounds(rt, &["a", "b"], &scopes, &Settings::default(), 3, &foreign).expect(
         &rt,
         "the rounds",
     );

@@ -3,7 +3,7 @@
 use crate::equal::equal;
 use puffin::frame_data::FrameData;
 use puffin::global_profiler::{GlobalFrameView, Settled};
-use puffin::light::{Frames, Place, Pool, Records, Scopes, Settings, ThreadCounts, pooled};
+use puffin::light::{Frames, Place, Pool, Records, Scopes, Settings, ThreadCounts, run_pool};
 use puffin::{place, profile};
 use std::alloc::Global;
 use std::io;
@@ -123,7 +123,7 @@ fn has_a_hundred<R: AllocGlobal + Wait + Abort>(rt: &R, view: &GlobalFrameView) 
 #[test]
 fn a_hundred_jobs_of_four_threads_have_their_own_names(rt: HostRuntime) {
     let (scopes, jobs) = Jobs::new(rt.alloc(), 100, Fails::Nothing).expect(&rt, "the jobs");
-    let outcome = pooled(rt, 4, &scopes, &Settings::default(), &jobs).expect(&rt, "the threads");
+    let outcome = run_pool(rt, 4, &scopes, &Settings::default(), &jobs).expect(&rt, "the threads");
     equal(&rt, outcome.threads.len(), 4);
     equal(&rt, sum(&outcome.threads), (150, 0, 50));
     let settled = Settled {
@@ -145,7 +145,7 @@ fn one_fails<R: AllocGlobal + Clock + Threads + Wait + Abort + Copy + Send + Syn
     refused: u64,
 ) {
     let (scopes, jobs) = Jobs::new(rt.alloc(), 10, fails).expect(&rt, "the jobs");
-    let outcome = pooled(rt, 2, &scopes, &Settings::default(), &jobs).expect(&rt, "the threads");
+    let outcome = run_pool(rt, 2, &scopes, &Settings::default(), &jobs).expect(&rt, "the threads");
     let failed = outcome.failed.expect(&rt, "a failure");
     equal(&rt, failed.error.kind(), io::ErrorKind::TimedOut);
     equal(&rt, sum(&outcome.threads), (reported, 0, refused));
@@ -174,6 +174,6 @@ fn a_worker_without_room_begins_no_scope(rt: HostRuntime) {
         max_thread_bytes: 0,
         ..Settings::default()
     };
-    let outcome = pooled(rt, 2, &scopes, &settings, &jobs).expect(&rt, "the threads");
+    let outcome = run_pool(rt, 2, &scopes, &settings, &jobs).expect(&rt, "the threads");
     equal(&rt, sum(&outcome.threads), (0, 0, 20));
 }

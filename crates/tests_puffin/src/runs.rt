@@ -3,7 +3,7 @@
 use crate::equal::equal;
 use puffin::global_profiler::{Emitted, GlobalFrameView, Settled};
 use puffin::light::{
-    Failed, Frames, Place, Program, Records, Rounds, Scopes, Settings, in_rounds, profiled,
+    Failed, Frames, Place, Program, Records, Rounds, Scopes, Settings, run_rounds, run_threads,
 };
 use puffin::profile_view::FrameView;
 use puffin::{Result, place, profile};
@@ -77,7 +77,7 @@ fn a_part_that_fails_ends_the_rounds(rt: HostRuntime) {
         step,
         round: AtomicUsize::new(0),
     };
-    let outcome = in_rounds(
+    let outcome = run_rounds(
         rt,
         &["a", "b", "c"],
         &scopes,
@@ -126,7 +126,7 @@ impl Rounds for Stateless {
 fn a_state_that_cannot_be_made_ends_the_rounds(rt: HostRuntime) {
     let (scopes, step) = registered(rt.alloc()).expect(&rt, "a place");
     let stateless = Stateless { step };
-    let outcome = in_rounds(
+    let outcome = run_rounds(
         rt,
         &["a", "b"],
         &scopes,
@@ -214,7 +214,7 @@ fn a_view_keeps_as_many_frames_as_it_is_set_to(rt: HostRuntime) {
         pack_frames: false,
         ..Settings::default()
     };
-    let outcome = in_rounds(rt, &["a"], &scopes, &settings, 5, &short).expect(&rt, "the rounds");
+    let outcome = run_rounds(rt, &["a"], &scopes, &settings, 5, &short).expect(&rt, "the rounds");
     keeps_two(&rt, &outcome.view);
     equal(&rt, short.listed.load(Ordering::SeqCst), 5);
 }
@@ -249,7 +249,7 @@ impl Program for Refusing {
 fn the_first_thread_that_failed_is_told(rt: HostRuntime) {
     let scopes = Scopes::new(rt.alloc()).expect(&rt, "memory");
     let refusing = Refusing {};
-    let outcome = profiled(
+    let outcome = run_threads(
         rt,
         &["a", "b", "c"],
         &scopes,

@@ -55,7 +55,7 @@ pub trait Pool {
     ghost use Rattle.puffin.specs.Code.{Code};
     ghost use Rattle.puffin.specs.Telling.{RunsAs, LeadsAs};
 
-    /// What a job consists of. It never leaves the thread that took it, but the proof of [`pooled`] needs it to be `Send`.
+    /// What a job consists of. It never leaves the thread that took it, but the proof of [`run_pool`] needs it to be `Send`.
     type Job: Drop + Send;
 
     /// Whether the pool states which code its jobs and its leader run. It doesn't, unless you write this, [`Pool::names`],
@@ -204,12 +204,12 @@ impl<C: Clock + Copy + Drop, W: Pool> AnyProgram<Ready<SystemClock<C>>> for Jobs
 /// If the pool states its code, and no job failed, then the frames that the leader took, and what is pending, show of each job whose
 /// name neither another job nor the leader has, and of the leader, just the scopes of its code that began.
 ///
-/// Fails as [`profiled`](crate::light::profiled) does; no job was taken then.
+/// Fails as [`run_threads`](crate::light::run_threads) does; no job was taken then.
 ///
 /// ```
-/// let outcome = pooled(rt, 4, &scopes, &Settings::default(), &server)?;
+/// let outcome = run_pool(rt, 4, &scopes, &Settings::default(), &server)?;
 /// ```
-pub fn pooled<R: AllocGlobal + Threads + Wait + Clock + Copy + Send + Sync, W: Pool + Sync>(
+pub fn run_pool<R: AllocGlobal + Threads + Wait + Clock + Copy + Send + Sync, W: Pool + Sync>(
     rt: R,
     workers: usize,
     scopes: &Scopes,

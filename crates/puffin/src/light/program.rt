@@ -146,14 +146,14 @@ pub trait Program {
     /// What the leader states of the frames that it took.
     ghost takes: { Self → List Streams → Type 0 } = { λ program frames. Unit {0} };
 
-    /// Does the work of one thread. Threads are numbered from 0, in the order of the names passed to [`profiled`]. If it fails,
+    /// Does the work of one thread. Threads are numbered from 0, in the order of the names passed to [`run_threads`]. If it fails,
     /// the error is in [`Outcome::failed`], and the other threads go on.
     fn work<R: Wait, T: Records>(&self, rt: &R, number: usize, thread: &mut T) -> io::Result<()>
         ensures { RunsAs (states self.now) (runs self.now number) T.begins T.ends thread.old
             result thread.new };
 
     /// Takes frames while the threads work, and begins scopes of its own on `thread`. It runs on the thread that called
-    /// [`profiled`]. As on any thread, its scopes are reported when the outermost of them ends, so a frame that is taken within
+    /// [`run_threads`]. As on any thread, its scopes are reported when the outermost of them ends, so a frame that is taken within
     /// a scope of the leader has none of its open scopes.
     fn lead<R: Wait, T: Records, F: Frames>(&self, rt: &R, thread: &mut T, frames: &mut F)
         ensures runs { LeadsAs (states self.now) (leads self.now) T.begins T.ends thread.old
@@ -314,9 +314,9 @@ pub(crate) fn run_named<
 /// without having begun their work.
 ///
 /// ```
-/// let outcome = profiled(rt, &["loader", "painter"], &scopes, &Settings::default(), &program)?;
+/// let outcome = run_threads(rt, &["loader", "painter"], &scopes, &Settings::default(), &program)?;
 /// ```
-pub fn profiled<R: AllocGlobal + Threads + Wait + Clock + Copy + Send + Sync, W: Program + Sync>(
+pub fn run_threads<R: AllocGlobal + Threads + Wait + Clock + Copy + Send + Sync, W: Program + Sync>(
     rt: R,
     names: &[&str],
     scopes: &Scopes,

@@ -29,7 +29,7 @@ pub trait Rounds {
     ghost use Rattle.puffin.specs.Code.{Code, OrNothing};
     ghost use Rattle.puffin.specs.Telling.{RunsAs, LeadsAs};
 
-    /// A thread's state, which only that thread reads and changes. It never leaves that thread, but the proof of [`in_rounds`]
+    /// A thread's state, which only that thread reads and changes. It never leaves that thread, but the proof of [`run_rounds`]
     /// needs it to be `Send`.
     type State: Drop + Send;
 
@@ -47,7 +47,7 @@ pub trait Rounds {
     /// the last one, that thread does no part of it, and its error is in [`Outcome::failed`].
     fn state<R: Wait>(&self, rt: &R, number: usize) -> io::Result<Self::State>;
 
-    /// Does one thread's part of a round. Threads are numbered from 0, in the order of the names passed to [`in_rounds`], and
+    /// Does one thread's part of a round. Threads are numbered from 0, in the order of the names passed to [`run_rounds`], and
     /// rounds from 0. `part` is called for each thread in every round, so let it do nothing for a thread whose work is finished.
     /// If it fails, the round is the last one, and its error is in [`Outcome::failed`]. The round's frame is taken as always.
     fn part<R: Wait, T: Records>(
@@ -61,7 +61,7 @@ pub trait Rounds {
         ensures { RunsAs (states self.now) (runs self.now number round) T.begins T.ends
             thread.old result thread.new };
 
-    /// Does the leader's part of a round, on the thread that called [`in_rounds`], while the threads do theirs. The scopes that
+    /// Does the leader's part of a round, on the thread that called [`run_rounds`], while the threads do theirs. The scopes that
     /// it begins are in the round's frame. Does nothing, unless you write this method.
     fn lead<R: Wait, T: Records>(&self, _rt: &R, _round: usize, _thread: &mut T)
         ensures { LeadsAs (states self.now) (OrNothing (leads self.now _round)) T.begins T.ends
@@ -70,7 +70,7 @@ pub trait Rounds {
 
     /// Returns whether there is another round after this one. The leader calls it after each round, with what taking the
     /// round's frame returned, so this is also the place to write the frame to a file. With `frames` it can make the next frame
-    /// list every known scope, if a new file begins with it. Returns true, unless you write this method: then [`in_rounds`]
+    /// list every known scope, if a new file begins with it. Returns true, unless you write this method: then [`run_rounds`]
     /// runs all its rounds.
     fn goes_on<R: Wait, F: Frames>(
         &self,
@@ -187,16 +187,16 @@ impl<C: NsSource + Drop, W: Rounds> AnyProgram<Ready<C>> for InRounds<'_, W> {
 /// [`Rounds::goes_on`] may end the program before; pass `usize::MAX` if it alone is to end it. A thread that fails ends it after
 /// its round. If taking a frame fails, its scopes are in the next one; after the last round they are counted as pending.
 ///
-/// Fails as [`profiled`](crate::light::profiled) does; no round has begun then. If the program states its code, the frames show it
-/// as those of `profiled` do: the code of each thread is that of its rounds, one after the other. If each round had a frame, its
+/// Fails as [`run_threads`](crate::light::run_threads) does; no round has begun then. If the program states its code, the frames show it
+/// as those of `run_threads` do: the code of each thread is that of its rounds, one after the other. If each round had a frame, its
 /// scopes are in that frame alone, but for those whose report was refused, which are in a later one.
 ///
 /// ```
 /// let names = ["north", "east", "south", "west"];
-/// let outcome = in_rounds(rt, &names, &scopes, &Settings::default(), 10, &game)?;
+/// let outcome = run_rounds(rt, &names, &scopes, &Settings::default(), 10, &game)?;
 /// save(&rt, "frames.puffin", &outcome.view.lock(&rt))?;
 /// ```
-pub fn in_rounds<R: AllocGlobal + Threads + Wait + Clock + Copy + Send + Sync, W: Rounds + Sync>(
+pub fn run_rounds<R: AllocGlobal + Threads + Wait + Clock + Copy + Send + Sync, W: Rounds + Sync>(
     rt: R,
     names: &[&str],
     scopes: &Scopes,

@@ -3,7 +3,7 @@ use Rattle.std.proofs.Common.{length, map}
 use Rattle.puffin.specs.declared.light.program.Gated.{Gated}
 use Rattle.puffin.specs.Places.{details_in}
 use Rattle.puffin.proofs.ShownRuns.{shows_if}
-use Rattle.puffin.proofs.light.program.profiled.Goals as goal
+use Rattle.puffin.proofs.light.program.run_threads.Goals as goal
 
 pub returns-clause-shows : goal.returns-clause-shows
 returns-clause-shows g c =

@@ -4,7 +4,7 @@ use Rattle.puffin.specs.declared.light.pool.Jobs.{Jobs}
 use Rattle.puffin.specs.Places.{details_in}
 use Rattle.puffin.specs.Telling.{Named}
 use Rattle.puffin.proofs.ShownPools.{pool_shows_if}
-use Rattle.puffin.proofs.light.pool.pooled.Goals as goal
+use Rattle.puffin.proofs.light.pool.run_pool.Goals as goal
 
 pub returns-clause-shows : goal.returns-clause-shows
 returns-clause-shows g c =

@@ -5,7 +5,7 @@ use Rattle.puffin.specs.declared.light.rounds.InRounds.{InRounds}
 use Rattle.puffin.specs.Code.{OrNothing}
 use Rattle.puffin.specs.Places.{details_in}
 use Rattle.puffin.proofs.ShownRounds.{rounds_show_if}
-use Rattle.puffin.proofs.light.rounds.in_rounds.Goals as goal
+use Rattle.puffin.proofs.light.rounds.run_rounds.Goals as goal
 
 pub returns-clause-shows : goal.returns-clause-shows
 returns-clause-shows g c =
