@@ -1,11 +1,11 @@
-ghost use Rattle.std.specs.Prelude.{◌≡◌, ◌<◌, ◌⊎◌, ◌↔◌, [], ◌∷◌, None, Some, true, OnOk, OnErr, IfOk, IfErr, IsOkUnless, IsTrue};
+ghost use Rattle.std.specs.Prelude.{◌≡◌, ◌<◌, ◌⊎◌, ◌↔◌, true, OnOk, OnErr, IfOk, IfErr, IsOkUnless, IsTrue};
 ghost use Rattle.std.specs.Arc.{arc_value};
 ghost use Rattle.std.specs.List.{list_any};
 ghost use Rattle.std.specs.FinMap as map;
-ghost use Rattle.puffin_threads.specs.Details.{details_of, details_seen, shared_details, lacks_id, with_id};
+ghost use Rattle.puffin_threads.specs.Details.{details_of, details_seen, shared_details, lacks_id};
 ghost use Rattle.puffin_frames.specs.Frame.Sums.{total_scopes};
-ghost use Rattle.puffin_collector.specs.Collector.State.{nothing_collected, after_adding, after_learning, after_wanting};
-ghost use Rattle.puffin_collector.specs.Collector.Registering.{known_id, Adds, AddsSome};
+ghost use Rattle.puffin_collector.specs.Collector.State.{nothing_collected, after_learning, after_wanting};
+ghost use Rattle.puffin_collector.specs.Collector.Registering.{Adds, AddsSome, AddsOne, IsAddingRefusal};
 ghost use Rattle.puffin_collector.specs.Collector.Collecting.{CollectsFrame, CountsScopes, KnowsSome};
 ghost use Rattle.puffin_collector.specs.inner.HandingOut.{HoldsPending, after_handing_out};
 
@@ -42,7 +42,7 @@ pub struct Collector {
     collection: ScopeCollection,
     new_details: Vec<Arc<ScopeDetails>>,
     wants_all: bool,
-    // How many bytes may be pending after a report, unless it is the first one.
+    // How many bytes may be pending after a report, unless nothing was pending before it.
     max_pending: usize,
 }
 
@@ -123,23 +123,18 @@ impl Collector {
         Ok(scope_ids)
     }
 
-    /// Registers one scope. If it fails, nothing changes, but an id may be used up.
+    /// Registers one scope, as [`Collector::register_user_scopes`] does, and returns its id. If it fails, nothing changes, but an id
+    /// may be used up.
     fn register_user_scope(&mut self, ids: &ScopeIds, details: &ScopeDetails) -> Result<ScopeId>
-        ensures ok { IfOk result (λ id.
-            ((known_id self.old.collection (details_of details.now) ≡ Some id)
-            × (self.new ≡ self.old))
-            ⊎ ((known_id self.old.collection (details_of details.now) ≡ None)
-            × (self.new
-            ≡ after_adding self.old (with_id (details_of details.now) id ∷ [])))) }
+        ensures ok { IfOk result (λ id. AddsOne self.old (details_of details.now) id self.new) }
         ensures err { OnErr result (self.new ≡ self.old) }
-        ensures cause { IfErr result (λ e.
-            (e ≡ Error.Memory)
-            ⊎ ((e ≡ Error.IdsExhausted)
-            × (known_id self.old.collection (details_of details.now) ≡ None))) }
+        ensures cause { IfErr result (
+            IsAddingRefusal self.old.collection (details_of details.now)) }
     {
         if let Some(id) = self.collection.fetch_by_name(details.name().as_str()) {
             return Ok(*id);
         }
+        // The room is made first, so that no step can fail once the collection knows the scope.
         self.new_details.reserve(1)?;
         let id = ids.draw()?;
         let details = Arc::new(self.alloc, details.clone()?.with_scope_id(id))?;
@@ -198,13 +193,15 @@ impl Collector {
             &self.collection,
             self.wants_all,
         )?;
+        // The frame has its list already, so what becomes known here isn't listed twice.
         self.collection.insert_all(&self.new_details)?;
         let frame = self.hand_out(next, delta)?;
         Ok(Some(frame))
     }
 
-    /// Moves all that is pending into a frame that lists these details. At least one scope must be pending. The next frame then
-    /// has the index `next`, no new details, and no request for a snapshot. Fails only with `Memory`; nothing changes then.
+    /// Moves all that is pending into a frame that lists the details of `delta`, and returns it. A scope must be pending. The next
+    /// frame then has the index `next`, no new details, and no request for a snapshot. Fails only with `Memory`; nothing changes
+    /// then.
     #[tactic(auto, using(puffin_frames::proofs::lemmas::Measured::no_values, puffin_frames::proofs::lemmas::Honest::none_is_honest, puffin_frames::proofs::lemmas::Honest::ordered, puffin_frames::proofs::lemmas::LayoutsKept::none_laid_out, puffin_frames::proofs::lemmas::PackedAgain::read_again,))]
     fn hand_out(
         &mut self,
@@ -233,6 +230,7 @@ impl Collector {
                 Ok(frame)
             }
             Err(refused) => {
+                // The frame comes back with the refusal, so its streams are pending again.
                 self.pending = refused.value.into_unpacked().thread_streams;
                 Err(Error::Memory)
             }
