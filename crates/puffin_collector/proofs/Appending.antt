@@ -10,7 +10,7 @@ use Rattle.puffin_data.specs.Honesty.{StreamFacts}
 use Rattle.puffin_threads.specs.Thread.ThreadKey.{ThreadKey}
 use Rattle.puffin_threads.specs.declared.scope_details.details.ScopeDetails.{ScopeDetails}
 use Rattle.puffin_threads.specs.Details.{Details, details_of, shared_details, AllHaveIds}
-use Rattle.puffin_collector.specs.Collector.State.{Collected, PendingFits, IsSumRefusal, IsReportRefusal, after_report}
+use Rattle.puffin_collector.specs.Collector.State.{Collected, PendingFits, IsSumRefusal, IsReportRefusal, AcceptsReport, after_report}
 
 pub no_ids : AllHaveIds []
 no_ids = All-nil (λ one. IsSome one.id)
@@ -20,7 +20,7 @@ module _ (old : Collected) (all : List Details) (stream : StreamFacts) where
   abbrev appended : Collected
   appended = record old { new_details = all }
 
-  pub fits_before : PendingFits appended stream → PendingFits old stream
+  fits_before : PendingFits appended stream → PendingFits old stream
   fits_before fits = record { bytes = fits.bytes; scopes = fits.scopes; reported = fits.reported }
 
   fits_after : PendingFits old stream → PendingFits appended stream
@@ -37,10 +37,15 @@ module _ (old : Collected) (all : List Details) (stream : StreamFacts) where
   refused_before thread details cause ids (inr (inl (is, _, unlike))) = inr (inl (is, ids, unlike))
   refused_before thread details cause ids (inr (inr (_, like, sums))) = inr (inr (ids, like, sums_before cause sums))
 
-  pub accepted_before : (thread : ThreadKey) (details : List Details) → all ≡ old.new_details ++ details
+  after_before : (thread : ThreadKey) (details : List Details) → all ≡ old.new_details ++ details
       → after_report appended thread [] stream ≡ after_report old thread details stream
-  accepted_before thread details is =
+  after_before thread details is =
       ap (λ (new : List Details). record (after_report appended thread [] stream) { new_details = new }) (append-nil all ∙ is)
+
+  pub accepted_before : (thread : ThreadKey) (details : List Details) (new : Collected) → AllHaveIds details
+      → all ≡ old.new_details ++ details → AcceptsReport appended thread [] stream new → AcceptsReport old thread details stream new
+  accepted_before thread details new ids is (grown, _, like, fits, not_too_long) =
+      (grown ∙ after_before thread details is, ids, like, fits_before fits, not_too_long)
 
 -- the first n details are those that were there before others were appended
 pub seen_before : {A : Type 0} (n : ℕ) (old more new : List (Arc ScopeDetails A)) → length old ≡ n

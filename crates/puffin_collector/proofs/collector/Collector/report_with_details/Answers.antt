@@ -5,10 +5,10 @@ use Rattle.std.proofs.lemmas.List.{map-append}
 use Rattle.puffin_data.specs.Honesty.{facts_of_ref}
 use Rattle.puffin_threads.specs.Thread.ThreadKey.{key_of}
 use Rattle.puffin_threads.specs.Details.{Details, details_of, details_seen, shared_details, AllHaveIds}
-use Rattle.puffin_collector.specs.Collector.State.{Collected, PendingFits, range_with, IsTooLong, IsUnlike, IsReportRefusal, after_report}
+use Rattle.puffin_collector.specs.Collector.State.{Collected, IsReportRefusal, AcceptsReport}
 use Rattle.puffin_collector.proofs.Seen.{seen_of}
 use Rattle.puffin_collector.proofs.Knowing.{all_ids, not_all_ids, ids_after}
-use Rattle.puffin_collector.proofs.Appending.{fits_before, refused_before, accepted_before, seen_before}
+use Rattle.puffin_collector.proofs.Appending.{refused_before, accepted_before, seen_before}
 use Rattle.puffin_collector.proofs.collector.Collector.report_with_details.Goals as goal
 
 -- some details have no id
@@ -54,14 +54,8 @@ returns-in-Ok-append-2-clause-ok c =
     ap shared_details c.in-Ok-append.ensures.items
     ∙ map-append (λ one. details_of (arc_value one)) c.self.inside.new_details.items c.in-Ok.fresh.items
     ∙ ap (λ more. seen.new_details ++ more) c.in-Ok.ensures.ok in
-    let accepted = c.in-Ok-append-2.ensures.ok in (
-      accepted.0 ∙ accepted_before seen all stream thread details joined
-          ∙ ap (λ (old : Collected). after_report old thread details stream) c.self.view_is,
-      ids,
-      subst (λ (old : Collected). ¬ IsUnlike old thread stream) c.self.view_is accepted.2,
-      subst (λ (old : Collected). PendingFits old stream) c.self.view_is (fits_before seen all stream accepted.3),
-      subst (λ (old : Collected). ¬ IsTooLong (range_with old stream)) c.self.view_is accepted.4,
-    )
+    subst (λ (old : Collected). AcceptsReport old thread details stream c.append-2.new.self) c.self.view_is
+    (accepted_before seen all stream thread details _ ids joined c.in-Ok-append-2.ensures.ok)
 
 -- refused: once the details are removed again, the new ones are those from before
 pub invariant_of-self-in-Err-append-2 : goal.invariant_of-self-in-Err-append-2
