@@ -36,6 +36,7 @@ mod reporting;
 pub struct Collector {
     alloc: Global,
     pending: ThreadStreams,
+    // The meta of a frame of all that is pending.
     meta: FrameMeta,
     reported: u64,
     emitted: u64,
@@ -57,20 +58,20 @@ impl Model for Collector {
     ghost use Rattle.puffin_threads.specs.Details.{shared_details, AllHaveIds};
     ghost use Rattle.puffin_collector.specs.Collector.Collecting.{IsTallied};
 
-    ghost view = { λ c.
+    ghost view = { λ fields.
         record {
-          index = c.meta.frame_index;
-          reported = c.reported;
-          emitted = c.emitted;
-          streams = shared_streams c.pending.entries;
-          collection = c.collection;
-          new_details = shared_details c.new_details.items;
-          wants_all = c.wants_all;
+          index = fields.meta.frame_index;
+          reported = fields.reported;
+          emitted = fields.emitted;
+          streams = shared_streams fields.pending.entries;
+          collection = fields.collection;
+          new_details = shared_details fields.new_details.items;
+          wants_all = fields.wants_all;
         } };
 
-    ghost invariant = { λ c.
-        IsTallied (shared_streams c.pending.entries) c.meta c.reported c.emitted
-        × AllHaveIds (shared_details c.new_details.items) };
+    ghost invariant = { λ fields.
+        IsTallied (shared_streams fields.pending.entries) fields.meta fields.reported fields.emitted
+        × AllHaveIds (shared_details fields.new_details.items) };
 }
 
 impl Collector {
@@ -215,6 +216,7 @@ impl Collector {
         ensures err { OnErr result (self.new ≡ self.old) }
         ensures memory { IsOkUnless result Error.Memory }
     {
+        // The streams are taken out, because the frame has to own them before it is known that there is memory for it.
         let thread_streams = mem::replace(&mut self.pending, BTreeMap::new(self.alloc));
         let unpacked = UnpackedFrameData {
             meta: self.meta,

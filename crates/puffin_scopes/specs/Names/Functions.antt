@@ -29,7 +29,8 @@ after_cut_or other None = other
 abbrev pub last_segment : List ℕ → List ℕ
 last_segment name = after_cut_or name (last_cut (codes "::") name)
 
--- The last segment and the one before it, which follows the last `::` of what precedes them; the whole name if that has no `::`.
+-- the last two segments of a name, from the last one and the last cut at `::` in what precedes it; the whole name if there is no
+-- such cut
 abbrev pub two_segments_from : (name last : List ℕ) → Option Cut → List ℕ
 two_segments_from name last (Some cut) = cut.after ++ (codes "::" ++ last)
 two_segments_from name last None = name
