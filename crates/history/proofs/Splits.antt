@@ -29,11 +29,13 @@ module _ {E : Type 0} where
   abbrev pub under : ℕ → List E → List (ℕ × E)
   under number entries = map (λ (entry : E). (number, entry)) entries
 
+  -- an entry before more entries
   front_append : (answer : Bool) (entry : E) (first later : List E)
       → front_if answer entry (first ++ later) ≡ front_if answer entry first ++ later
   front_append true entry first later = refl
   front_append false entry first later = refl
 
+  -- an author's entries of two logs, one after the other
   pub entries_by-append : (number : ℕ) (first later : List (ℕ × E))
       → entries_by number (first ++ later) ≡ entries_by number first ++ entries_by number later
   entries_by-append number [] later = refl
@@ -41,6 +43,7 @@ module _ {E : Type 0} where
       ap (front_if (one.0 == number) one.1) (entries_by-append number first later)
       ∙ front_append (one.0 == number) one.1 (entries_by number first) (entries_by number later)
 
+  -- all entries under a number are that author's
   pub entries_by-under : (number : ℕ) (entries : List E) → entries_by number (under number entries) ≡ entries
   entries_by-under number [] = refl
   entries_by-under number (entry ∷ entries) =
@@ -63,15 +66,18 @@ module _ {E : Type 0} where
       (other_number first.0 count (let less = has.0 in λ same. omega arith))
       ∙ entries_by-none count rest has.1
 
+  -- two logs of the first authors, one after the other, are a log of them
   pub has_authors_append : (count : ℕ) (first later : List (ℕ × E)) → HasAuthors count first → HasAuthors count later
       → HasAuthors count (first ++ later)
   has_authors_append count [] later has has_later = has_later
   has_authors_append count (one ∷ first) later has has_later = (has.0, has_authors_append count first later has.1 has_later)
 
+  -- entries under a number are of the first authors, if the number is below their count
   pub has_authors_under : (count number : ℕ) (entries : List E) → number < count → HasAuthors count (under number entries)
   has_authors_under count number [] less = tt
   has_authors_under count number (entry ∷ entries) less = (less, has_authors_under count number entries less)
 
+  -- entries of the first authors are of the first and one more
   pub has_authors_more : (count : ℕ) (log : List (ℕ × E)) → HasAuthors count log → HasAuthors (count + 1) log
   has_authors_more count [] has = tt
   has_authors_more count (first ∷ rest) has = (let less = has.0 in omega arith, has_authors_more count rest has.1)
@@ -90,11 +96,13 @@ module _ {E : Type 0} where
         (at_set lists number other (own ++ entries) list here);
   }
     where
+      -- its author's list, which grew
       grown : own ++ entries ≡ entries_by number (log ++ under number entries)
       grown = ap (λ (front : List E). front ++ entries) (is.split number own at)
           ∙ (ap (λ (added : List E). entries_by number log ++ added) (sym (entries_by-under number entries))
           ∙ sym (entries_by-append number log (under number entries)))
 
+      -- any other author's list
       unchanged : (other : ℕ) → other ≢ number → entries_by other log ≡ entries_by other (log ++ under number entries)
       unchanged other apart = sym (append-nil (entries_by other log))
           ∙ (ap (λ (added : List E). entries_by other log ++ added) (sym (entries_by-other other number entries apart))
@@ -111,5 +119,6 @@ module _ {E : Type 0} where
         (at_end lists [] list number here);
   }
 
+  -- at first there are no authors and no entries
   pub none_yet : IsSplit {E = E} 0 [] []
   none_yet = record { count = refl; below = tt; split = λ number list here. absurd (some-ne-none list (sym here)) }

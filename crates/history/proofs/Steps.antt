@@ -30,6 +30,7 @@ use Rattle.history.proofs.Splits.{under, split_grows, one_more, none_yet, in_rea
 module _ {M : Type 1} {𝓤 : Ura M} (𝓛 : Logic 𝓤) where
   open 𝓛 use {H}
 
+  -- what is claimed of a state
   abbrev Pr : Type 2
   Pr = SProp 𝓤
 
@@ -70,6 +71,7 @@ module _ {M : Type 1} {𝓤 : Ura M} (𝓛 : Logic 𝓤) where
         suffices ! _ (upd_i 𝓤 Joined) $ move ! (2 ∷ 0 ∷ []) $ join ! $ done !
 
   module _ {E : Type 0} (coded : Coded E) (name : ℕ × ℕ) where
+    -- the codes of a log's elements, and of authors' lists
     abbrev numbered : Coded (ℕ × E)
     numbered = coded× coded_ℕ coded
 
@@ -175,6 +177,7 @@ module _ {M : Type 1} {𝓤 : Ura M} (𝓛 : Logic 𝓤) where
 
 -- what the tokens own may be sent to another thread
 module _ {E : Type 0} (code : E → Gv) where
+  -- the log's parts of all lists
   roster_keyless : {V : Type 0} (value_code : V → Gv) (γ k : ℕ) (lists : List V) → Keyless (roster value_code γ k lists)
   roster_keyless value_code γ k [] = λ list. entries_keyless halved γ k (λ _. (full_share, value_code list))
   roster_keyless value_code γ k (first ∷ rest) = (entry_keyless halved γ k _, roster_keyless value_code γ (suc k) rest)

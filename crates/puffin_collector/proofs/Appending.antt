@@ -12,6 +12,7 @@ use Rattle.puffin_threads.specs.declared.scope_details.details.ScopeDetails.{Sco
 use Rattle.puffin_threads.specs.Details.{Details, details_of, shared_details, AllHaveIds}
 use Rattle.puffin_collector.specs.Collector.State.{Collected, PendingFits, IsSumRefusal, IsReportRefusal, AcceptsReport, after_report}
 
+-- no details all have ids
 pub no_ids : AllHaveIds []
 no_ids = All-nil (λ one. IsSome one.id)
 
@@ -20,28 +21,33 @@ module _ (old : Collected) (all : List Details) (stream : StreamFacts) where
   abbrev appended : Collected
   appended = record old { new_details = all }
 
+  -- the sums don't count details, so they fit with those of the report exactly if they fit without
   fits_before : PendingFits appended stream → PendingFits old stream
   fits_before fits = record { bytes = fits.bytes; scopes = fits.scopes; reported = fits.reported }
 
   fits_after : PendingFits old stream → PendingFits appended stream
   fits_after fits = record { bytes = fits.bytes; scopes = fits.scopes; reported = fits.reported }
 
+  -- so the sums give the same cause
   sums_before : (cause : Error) → IsSumRefusal appended stream cause → IsSumRefusal old stream cause
   sums_before cause (inl (is, too_large)) = inl (is, λ fits. too_large (fits_after fits))
   sums_before cause (inr (inl (is, fits, too_long))) = inr (inl (is, fits_before fits, too_long))
   sums_before cause (inr (inr (is, fits, not_too_long))) = inr (inr (is, fits_before fits, not_too_long))
 
+  -- and the report is refused with the same cause, if its details have ids
   pub refused_before : (thread : ThreadKey) (details : List Details) (cause : Error) → AllHaveIds details
       → IsReportRefusal appended thread [] stream cause → IsReportRefusal old thread details stream cause
   refused_before thread details cause ids (inl (is, missing)) = absurd (missing no_ids)
   refused_before thread details cause ids (inr (inl (is, _, unlike))) = inr (inl (is, ids, unlike))
   refused_before thread details cause ids (inr (inr (_, like, sums))) = inr (inr (ids, like, sums_before cause sums))
 
+  -- it leaves the same
   after_before : (thread : ThreadKey) (details : List Details) → all ≡ old.new_details ++ details
       → after_report appended thread [] stream ≡ after_report old thread details stream
   after_before thread details is =
       ap (λ (new : List Details). record (after_report appended thread [] stream) { new_details = new }) (append-nil all ∙ is)
 
+  -- and is accepted alike
   pub accepted_before : (thread : ThreadKey) (details : List Details) (new : Collected) → AllHaveIds details
       → all ≡ old.new_details ++ details → AcceptsReport appended thread [] stream new → AcceptsReport old thread details stream new
   accepted_before thread details new ids is (grown, _, like, fits, not_too_long) =

@@ -34,6 +34,7 @@ past_first Equal id details entry list is below found =
     absurd cc
 past_first Greater id details entry list is below found = found
 
+-- all details of such a list have ids, if it is sorted by id
 all_owned : (list : List (ℕ × Details)) → T (is_sorted nat_cmp list) → Owned list → AllHaveIds (map (λ entry. entry.1) list)
 all_owned [] sorted owned = All-nil (λ one. IsSome one.id)
 all_owned (entry ∷ list) sorted owned =

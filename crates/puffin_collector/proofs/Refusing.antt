@@ -11,9 +11,11 @@ use Rattle.puffin_frames.specs.Frame.Sums.{total_scopes}
 use Rattle.puffin_collector.specs.Collector.State.{Collected, PendingFits, range_with, IsTooLong, IsUnlike, IsSumRefusal, IsReportRefusal, after_report}
 use Rattle.puffin_collector.specs.inner.ReportSums.{IsFirstCause}
 
+-- the result of a call that failed with this cause
 abbrev failed : Error → Result (Unit {0}) Error
 failed cause = Err cause
 
+-- a call fails with one cause
 same_error : (cause other : Error) → failed cause ≡ failed other → cause ≡ other
 same_error cause other same = cc
 

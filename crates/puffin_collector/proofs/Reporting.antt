@@ -27,6 +27,7 @@ pub record Joins (old : Collected) (meta joined : FrameMeta) (stream : StreamFac
   pub reported : old.reported + stream.num_scopes < 2 ^ 64
 
 module _ (old : Collected) (meta joined : FrameMeta) (stream : StreamFacts) (joins : Joins old meta joined stream) where
+  -- what the meta of all that is pending says, part by part
   bytes_are : meta.num_bytes ≡ total_bytes (map.values old.streams)
   bytes_are = ap (λ m. m.num_bytes) joins.sums
 
@@ -39,6 +40,7 @@ module _ (old : Collected) (meta joined : FrameMeta) (stream : StreamFacts) (joi
   stop_is : meta.range_ns.1 ≡ joined_stop (map.values old.streams)
   stop_is = ap (λ m. m.range_ns.1) joins.sums
 
+  -- the sums fit 64 bits, because those of the joined meta do
   pub sums_fit : PendingFits old stream
   sums_fit = record {
     bytes = omega (arith, bytes_are, joins.num_bytes, joins.fit.0);
@@ -46,6 +48,7 @@ module _ (old : Collected) (meta joined : FrameMeta) (stream : StreamFacts) (joi
     reported = joins.reported;
   }
 
+  -- the joined meta's range is that of all that is pending and the stream
   pub range_is : joined.range_ns ≡ range_with old stream
   range_is =
       let streams = map.values old.streams in
@@ -55,6 +58,7 @@ module _ (old : Collected) (meta joined : FrameMeta) (stream : StreamFacts) (joi
       omega (arith, ints, clamps, joins.stop, stop_is, greatest_stop-one stream streams) in
       λ i. (first i, last i)
 
+  -- the joined meta is that of a frame of all that is pending and the stream
   pub adds_up : (IsOrdered joined.range_ns → DurationFits joined.range_ns) → AddsUp old joined stream
   adds_up duration = record {
     frame_index = joins.frame_index ∙ ap (λ m. m.frame_index) joins.sums;
@@ -120,17 +124,21 @@ too_large old meta stream sums (inr scopes) fits = omega (arith, ap (λ (m : Fra
 
 -- ---- what `is_too_long` answers
 
+-- the answer tells whether the range is too long
 abbrev pub Tests : (answer : Bool) → (range : ℤ × ℤ) → Type 0
 Tests answer range = MatchBool answer (IsTooLong range) (IsOrdered range → DurationFits range)
 
+-- it says yes of a range that equals the other
 pub too_long : (answer : Bool) (range other : ℤ × ℤ) → range ≡ other → Tests answer range → answer ≡ true → IsTooLong other
 too_long true range other same test is = subst IsTooLong same test
 too_long false range other same test is = absurd cc
 
+-- it says no: the duration fits, unless the range is reversed
 pub duration_fits : (answer : Bool) (range : ℤ × ℤ) → Tests answer range → answer ≡ false → IsOrdered range → DurationFits range
 duration_fits true range test is = absurd cc
 duration_fits false range test is = test
 
+-- it says no of a range that equals the other
 pub not_too_long : (answer : Bool) (range other : ℤ × ℤ) → range ≡ other → Tests answer range → answer ≡ false → ¬ IsTooLong other
 not_too_long answer range other same test is =
     subst (λ range. ¬ IsTooLong range) same (λ long. long.1 (duration_fits answer range test is long.0))

@@ -12,12 +12,15 @@ module _ {E : Type 0} where
   abbrev number : ℕ × List E → ℕ
   number author = author.0
 
+  -- an author's entries of two logs, one after the other
   pub entries_by-append : (k : ℕ) (first later : List (ℕ × E)) → entries_by k (first ++ later) ≡ entries_by k first ++ entries_by k later
   entries_by-append = splits.entries_by-append
 
+  -- all entries of two logs, one after the other
   pub events-append : (first later : List (ℕ × E)) → events (first ++ later) ≡ events first ++ events later
   events-append first later = map-append (λ numbered. numbered.1) first later
 
+  -- a prefix of a log of the first authors is a log of them
   pub has_authors-prefix : (count : ℕ) (first later : List (ℕ × E)) → HasAuthors count (first ++ later) → HasAuthors count first
   has_authors-prefix count [] later has = tt
   has_authors-prefix count (one ∷ first) later has = (has.0, has_authors-prefix count first later has.1)
@@ -38,15 +41,18 @@ module _ {E : Type 0} where
 
   -- `f` gives the things of one kind that an entry holds
   module _ {B : Type 0} (f : E → List B) where
+    -- lists without an element, one after the other, are both empty
     none_left : (first later : List B) → first ++ later ≡ [] → (first ≡ []) × (later ≡ [])
     none_left [] later none = (refl, none)
     none_left (one ∷ first) later none = absurd cc
 
+    -- nothing of the kind in some entries, so none in those after the first
     front_none : (answer : Bool) (entry : E) (entries : List E) → flat_map f (front_if answer entry entries) ≡ []
         → flat_map f entries ≡ []
     front_none true entry entries none = (none_left (f entry) (flat_map f entries) none).1
     front_none false entry entries none = none
 
+    -- and none in the first
     own_none : (k : ℕ) (entry : E) (entries : List E) → flat_map f (front_if (k == k) entry entries) ≡ [] → f entry ≡ []
     own_none k entry entries none =
         let first : flat_map f (entry ∷ entries) ≡ [] =
@@ -57,6 +63,7 @@ module _ {E : Type 0} where
     abbrev OnlyBy : (count t : ℕ) → List (ℕ × E) → Type 0
     OnlyBy count t log = (j : ℕ) → j < count → j ≢ t → flat_map f (entries_by j log) ≡ []
 
+    -- One entry more, of the author or of another. Another's holds nothing of the kind.
     by_one_step : (count t : ℕ) (first : ℕ × E) (rest : List (ℕ × E)) → first.0 < count → OnlyBy count t (first ∷ rest)
         → flat_map f (events rest) ≡ flat_map f (entries_by t rest)
         → (answer : Bool) → (first.0 == t) ≡ answer
@@ -66,6 +73,7 @@ module _ {E : Type 0} where
         let none = own_none first.0 first.1 (entries_by first.0 rest) (only first.0 less (unequal_number first.0 t is)) in
         ap (λ things. things ++ flat_map f (events rest)) none ∙ same
 
+    -- all of the kind is the only author's
     by_one : (count t : ℕ) (log : List (ℕ × E)) → HasAuthors count log → OnlyBy count t log
         → flat_map f (events log) ≡ flat_map f (entries_by t log)
     by_one count t [] has only = refl
@@ -74,6 +82,7 @@ module _ {E : Type 0} where
         (λ j less apart. front_none (first.0 == j) first.1 (entries_by j rest) (only j less apart)) in
         by_one_step count t first rest has.0 only (by_one count t rest has.1 only_later) (first.0 == t) refl
 
+    -- two facts of each author
     both : (t : ℕ) (log : List (ℕ × E)) (authors : List (ℕ × List E))
         → AllByRecursion (λ author. author.1 ≡ entries_by author.0 log) authors
         → AllByRecursion (λ author. author.0 ≢ t → flat_map f author.1 ≡ []) authors
@@ -112,6 +121,7 @@ module _ {E : Type 0} where
             ∙ omega (arith, ap one_if is_last, ap one_if is, later)
         at false is later = omega (arith, later, ap one_if is)
 
+    -- an author that isn't among those that leave has none of the last entries
     not_marked : (k : ℕ) (authors : List (ℕ × List E)) → times number k authors ≡ 0 → entries_by k (marks authors) ≡ []
     not_marked k [] none = refl
     not_marked k (author ∷ rest) none = at (author.0 == k) refl (not_marked k rest)

@@ -23,18 +23,22 @@ abbrev sum_upto : ℕ → (ℕ → ℕ) → ℕ
 sum_upto zero f = 0
 sum_upto (suc n) f = sum_upto n f + f n
 
+-- a sum of zeros
 upto_none : (n : ℕ) → sum_upto n (λ k. 0) ≡ 0
 upto_none zero = refl
 upto_none (suc n) = omega (arith, upto_none n)
 
+-- a sum of sums
 upto_both : (n : ℕ) (f g : ℕ → ℕ) → sum_upto n (λ k. f k + g k) ≡ sum_upto n f + sum_upto n g
 upto_both zero f g = refl
 upto_both (suc n) f g = omega (arith, upto_both n f g)
 
+-- sums of the same parts
 upto_same : (n : ℕ) (f g : ℕ → ℕ) → ((k : ℕ) → f k ≡ g k) → sum_upto n f ≡ sum_upto n g
 upto_same zero f g same = refl
 upto_same (suc n) f g same = omega (arith, upto_same n f g same, same n)
 
+-- 1 for yes, 0 for no
 abbrev pub one_if : Bool → ℕ
 one_if answer = cond answer 1 0
 
@@ -43,6 +47,7 @@ one_past : (n a : ℕ) → n ≤ a → sum_upto n (λ k. one_if (a == k)) ≡ 0
 one_past zero a le = refl
 one_past (suc n) a le = omega (arith, one_past n a (omega arith), ap one_if (other_number a n (λ same. omega arith)))
 
+-- the last part of the sum in `one_below`, by whether it is the one
 one_at : (n a : ℕ) (answer : Bool) → (a == n) ≡ answer → a < suc n → (a < n → sum_upto n (λ k. one_if (a == k)) ≡ 1)
     → sum_upto n (λ k. one_if (a == k)) + one_if answer ≡ 1
 one_at n a true is lt rest = let same = equal_number a n is in omega (arith, one_past n a (omega (arith, same)))
@@ -74,6 +79,7 @@ module _ {X : Type 0} (number : X → ℕ) where
   abbrev pub times : ℕ → List X → ℕ
   times k list = count_by (λ element. number element == k) list
 
+  -- one element more at the front, and a list more at the end
   pub times-cons : (k : ℕ) (x : X) (xs : List X) → times k (x ∷ xs) ≡ one_if (number x == k) + times k xs
   times-cons k x xs = sum_by-cons (λ y. one_if (number y == k)) x xs
 

@@ -9,14 +9,17 @@ use Rattle.puffin_threads.specs.Details.Collection.{Collection, with_details, wi
 use Rattle.puffin_collector.specs.Collector.State.{Collected, after_adding}
 use Rattle.puffin_collector.specs.Collector.Registering.{known_id, none_asked, known_name, new_name, Adds, AddsSome, AddsOne, IsAddingRefusal}
 
+-- details become known, and then later ones: the same as all of them at once
 with_all_details-append : (collection : Collection) (first later : List Details)
     → with_all_details collection (first ++ later) ≡ with_all_details (with_all_details collection first) later
 with_all_details-append collection [] later = refl
 with_all_details-append collection (one ∷ first) later = with_all_details-append (with_details collection one) first later
 
+-- adding none changes nothing
 adding_none : (old : Collected) → old ≡ after_adding old []
 adding_none old i = record old { new_details = sym (append-nil old.new_details) i }
 
+-- adding twice is adding all at once
 adding_more : (old : Collected) (first later : List Details)
     → after_adding (after_adding old first) later ≡ after_adding old (first ++ later)
 adding_more old first later i = record old {

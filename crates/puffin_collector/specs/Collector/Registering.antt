@@ -16,10 +16,12 @@ known_id collection details = map.get collection.by_name (name_of details)
 pub data Registers (collection : Collection) : (asked : List Details) → (ids : List ℕ) →
     (new : List Details) → Type 0 where
   none_asked : Registers collection [] [] []
+  -- one more scope is asked for, whose name is known by then
   known_name : {asked : List Details} {ids : List ℕ} {new : List Details} (last : Details) (id : ℕ)
       → Registers collection asked ids new
       → known_id (with_all_details collection new) last ≡ Some id
       → Registers collection (asked ++ (last ∷ [])) (ids ++ (id ∷ [])) new
+  -- one more scope is asked for, whose name isn't known: it is registered under a new id
   new_name : {asked : List Details} {ids : List ℕ} {new : List Details} (last : Details) (id : ℕ)
       → Registers collection asked ids new
       → known_id (with_all_details collection new) last ≡ None

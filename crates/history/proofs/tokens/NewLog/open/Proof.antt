@@ -2,7 +2,7 @@ use Rattle.std.proofs.Common.{◌≡◌, ℕ, [], ◌∷◌, refl, subst}
 use mir.Syntax.{a_type, dcons, dnil}
 use mir.Val.{Val}
 use mir.MapTy.{inst_fn}
-use base.Logic.{SProp, emp, id⊢, via}
+use base.Logic.{SProp, emp, id⊢}
 use base.Fml.{Fml, ftrue, fsep, flft}
 use types.Logic.{sem}
 use types.Kit.{‵, raw, ◌⊛◌, given, ◌$◌, ◌∵◌, !, qed, by, move, keep, drop, split, fsplit, fjoin, learn, use0, use1}
