@@ -1,84 +1,124 @@
 -- A history and the lists of what its authors added grow together.
 use Rattle.std.proofs.Common.{◌≡◌, ◌≢◌, ℕ, zero, suc, ◌+◌, ◌<◌, ◌==◌, Bool, true, false, List, [], ◌∷◌, ◌++◌, length, map, set, ⊎_elim, refl, ap, sym, ◌∙◌, arith, length-append, length-set}
-use Rattle.std.proofs.lemmas.Bool.Decides.{nat_tests}
-use mathlib.Core.Option.{some}
+use Rattle.std.proofs.lemmas.List.{append-nil}
+use mathlib.Core.Option.{some, some-injective, some-ne-none}
+use mathlib.Core.Logic.{◌⊎◌, inl, inr}
 use lib.ListN.{get_elem?}
 use Rattle.atomic_table.proofs.Lists.{at_set}
 use Rattle.history.specs.Entries.{front_if, entries_by, HasAuthors}
 use Rattle.history.specs.Owned.{IsSplit}
+use Rattle.history.proofs.lemmas.Counting.{same_number, other_number}
 
-same_number : (k : ℕ) → (k == k) ≡ true
-same_number k = grind (arith, nat_tests)
+-- a place at which something stands is below the length
+pub in_reach : {A : Type 0} (list : List A) (i : ℕ) (element : A) → get_elem? list i ≡ some element → i < length list
+in_reach [] i element at = absurd (some-ne-none element (sym at))
+in_reach (first ∷ rest) zero element at = omega arith
+in_reach (first ∷ rest) (suc i) element at = let less = in_reach rest i element at in omega arith
 
-other_number : (j k : ℕ) → j ≢ k → (j == k) ≡ false
-other_number j k n = grind (arith, nat_tests)
-
-pub in_reach : {A : Type 0} (xs : List A) (k : ℕ) (a : A) → get_elem? xs k ≡ some a → k < length xs
-in_reach [] k a e = absurd (mathlib.Core.Option.some-ne-none a (sym e))
-in_reach (x ∷ xs) zero a e = omega arith
-in_reach (x ∷ xs) (suc k) a e = let h = in_reach xs k a e in omega arith
-
-at_end : {A : Type 0} (xs : List A) (a b : A) (k : ℕ) → get_elem? (xs ++ a ∷ []) k ≡ some b → mathlib.Core.Logic.◌⊎◌ (get_elem? xs k ≡ some b) ((k ≡ length xs) × (a ≡ b))
-at_end [] a b zero e = mathlib.Core.Logic.inr (refl, mathlib.Core.Option.some-injective a b e)
-at_end [] a b (suc k) e = absurd (mathlib.Core.Option.some-ne-none b (sym e))
-at_end (x ∷ xs) a b zero e = mathlib.Core.Logic.inl e
-at_end (x ∷ xs) a b (suc k) e = ⊎_elim (λ t. mathlib.Core.Logic.inl t) (λ t. mathlib.Core.Logic.inr (ap suc t.0, t.1)) (at_end xs a b k e)
+-- what stands in a list with one element more stood there before, or is that element
+at_end : {A : Type 0} (list : List A) (last found : A) (i : ℕ) → get_elem? (list ++ last ∷ []) i ≡ some found
+    → (get_elem? list i ≡ some found) ⊎ ((i ≡ length list) × (last ≡ found))
+at_end [] last found zero at = inr (refl, some-injective last found at)
+at_end [] last found (suc i) at = absurd (some-ne-none found (sym at))
+at_end (first ∷ rest) last found zero at = inl at
+at_end (first ∷ rest) last found (suc i) at =
+    ⊎_elim (λ before. inl before) (λ is_last. inr (ap suc is_last.0, is_last.1)) (at_end rest last found i at)
 
 module _ {E : Type 0} where
+  -- these entries, under one number
   abbrev pub under : ℕ → List E → List (ℕ × E)
-  under k es = map (λ (e : E). (k, e)) es
+  under number entries = map (λ (entry : E). (number, entry)) entries
 
-  front_append : (b : Bool) (x : E) (xs ys : List E) → front_if b x (xs ++ ys) ≡ front_if b x xs ++ ys
-  front_append true x xs ys = refl
-  front_append false x xs ys = refl
+  -- an entry before more entries
+  front_append : (answer : Bool) (entry : E) (first later : List E)
+      → front_if answer entry (first ++ later) ≡ front_if answer entry first ++ later
+  front_append true entry first later = refl
+  front_append false entry first later = refl
 
-  pub entries_by-append : (k : ℕ) (xs ys : List (ℕ × E)) → entries_by k (xs ++ ys) ≡ entries_by k xs ++ entries_by k ys
-  entries_by-append k [] ys = refl
-  entries_by-append k (x ∷ xs) ys = ap (front_if (x.0 == k) x.1) (entries_by-append k xs ys) ∙ front_append (x.0 == k) x.1 (entries_by k xs) (entries_by k ys)
+  -- an author's entries of two logs, one after the other
+  pub entries_by-append : (number : ℕ) (first later : List (ℕ × E))
+      → entries_by number (first ++ later) ≡ entries_by number first ++ entries_by number later
+  entries_by-append number [] later = refl
+  entries_by-append number (one ∷ first) later =
+      ap (front_if (one.0 == number) one.1) (entries_by-append number first later)
+      ∙ front_append (one.0 == number) one.1 (entries_by number first) (entries_by number later)
 
-  pub entries_by-under : (k : ℕ) (es : List E) → entries_by k (under k es) ≡ es
-  entries_by-under k [] = refl
-  entries_by-under k (e ∷ es) = ap (λ (b : Bool). front_if b e (entries_by k (under k es))) (same_number k) ∙ ap (λ (xs : List E). e ∷ xs) (entries_by-under k es)
+  -- all entries under a number are that author's
+  pub entries_by-under : (number : ℕ) (entries : List E) → entries_by number (under number entries) ≡ entries
+  entries_by-under number [] = refl
+  entries_by-under number (entry ∷ entries) =
+      ap (λ (answer : Bool). front_if answer entry (entries_by number (under number entries))) (same_number number)
+      ∙ ap (λ (rest : List E). entry ∷ rest) (entries_by-under number entries)
 
-  pub entries_by-other : (j k : ℕ) (es : List E) → j ≢ k → entries_by j (under k es) ≡ []
-  entries_by-other j k [] n = refl
-  entries_by-other j k (e ∷ es) n = ap (λ (b : Bool). front_if b e (entries_by j (under k es))) (other_number k j (λ h. n (sym h))) ∙ entries_by-other j k es n
+  -- no entry is under another number
+  pub entries_by-other : (other number : ℕ) (entries : List E) → other ≢ number → entries_by other (under number entries) ≡ []
+  entries_by-other other number [] apart = refl
+  entries_by-other other number (entry ∷ entries) apart =
+      ap (λ (answer : Bool). front_if answer entry (entries_by other (under number entries)))
+      (other_number number other (λ same. apart (sym same)))
+      ∙ entries_by-other other number entries apart
 
-  pub entries_by-none : (k : ℕ) (log : List (ℕ × E)) → HasAuthors k log → entries_by k log ≡ []
-  entries_by-none k [] b = refl
-  entries_by-none k (x ∷ xs) b = ap (λ (t : Bool). front_if t x.1 (entries_by k xs)) (other_number x.0 k (let h = b.0 in λ e. omega arith)) ∙ entries_by-none k xs b.1
+  -- no entry is under a number that no author has yet
+  pub entries_by-none : (count : ℕ) (log : List (ℕ × E)) → HasAuthors count log → entries_by count log ≡ []
+  entries_by-none count [] has = refl
+  entries_by-none count (first ∷ rest) has =
+      ap (λ (answer : Bool). front_if answer first.1 (entries_by count rest))
+      (other_number first.0 count (let less = has.0 in λ same. omega arith))
+      ∙ entries_by-none count rest has.1
 
-  pub has_authors_append : (n : ℕ) (xs ys : List (ℕ × E)) → HasAuthors n xs → HasAuthors n ys → HasAuthors n (xs ++ ys)
-  has_authors_append n [] ys b c = c
-  has_authors_append n (x ∷ xs) ys b c = (b.0, has_authors_append n xs ys b.1 c)
+  -- two logs of the first authors, one after the other, are a log of them
+  pub has_authors_append : (count : ℕ) (first later : List (ℕ × E)) → HasAuthors count first → HasAuthors count later
+      → HasAuthors count (first ++ later)
+  has_authors_append count [] later has has_later = has_later
+  has_authors_append count (one ∷ first) later has has_later = (has.0, has_authors_append count first later has.1 has_later)
 
-  pub has_authors_under : (n k : ℕ) (es : List E) → k < n → HasAuthors n (under k es)
-  has_authors_under n k [] h = tt
-  has_authors_under n k (e ∷ es) h = (h, has_authors_under n k es h)
+  -- entries under a number are of the first authors, if the number is below their count
+  pub has_authors_under : (count number : ℕ) (entries : List E) → number < count → HasAuthors count (under number entries)
+  has_authors_under count number [] less = tt
+  has_authors_under count number (entry ∷ entries) less = (less, has_authors_under count number entries less)
 
-  pub has_authors_more : (n : ℕ) (xs : List (ℕ × E)) → HasAuthors n xs → HasAuthors (n + 1) xs
-  has_authors_more n [] b = tt
-  has_authors_more n (x ∷ xs) b = (let h = b.0 in omega arith, has_authors_more n xs b.1)
+  -- entries of the first authors are of the first and one more
+  pub has_authors_more : (count : ℕ) (log : List (ℕ × E)) → HasAuthors count log → HasAuthors (count + 1) log
+  has_authors_more count [] has = tt
+  has_authors_more count (first ∷ rest) has = (let less = has.0 in omega arith, has_authors_more count rest has.1)
 
-  pub split_grows : (n k : ℕ) (lists : List (List E)) (log : List (ℕ × E)) (own es : List E) → IsSplit n lists log → get_elem? lists k ≡ some own
-      → IsSplit n (set lists k (own ++ es)) (log ++ under k es)
-  split_grows n k lists log own es is at = record {
-    count = length-set lists k (own ++ es) ∙ is.count;
-    below = has_authors_append n log (under k es) is.below (has_authors_under n k es (let h = in_reach lists k own at in let c = is.count in omega arith));
-    split = λ j m here. ⊎_elim
-        (λ t. sym t.1 ∙ (ap (λ (xs : List E). xs ++ es) (is.split k own at) ∙ (ap (λ (xs : List E). entries_by k log ++ xs) (sym (entries_by-under k es)) ∙ (sym (entries_by-append k log (under k es)) ∙ ap (λ (i : ℕ). entries_by i (log ++ under k es)) (sym t.0)))))
-        (λ t. is.split j m t.1 ∙ (sym (Rattle.std.proofs.lemmas.List.append-nil (entries_by j log)) ∙ (ap (λ (xs : List E). entries_by j log ++ xs) (sym (entries_by-other j k es t.0)) ∙ sym (entries_by-append j log (under k es)))))
-        (at_set lists k j (own ++ es) m here);
+  -- An author adds entries: to its own list, and under its number to the log. A list is that author's, which grew by them, or another's,
+  -- which has none of them.
+  pub split_grows : (count number : ℕ) (lists : List (List E)) (log : List (ℕ × E)) (own entries : List E) → IsSplit count lists log
+      → get_elem? lists number ≡ some own → IsSplit count (set lists number (own ++ entries)) (log ++ under number entries)
+  split_grows count number lists log own entries is at = record {
+    count = length-set lists number (own ++ entries) ∙ is.count;
+    below = has_authors_append count log (under number entries) is.below
+        (has_authors_under count number entries (let less = in_reach lists number own at in let long = is.count in omega arith));
+    split = λ other list here. ⊎_elim
+        (λ its_own. sym its_own.1 ∙ (grown ∙ ap (λ (k : ℕ). entries_by k (log ++ under number entries)) (sym its_own.0)))
+        (λ anothers. is.split other list anothers.1 ∙ unchanged other anothers.0)
+        (at_set lists number other (own ++ entries) list here);
   }
+    where
+      -- its author's list, which grew
+      grown : own ++ entries ≡ entries_by number (log ++ under number entries)
+      grown = ap (λ (front : List E). front ++ entries) (is.split number own at)
+          ∙ (ap (λ (added : List E). entries_by number log ++ added) (sym (entries_by-under number entries))
+          ∙ sym (entries_by-append number log (under number entries)))
 
-  pub one_more : (n : ℕ) (lists : List (List E)) (log : List (ℕ × E)) → IsSplit n lists log → IsSplit (n + 1) (lists ++ [] ∷ []) log
-  one_more n lists log is = record {
+      -- any other author's list
+      unchanged : (other : ℕ) → other ≢ number → entries_by other log ≡ entries_by other (log ++ under number entries)
+      unchanged other apart = sym (append-nil (entries_by other log))
+          ∙ (ap (λ (added : List E). entries_by other log ++ added) (sym (entries_by-other other number entries apart))
+          ∙ sym (entries_by-append other log (under number entries)))
+
+  -- one author more, with an empty list, under the next number
+  pub one_more : (count : ℕ) (lists : List (List E)) (log : List (ℕ × E)) → IsSplit count lists log
+      → IsSplit (count + 1) (lists ++ [] ∷ []) log
+  one_more count lists log is = record {
     count = omega (arith, length-append lists ([] ∷ []), is.count);
-    below = has_authors_more n log is.below;
-    split = λ j m here. ⊎_elim (λ t. is.split j m t)
-        (λ t. sym t.1 ∙ (sym (entries_by-none n log is.below) ∙ ap (λ (i : ℕ). entries_by i log) (sym is.count ∙ sym t.0)))
-        (at_end lists [] m j here);
+    below = has_authors_more count log is.below;
+    split = λ number list here. ⊎_elim (λ before. is.split number list before)
+        (λ new. sym new.1 ∙ (sym (entries_by-none count log is.below) ∙ ap (λ (k : ℕ). entries_by k log) (sym is.count ∙ sym new.0)))
+        (at_end lists [] list number here);
   }
 
+  -- at first there are no authors and no entries
   pub none_yet : IsSplit {E = E} 0 [] []
-  none_yet = record { count = refl; below = tt; split = λ j m here. absurd (mathlib.Core.Option.some-ne-none m (sym here)) }
+  none_yet = record { count = refl; below = tt; split = λ number list here. absurd (some-ne-none list (sym here)) }

@@ -10,25 +10,35 @@ use base.Fml.{Fml, fsep, fex}
 use Rattle.atomic_table.specs.Seated.{fact, itself, seen, roster}
 use Rattle.history.specs.Entries.{entries_by, HasAuthors}
 
+-- the order in which a log grows: one is at most another if it is a prefix of that
 abbrev pub logs : Order (List Gv)
 logs = prefixes itself
 
 module _ {E : Type 0} where
-  -- the lists are what the authors added
+  -- the lists are what the n authors added, each under its author's number
   pub record IsSplit (n : ℕ) (lists : List (List E)) (log : List (ℕ × E)) : Type 0 where
     pub count : length lists ≡ n
     pub below : HasAuthors n log
-    pub split : (k : ℕ) (own : List E) → get_elem? lists k ≡ some own → own ≡ entries_by k log
+    pub split : (number : ℕ) (own : List E) → get_elem? lists number ≡ some own
+        → own ≡ entries_by number log
 
-  module _ (c : E → Gv) where
-    abbrev pub pair_code : ℕ × E → Gv
-    pair_code x = gcons (gnum x.0) (c x.1)
+  -- A history has two ghost names: `.0` is that of its log, and `.1` that of its authors' lists. `code` makes a ghost value of an entry.
+  module _ (code : E → Gv) where
+    -- the ghost value of an entry with its author's number
+    abbrev pub numbered_code : ℕ × E → Gv
+    numbered_code numbered = gcons (gnum numbered.0) (code numbered.1)
 
-    abbrev pub lists_and : ℕ × ℕ → ℕ → List (ℕ × E) → List (List E) → Fml
-    lists_and name n log lists = fsep (roster (code_l c) name.1 0 lists) (fsep (latest logs full_share name.0 (map pair_code log)) (fact (IsSplit n lists log)))
+    -- the log's part of each author's list, all of the log, and that the lists are what the authors added
+    abbrev pub log_with_lists : ℕ × ℕ → (count : ℕ) → List (ℕ × E) → List (List E) → Fml
+    log_with_lists name count log lists =
+        fsep (roster (code_l code) name.1 0 lists)
+        (fsep (latest logs full_share name.0 (map numbered_code log)) (fact (IsSplit count lists log)))
 
-    abbrev pub log_owns : ℕ × ℕ → ℕ → List (ℕ × E) → Fml
-    log_owns name n log = fex (List (List E)) (lists_and name n log)
+    -- what a log owns: the above, for some lists
+    abbrev pub log_owns : ℕ × ℕ → (count : ℕ) → List (ℕ × E) → Fml
+    log_owns name count log = fex (List (List E)) (log_with_lists name count log)
 
-    abbrev pub author_owns : ℕ × ℕ → ℕ → List E → List (ℕ × E) → Fml
-    author_owns name k own so_far = fsep (at_least logs name.0 (map pair_code so_far)) (seen (code_l c) name.1 k three_quarters own)
+    -- what an author owns: that the log is at least what the author saw, and the greater part of its own list
+    abbrev pub author_owns : ℕ × ℕ → (number : ℕ) → (own : List E) → (so_far : List (ℕ × E)) → Fml
+    author_owns name number own so_far =
+        fsep (at_least logs name.0 (map numbered_code so_far)) (seen (code_l code) name.1 number three_quarters own)

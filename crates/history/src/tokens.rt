@@ -7,7 +7,7 @@ ghost use Rattle.history.specs.Entries.{entries_by, HasAuthors};
 
 use std::marker::{Brand, Model, PhantomData};
 
-/// Which history a log and its authors belong to. A function that opens a log is generic over it; call it with
+/// The history that a log and its authors belong to, as a type. A function that opens a log is generic over it; call it with
 /// `std::marker::Brand`.
 pub trait History {
     ghost history: { ℕ × ℕ };
@@ -17,12 +17,12 @@ impl History for Brand {
     ghost history = { (0, 0) };
 }
 
-/// The entry that a call of [`Log::add`] adds, by a value that the caller shows to it.
+/// Tells which entry a call of [`Log::add`] adds: it is made from a value that the caller shows to the call.
 pub trait Adds<X, E> {
     ghost entry: { X → E };
 }
 
-/// A new log without entries, which is of no history yet.
+/// A new log without entries. It becomes the log of a history by [`NewLog::open`].
 pub struct NewLog<E> {
     marker: PhantomData<E>,
     pub ghost name: { ℕ × ℕ } by { coded× coded_ℕ coded_ℕ },
@@ -44,8 +44,8 @@ impl<E, L: History> Model for Log<E, L> {
     ghost also_owns = { λ log. log_owns E.row.coded.code L.history log.authors log.entries };
 }
 
-/// An author of a history: its number, the entries that it added, and the history as it was when it added the last one. No other
-/// author of the history has its number.
+/// An author of a history: its number, the entries that it added, and the history as it was when the author was made or last added
+/// an entry. No other author of the history has its number.
 pub struct Author<E, L: History> {
     marker: PhantomData<(E, L)>,
     pub ghost number: { ℕ },
@@ -59,14 +59,14 @@ impl<E, L: History> Model for Author<E, L> {
 }
 
 impl<E> NewLog<E> {
-    /// Makes a log of a history that there wasn't before.
+    /// Makes a log under a name that no other history has.
     pub fn new() -> NewLog<E> {
         NewLog {
             marker: PhantomData,
         }
     }
 
-    /// Opens the log as that of the history `L`, which must have its name. It has no authors yet.
+    /// Returns the log as that of the history `L`, which must have its name. It has no authors and no entries yet.
     pub fn open<L: History>(self) -> Log<E, L>
         requires { self.name ≡ L.history }
         ensures { (result.authors ≡ 0) × (result.entries ≡ []) }
@@ -79,7 +79,7 @@ impl<E> NewLog<E> {
 }
 
 impl<E, L: History> Log<E, L> {
-    /// Makes another author, with the next number. It has seen all entries.
+    /// Makes an author with the next number. It has added no entries, and has seen all that the log has.
     pub fn author(&mut self) -> Author<E, L>
         ensures log { (self.new.authors ≡ self.old.authors + 1)
             × (self.new.entries ≡ self.old.entries) }
@@ -92,8 +92,11 @@ impl<E, L: History> Log<E, L> {
         }
     }
 
-    /// Adds an author's entry to the end of the log. What the author knows is told of the log before: its own entries are just
-    /// those that the log has under its number, and what it had seen is a beginning of the log.
+    /// Appends the entry that `M` makes of `about` to the log, under the author's number, and to the author's own entries. The
+    /// author has then seen the whole log.
+    ///
+    /// The call also tells what holds of the log before it: its entries under the author's number are exactly the author's own, in
+    /// order; what the author had seen is a prefix of the log; and each entry is of an author that the log made.
     pub fn add<X, M: Adds<X, E>>(&mut self, author: &mut Author<E, L>, about: &X)
         ensures log { (self.new.authors ≡ self.old.authors)
             × (self.new.entries

@@ -21,32 +21,50 @@ use Rattle.puffin_threads.proofs.lemmas.Ids.{all_have}
 
 -- ---- ids
 
-pub all_ids : (b : Bool) (ds : List ScopeDetails) → (IsTrue b ↔ All (λ d. IsSome (details_of d).id) ds) → b ≡ true → AllHaveIds (details_seen ds)
-all_ids b ds test is = All-map (λ d. IsSome d.id) details_of ds (test.0 is)
+-- what the test of all ids tells if it answers yes
+pub all_ids : (answer : Bool) (details : List ScopeDetails) → (IsTrue answer ↔ All (λ one. IsSome (details_of one).id) details)
+    → answer ≡ true → AllHaveIds (details_seen details)
+all_ids answer details test is = All-map (λ one. IsSome one.id) details_of details (test.0 is)
 
-pub not_all_ids : (b : Bool) (ds : List ScopeDetails) → (IsTrue b ↔ All (λ d. IsSome (details_of d).id) ds) → b ≡ false → ¬ AllHaveIds (details_seen ds)
-not_all_ids b ds test is all =
-    let yes : b ≡ true = test.1 (λ k d lt. subst (λ (e : Details). IsSome e.id) (get_or-map details_of ds k d (details_of d) lt) (All-get_or (λ e. IsSome e.id) (details_seen ds) k (details_of d) (omega (arith, lt, length-map ds details_of)) all)) in
+-- and if it answers no
+pub not_all_ids : (answer : Bool) (details : List ScopeDetails) → (IsTrue answer ↔ All (λ one. IsSome (details_of one).id) details)
+    → answer ≡ false → ¬ AllHaveIds (details_seen details)
+not_all_ids answer details test is all =
+    let yes : answer ≡ true = test.1 (λ k one less.
+    subst (λ (seen : Details). IsSome seen.id) (get_or-map details_of details k one (details_of one) less)
+    (All-get_or (λ seen. IsSome seen.id) (details_seen details) k (details_of one)
+    (omega (arith, less, length-map details details_of)) all)) in
     cc
 
-pub ids_after : {A : Type 0} (old more new : List (Arc ScopeDetails A)) → new ≡ old ++ more → AllHaveIds (shared_details old) → AllHaveIds (shared_details more) → AllHaveIds (shared_details new)
+-- details with ids, after details with ids
+pub ids_after : {A : Type 0} (old more new : List (Arc ScopeDetails A)) → new ≡ old ++ more
+    → AllHaveIds (shared_details old) → AllHaveIds (shared_details more) → AllHaveIds (shared_details new)
 ids_after old more new is before later =
-    subst AllHaveIds (sym (ap shared_details is ∙ map-append (λ d. details_of (arc_value d)) old more)) (All-append (λ d. IsSome d.id) (shared_details old) (shared_details more) before later)
+    subst AllHaveIds (sym (ap shared_details is ∙ map-append (λ one. details_of (arc_value one)) old more))
+    (All-append (λ one. IsSome one.id) (shared_details old) (shared_details more) before later)
 
 -- what is refused where all details have ids is refused for memory
-pub memory_alone : {T : Type 0} (r : Result T Error) (e : Error) (ds : List Details) → AllHaveIds ds → r ≡ Err e → ((r ≡ Err MissingId) ↔ (list_any lacks_id ds ≡ true)) → (e ≡ MissingId) ⊎ (e ≡ Memory) → e ≡ Memory
-memory_alone r e ds all is missing (inl none) =
-    let lost : list_any lacks_id ds ≡ true = missing.0 (is ∙ ap Err none) in
-    let kept = all_have ds all in
+pub memory_alone : {T : Type 0} (result : Result T Error) (cause : Error) (details : List Details) → AllHaveIds details
+    → result ≡ Err cause → ((result ≡ Err MissingId) ↔ (list_any lacks_id details ≡ true))
+    → (cause ≡ MissingId) ⊎ (cause ≡ Memory) → cause ≡ Memory
+memory_alone result cause details all is missing (inl none) =
+    let lost : list_any lacks_id details ≡ true = missing.0 (is ∙ ap Err none) in
+    let kept = all_have details all in
     absurd cc
-memory_alone r e ds all is missing (inr memory) = memory
+memory_alone result cause details all is missing (inr memory) = memory
 
 -- ---- lists of details
 
--- the details of a collection's map, in its order
-values-seen : {A : Type 0} (es : List (ℕ × Arc ScopeDetails A)) → map (λ (e : ℕ × Details). e.1) (ids_seen es) ≡ shared_details (values_of es)
+-- the details of a collection's entries, in their order
+values-seen : {A : Type 0} (entries : List (ℕ × Arc ScopeDetails A))
+    → map (λ (entry : ℕ × Details). entry.1) (ids_seen entries) ≡ shared_details (values_of entries)
 values-seen [] = refl
-values-seen (e ∷ es) = ap (λ ds. details_of (arc_value e.1) ∷ ds) (values-seen es)
+values-seen (entry ∷ entries) = ap (λ rest. details_of (arc_value entry.1) ∷ rest) (values-seen entries)
 
-pub values-by_ids : {A : Type 0} (es : List (ℕ × Arc ScopeDetails A)) → IsStrictlySortedBy nat_cmp (keys_of es) → values (by_ids es) ≡ shared_details (values_of es)
-values-by_ids es sorted = ap (map (λ (e : ℕ × Details). e.1)) (entries-seen (λ (id : ℕ). id) (λ d. details_of (arc_value d)) nat_cmp nat_cmp_total es sorted) ∙ values-seen es
+-- the same, of entries that are sorted by id and so make a map
+pub values-by_ids : {A : Type 0} (entries : List (ℕ × Arc ScopeDetails A)) → IsStrictlySortedBy nat_cmp (keys_of entries)
+    → values (by_ids entries) ≡ shared_details (values_of entries)
+values-by_ids entries sorted =
+    ap (map (λ (entry : ℕ × Details). entry.1))
+    (entries-seen (λ (id : ℕ). id) (λ one. details_of (arc_value one)) nat_cmp nat_cmp_total entries sorted)
+    ∙ values-seen entries

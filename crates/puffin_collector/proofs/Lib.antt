@@ -1,4 +1,5 @@
 pub mod lemmas
+mod Seen
 mod Refusing
 mod Reporting
 mod Knowing

@@ -1,4 +1,4 @@
--- Details that stand under their own ids have ids.
+-- Details that stand under their own ids have ids. A collection says so of what is found under an id, and so of all its entries.
 use Rattle.std.proofs.Common.{◌≡◌, ℕ, List, [], ◌∷◌, map, T, cond, Option, None, Some, refl, sym, ap, subst, ◌∙◌}
 use Rattle.std.specs.Prelude.{IsSome}
 use Rattle.std.specs.declared.cmp.Ordering.{Ordering}
@@ -13,29 +13,39 @@ use Rattle.puffin_threads.specs.Details.Collection.{Collection, KeepsOwnIds}
 use Rattle.puffin_frames.proofs.lemmas.Measured.{first, second, less}
 use Rattle.puffin_collector.specs.Collector.State.{all_details}
 
--- each of these entries is the one that is found under its key
+-- what is found in a list under an id is details with that id
 abbrev pub Owned : List (ℕ × Details) → Type 0
-Owned es = (i : ℕ) (d : Details) → find nat_cmp i es ≡ Some d → d.id ≡ Some i
+Owned list = (id : ℕ) (details : Details) → find nat_cmp id list ≡ Some details → details.id ≡ Some id
 
-none_below : (i : ℕ) (es : List (ℕ × Details)) → T (below_all nat_cmp i es) → find nat_cmp i es ≡ None
-none_below i [] below = refl
-none_below i (e ∷ es) below =
-    ap (λ o. cond (is_eq o) (Some e.1) (find nat_cmp i es)) (less (nat_cmp i e.0) (first _ _ below))
-    ∙ none_below i es (second (is_lt (nat_cmp i e.0)) _ below)
+-- nothing is found under an id that is below all
+none_below : (id : ℕ) (list : List (ℕ × Details)) → T (below_all nat_cmp id list) → find nat_cmp id list ≡ None
+none_below id [] below = refl
+none_below id (entry ∷ list) below =
+    ap (λ order. cond (is_eq order) (Some entry.1) (find nat_cmp id list)) (less (nat_cmp id entry.0) (first _ _ below))
+    ∙ none_below id list (second (is_lt (nat_cmp id entry.0)) _ below)
 
-past_first : (o : Ordering) (i : ℕ) (d : Details) (e : ℕ × Details) (es : List (ℕ × Details)) → nat_cmp i e.0 ≡ o → T (below_all nat_cmp e.0 es) → find nat_cmp i es ≡ Some d → cond (is_eq o) (Some e.1) (find nat_cmp i es) ≡ Some d
-past_first Less i d e es is below found = found
-past_first Equal i d e es is below found =
-    let none = ap (λ k. find nat_cmp k es) (nat_cmp-IsAntisymmetric i e.0 is) ∙ none_below e.0 es below in
+-- what is found past the first entry, which is below the others, is found in the whole list
+past_first : (order : Ordering) (id : ℕ) (details : Details) (entry : ℕ × Details) (list : List (ℕ × Details))
+    → nat_cmp id entry.0 ≡ order → T (below_all nat_cmp entry.0 list) → find nat_cmp id list ≡ Some details
+    → cond (is_eq order) (Some entry.1) (find nat_cmp id list) ≡ Some details
+past_first Less id details entry list is below found = found
+past_first Equal id details entry list is below found =
+    let none = ap (λ k. find nat_cmp k list) (nat_cmp-IsAntisymmetric id entry.0 is) ∙ none_below entry.0 list below in
     absurd cc
-past_first Greater i d e es is below found = found
+past_first Greater id details entry list is below found = found
 
-all_owned : (es : List (ℕ × Details)) → T (is_sorted nat_cmp es) → Owned es → AllHaveIds (map (λ e. e.1) es)
-all_owned [] sorted owned = All-nil (λ d. IsSome d.id)
-all_owned (e ∷ es) sorted owned =
-    let here : e.1.id ≡ Some e.0 = owned e.0 e.1 (ap (λ o. cond (is_eq o) (Some e.1) (find nat_cmp e.0 es)) (tied_itself nat_cmp_total e.0)) in
-    let later = all_owned es (second (below_all nat_cmp e.0 es) _ sorted) (λ i d found. owned i d (past_first (nat_cmp i e.0) i d e es refl (first _ _ sorted) found)) in
-    All-cons (λ d. IsSome d.id) e.1 (map (λ e. e.1) es) (subst (λ (o : Option ℕ). IsSome o) (sym here) refl) later
+-- all details of such a list have ids, if it is sorted by id
+all_owned : (list : List (ℕ × Details)) → T (is_sorted nat_cmp list) → Owned list → AllHaveIds (map (λ entry. entry.1) list)
+all_owned [] sorted owned = All-nil (λ one. IsSome one.id)
+all_owned (entry ∷ list) sorted owned =
+    let own_id : entry.1.id ≡ Some entry.0 = owned entry.0 entry.1
+    (ap (λ order. cond (is_eq order) (Some entry.1) (find nat_cmp entry.0 list)) (tied_itself nat_cmp_total entry.0)) in
+    let has_id : IsSome entry.1.id = subst (λ (id : Option ℕ). IsSome id) (sym own_id) refl in
+    let later = all_owned list (second (below_all nat_cmp entry.0 list) _ sorted) (λ id details found.
+    owned id details (past_first (nat_cmp id entry.0) id details entry list refl (first _ _ sorted) found)) in
+    All-cons (λ one. IsSome one.id) entry.1 (map (λ entry. entry.1) list) has_id later
 
+-- all details of a collection have ids
 pub all_have_ids : (collection : Collection) → KeepsOwnIds collection → AllHaveIds (all_details collection)
-all_have_ids collection own = all_owned (entries collection.by_id) (entries_sorted collection.by_id) (λ i d found. own i d (get-entries collection.by_id i ∙ found))
+all_have_ids collection own = all_owned (entries collection.by_id) (entries_sorted collection.by_id)
+    (λ id details found. own id details (get-entries collection.by_id id ∙ found))

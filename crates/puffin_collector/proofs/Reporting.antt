@@ -1,5 +1,5 @@
 -- What is kept beside the pending streams, with one report more.
-use Rattle.std.proofs.Common.{◌≡◌, ℕ, ◌+◌, ◌^◌, ◌<◌, ◌≤◌, ◌⊎◌, inl, inr, length, ◌∷◌, List, Bool, true, false, MatchBool, ap, ◌∙◌, subst, arith, ℤ}
+use Rattle.std.proofs.Common.{◌≡◌, ℕ, ◌+◌, ◌^◌, ◌<◌, ◌≤◌, ◌⊎◌, inl, inr, length, ◌∷◌, Bool, true, false, MatchBool, ap, ◌∙◌, subst, arith, ℤ}
 use Rattle.std.specs.Int.{int_min, int_max}
 use Rattle.std.specs.FinMap as map
 use Rattle.std.proofs.lemmas.Int.{ints, clamps}
@@ -10,106 +10,135 @@ use Rattle.puffin_frames.specs.Frame.Contents.{Streams, reported_to, AreHonest}
 use Rattle.puffin_frames.specs.Frame.Holding.{HaveLayout}
 use Rattle.puffin_frames.specs.Frame.Sums.{total_bytes, total_scopes, joined_start, joined_stop, meta_of, IsOrdered, DurationFits}
 use Rattle.puffin_frames.specs.declared.frame_data.meta.FrameMeta.{FrameMeta}
+use Rattle.puffin_frames.proofs.lemmas.Ranges.{least_start-one, greatest_stop-one}
 use Rattle.puffin_collector.specs.Collector.State.{Collected, PendingFits, range_with, IsTooLong}
 use Rattle.puffin_collector.specs.Collector.Collecting.{IsTallied}
 use Rattle.puffin_collector.specs.inner.ReportSums.{AddsUp}
 
--- what a frame of all that is pending would say, and what it says once joined with one info more
-pub record Joins (c : Collected) (meta more : FrameMeta) (r : StreamFacts) : Type 0 where
-  pub sums : meta ≡ meta_of c.index (map.values c.streams)
-  pub frame_index : more.frame_index ≡ meta.frame_index
-  pub num_bytes : more.num_bytes ≡ meta.num_bytes + length r.bytes
-  pub num_scopes : more.num_scopes ≡ meta.num_scopes + r.num_scopes
-  pub start : more.range_ns.0 ≡ int_min meta.range_ns.0 r.range_ns.0
-  pub stop : more.range_ns.1 ≡ int_max meta.range_ns.1 r.range_ns.1
-  pub fit : (more.num_bytes < 2 ^ 64) × (more.num_scopes < 2 ^ 64)
-  pub reported : c.reported + r.num_scopes < 2 ^ 64
+-- `meta` is that of a frame of all that is pending, and `joined` is what it becomes with one stream more
+pub record Joins (old : Collected) (meta joined : FrameMeta) (stream : StreamFacts) : Type 0 where
+  pub sums : meta ≡ meta_of old.index (map.values old.streams)
+  pub frame_index : joined.frame_index ≡ meta.frame_index
+  pub num_bytes : joined.num_bytes ≡ meta.num_bytes + length stream.bytes
+  pub num_scopes : joined.num_scopes ≡ meta.num_scopes + stream.num_scopes
+  pub start : joined.range_ns.0 ≡ int_min meta.range_ns.0 stream.range_ns.0
+  pub stop : joined.range_ns.1 ≡ int_max meta.range_ns.1 stream.range_ns.1
+  pub fit : (joined.num_bytes < 2 ^ 64) × (joined.num_scopes < 2 ^ 64)
+  pub reported : old.reported + stream.num_scopes < 2 ^ 64
 
-module _ (c : Collected) (meta more : FrameMeta) (r : StreamFacts) (h : Joins c meta more r) where
-  bytes_are : meta.num_bytes ≡ total_bytes (map.values c.streams)
-  bytes_are = ap (λ m. m.num_bytes) h.sums
+module _ (old : Collected) (meta joined : FrameMeta) (stream : StreamFacts) (joins : Joins old meta joined stream) where
+  -- what the meta of all that is pending says, part by part
+  bytes_are : meta.num_bytes ≡ total_bytes (map.values old.streams)
+  bytes_are = ap (λ m. m.num_bytes) joins.sums
 
-  scopes_are : meta.num_scopes ≡ total_scopes (map.values c.streams)
-  scopes_are = ap (λ m. m.num_scopes) h.sums
+  scopes_are : meta.num_scopes ≡ total_scopes (map.values old.streams)
+  scopes_are = ap (λ m. m.num_scopes) joins.sums
 
-  start_is : meta.range_ns.0 ≡ joined_start (map.values c.streams)
-  start_is = ap (λ m. m.range_ns.0) h.sums
+  start_is : meta.range_ns.0 ≡ joined_start (map.values old.streams)
+  start_is = ap (λ m. m.range_ns.0) joins.sums
 
-  stop_is : meta.range_ns.1 ≡ joined_stop (map.values c.streams)
-  stop_is = ap (λ m. m.range_ns.1) h.sums
+  stop_is : meta.range_ns.1 ≡ joined_stop (map.values old.streams)
+  stop_is = ap (λ m. m.range_ns.1) joins.sums
 
-  pub sums_fit : PendingFits c r
+  -- the sums fit 64 bits, because those of the joined meta do
+  pub sums_fit : PendingFits old stream
   sums_fit = record {
-    bytes = omega (arith, bytes_are, h.num_bytes, h.fit.0);
-    scopes = omega (arith, scopes_are, h.num_scopes, h.fit.1);
-    reported = h.reported;
+    bytes = omega (arith, bytes_are, joins.num_bytes, joins.fit.0);
+    scopes = omega (arith, scopes_are, joins.num_scopes, joins.fit.1);
+    reported = joins.reported;
   }
 
-  -- by the laws of one info more
-  pub range_is : ((x : StreamFacts) (xs : List StreamFacts) → joined_start (x ∷ xs) ≡ int_min x.range_ns.0 (joined_start xs)) → ((x : StreamFacts) (xs : List StreamFacts) → joined_stop (x ∷ xs) ≡ int_max x.range_ns.1 (joined_stop xs)) → more.range_ns ≡ range_with c r
-  range_is one_start one_stop =
-      let first : more.range_ns.0 ≡ joined_start (r ∷ map.values c.streams) = omega (arith, ints, clamps, h.start, start_is, one_start r (map.values c.streams)) in
-      let last : more.range_ns.1 ≡ joined_stop (r ∷ map.values c.streams) = omega (arith, ints, clamps, h.stop, stop_is, one_stop r (map.values c.streams)) in
+  -- the joined meta's range is that of all that is pending and the stream
+  pub range_is : joined.range_ns ≡ range_with old stream
+  range_is =
+      let streams = map.values old.streams in
+      let first : joined.range_ns.0 ≡ joined_start (stream ∷ streams) =
+      omega (arith, ints, clamps, joins.start, start_is, least_start-one stream streams) in
+      let last : joined.range_ns.1 ≡ joined_stop (stream ∷ streams) =
+      omega (arith, ints, clamps, joins.stop, stop_is, greatest_stop-one stream streams) in
       λ i. (first i, last i)
 
-  pub adds_up : more.range_ns ≡ range_with c r → (IsOrdered more.range_ns → DurationFits more.range_ns) → AddsUp c more r
-  adds_up range duration = record {
-    frame_index = h.frame_index ∙ ap (λ m. m.frame_index) h.sums;
-    num_bytes = omega (arith, bytes_are, h.num_bytes);
-    num_scopes = omega (arith, scopes_are, h.num_scopes);
-    range = range;
+  -- the joined meta is that of a frame of all that is pending and the stream
+  pub adds_up : (IsOrdered joined.range_ns → DurationFits joined.range_ns) → AddsUp old joined stream
+  adds_up duration = record {
+    frame_index = joins.frame_index ∙ ap (λ m. m.frame_index) joins.sums;
+    num_bytes = omega (arith, bytes_are, joins.num_bytes);
+    num_scopes = omega (arith, scopes_are, joins.num_scopes);
+    range = range_is;
     duration = duration;
   }
 
--- what is kept after a report, by the laws of what a report does to all streams
-pub record Laws (streams : Streams) (i : ThreadKey) (r : StreamFacts) (f : Forest) : Type 0 where
-  pub bytes : total_bytes (map.values (reported_to streams i r)) ≡ total_bytes (map.values streams) + length r.bytes
-  pub scopes : total_scopes (map.values (reported_to streams i r)) ≡ total_scopes (map.values streams) + r.num_scopes
-  pub start : joined_start (map.values (reported_to streams i r)) ≡ int_min (joined_start (map.values streams)) r.range_ns.0
-  pub stop : joined_stop (map.values (reported_to streams i r)) ≡ int_max (joined_stop (map.values streams)) r.range_ns.1
-  pub honest : AreHonest streams → AreHonestFacts r f → AreHonest (reported_to streams i r)
+-- what a report does to the sums of all streams, and to their honesty
+pub record Laws (streams : Streams) (thread : ThreadKey) (stream : StreamFacts) (forest : Forest) : Type 0 where
+  pub bytes : total_bytes (map.values (reported_to streams thread stream))
+      ≡ total_bytes (map.values streams) + length stream.bytes
+  pub scopes : total_scopes (map.values (reported_to streams thread stream))
+      ≡ total_scopes (map.values streams) + stream.num_scopes
+  pub start : joined_start (map.values (reported_to streams thread stream))
+      ≡ int_min (joined_start (map.values streams)) stream.range_ns.0
+  pub stop : joined_stop (map.values (reported_to streams thread stream))
+      ≡ int_max (joined_stop (map.values streams)) stream.range_ns.1
+  pub honest : AreHonest streams → AreHonestFacts stream forest → AreHonest (reported_to streams thread stream)
 
-pub kept_after : (c : Collected) (meta more : FrameMeta) (i : ThreadKey) (r : StreamFacts) (f : Forest) (reported : ℕ) → Laws c.streams i r f → AddsUp c more r → joined_start (r ∷ map.values c.streams) ≡ int_min r.range_ns.0 (joined_start (map.values c.streams))
-    → joined_stop (r ∷ map.values c.streams) ≡ int_max r.range_ns.1 (joined_stop (map.values c.streams)) → IsTallied c.streams meta c.reported c.emitted → HaveLayout (reported_to c.streams i r) → AreHonestFacts r f → reported ≡ c.reported + r.num_scopes
-    → IsTallied (reported_to c.streams i r) more reported c.emitted
-kept_after c meta more i r f reported laws h one_start one_stop kept layout honest sum = record {
-  sums = λ j. record {
-    frame_index = more.frame_index;
-    range_ns = (first j, last j);
-    num_bytes = bytes j;
-    num_scopes = scopes j;
+-- what is kept after a report, by these laws
+pub kept_after : (old : Collected) (meta joined : FrameMeta) (thread : ThreadKey) (stream : StreamFacts) (forest : Forest) (reported : ℕ)
+    → Laws old.streams thread stream forest → AddsUp old joined stream → IsTallied old.streams meta old.reported old.emitted
+    → HaveLayout (reported_to old.streams thread stream) → AreHonestFacts stream forest
+    → reported ≡ old.reported + stream.num_scopes
+    → IsTallied (reported_to old.streams thread stream) joined reported old.emitted
+kept_after old meta joined thread stream forest reported laws adds kept layout honest sum = record {
+  sums = λ i. record {
+    frame_index = joined.frame_index;
+    range_ns = (first i, last i);
+    num_bytes = bytes i;
+    num_scopes = scopes i;
   };
-  counted = omega (arith, kept.counted, ap (λ (m : FrameMeta). m.num_scopes) kept.sums, h.num_scopes, sum);
+  counted = omega (arith, kept.counted, ap (λ (m : FrameMeta). m.num_scopes) kept.sums, adds.num_scopes, sum);
   honest = laws.honest kept.honest honest;
   layout = layout;
-  duration = h.duration;
+  duration = adds.duration;
 }
   where
-    first : more.range_ns.0 ≡ joined_start (map.values (reported_to c.streams i r))
-    first = omega (arith, ints, clamps, ap (λ (p : ℤ × ℤ). p.0) h.range, one_start, laws.start)
+    first : joined.range_ns.0 ≡ joined_start (map.values (reported_to old.streams thread stream))
+    first =
+        let range = ap (λ (range : ℤ × ℤ). range.0) adds.range in
+        omega (arith, ints, clamps, range, least_start-one stream (map.values old.streams), laws.start)
 
-    last : more.range_ns.1 ≡ joined_stop (map.values (reported_to c.streams i r))
-    last = omega (arith, ints, clamps, ap (λ (p : ℤ × ℤ). p.1) h.range, one_stop, laws.stop)
+    last : joined.range_ns.1 ≡ joined_stop (map.values (reported_to old.streams thread stream))
+    last =
+        let range = ap (λ (range : ℤ × ℤ). range.1) adds.range in
+        omega (arith, ints, clamps, range, greatest_stop-one stream (map.values old.streams), laws.stop)
 
-    bytes : more.num_bytes ≡ total_bytes (map.values (reported_to c.streams i r))
-    bytes = omega (arith, h.num_bytes, laws.bytes)
+    bytes : joined.num_bytes ≡ total_bytes (map.values (reported_to old.streams thread stream))
+    bytes = omega (arith, adds.num_bytes, laws.bytes)
 
-    scopes : more.num_scopes ≡ total_scopes (map.values (reported_to c.streams i r))
-    scopes = omega (arith, h.num_scopes, laws.scopes)
+    scopes : joined.num_scopes ≡ total_scopes (map.values (reported_to old.streams thread stream))
+    scopes = omega (arith, adds.num_scopes, laws.scopes)
 
--- sums that don't fit
-pub too_large : (c : Collected) (meta : FrameMeta) (r : StreamFacts) → meta ≡ meta_of c.index (map.values c.streams) → (2 ^ 64 ≤ meta.num_bytes + length r.bytes) ⊎ (2 ^ 64 ≤ meta.num_scopes + r.num_scopes) → ¬ PendingFits c r
-too_large c meta r sums (inl bytes) fits = omega (arith, ap (λ (m : FrameMeta). m.num_bytes) sums, bytes, fits.bytes)
-too_large c meta r sums (inr scopes) fits = omega (arith, ap (λ (m : FrameMeta). m.num_scopes) sums, scopes, fits.scopes)
+-- where bytes or scopes don't fit 64 bits, the sums don't fit
+pub too_large : (old : Collected) (meta : FrameMeta) (stream : StreamFacts) → meta ≡ meta_of old.index (map.values old.streams)
+    → (2 ^ 64 ≤ meta.num_bytes + length stream.bytes) ⊎ (2 ^ 64 ≤ meta.num_scopes + stream.num_scopes)
+    → ¬ PendingFits old stream
+too_large old meta stream sums (inl bytes) fits = omega (arith, ap (λ (m : FrameMeta). m.num_bytes) sums, bytes, fits.bytes)
+too_large old meta stream sums (inr scopes) fits = omega (arith, ap (λ (m : FrameMeta). m.num_scopes) sums, scopes, fits.scopes)
 
--- the answer of the test
-pub too_long : (answer : Bool) (range other : ℤ × ℤ) → range ≡ other → MatchBool answer (IsTooLong range) (IsOrdered range → DurationFits range) → answer ≡ true → IsTooLong other
+-- ---- what `is_too_long` answers
+
+-- the answer tells whether the range is too long
+abbrev pub Tests : (answer : Bool) → (range : ℤ × ℤ) → Type 0
+Tests answer range = MatchBool answer (IsTooLong range) (IsOrdered range → DurationFits range)
+
+-- it says yes of a range that equals the other
+pub too_long : (answer : Bool) (range other : ℤ × ℤ) → range ≡ other → Tests answer range → answer ≡ true → IsTooLong other
 too_long true range other same test is = subst IsTooLong same test
 too_long false range other same test is = absurd cc
 
-pub duration_fits : (answer : Bool) (range : ℤ × ℤ) → MatchBool answer (IsTooLong range) (IsOrdered range → DurationFits range) → answer ≡ false → IsOrdered range → DurationFits range
+-- it says no: the duration fits, unless the range is reversed
+pub duration_fits : (answer : Bool) (range : ℤ × ℤ) → Tests answer range → answer ≡ false → IsOrdered range → DurationFits range
 duration_fits true range test is = absurd cc
 duration_fits false range test is = test
 
-pub not_too_long : (answer : Bool) (range other : ℤ × ℤ) → range ≡ other → MatchBool answer (IsTooLong range) (IsOrdered range → DurationFits range) → answer ≡ false → ¬ IsTooLong other
-not_too_long answer range other same test is = subst (λ x. ¬ IsTooLong x) same (λ t. t.1 (duration_fits answer range test is t.0))
+-- it says no of a range that equals the other
+pub not_too_long : (answer : Bool) (range other : ℤ × ℤ) → range ≡ other → Tests answer range → answer ≡ false → ¬ IsTooLong other
+not_too_long answer range other same test is =
+    subst (λ range. ¬ IsTooLong range) same (λ long. long.1 (duration_fits answer range test is long.0))

@@ -1,11 +1,11 @@
-ghost use Rattle.std.specs.Prelude.{◌≡◌, ◌<◌, ◌⊎◌, ◌↔◌, [], ◌∷◌, None, Some, true, OnOk, OnErr, IfOk, IfErr, IsOkUnless, IsTrue};
+ghost use Rattle.std.specs.Prelude.{◌≡◌, ◌<◌, ◌⊎◌, ◌↔◌, true, OnOk, OnErr, IfOk, IfErr, IsOkUnless, IsTrue};
 ghost use Rattle.std.specs.Arc.{arc_value};
 ghost use Rattle.std.specs.List.{list_any};
 ghost use Rattle.std.specs.FinMap as map;
-ghost use Rattle.puffin_threads.specs.Details.{details_of, details_seen, shared_details, lacks_id, with_id};
+ghost use Rattle.puffin_threads.specs.Details.{details_of, details_seen, shared_details, lacks_id};
 ghost use Rattle.puffin_frames.specs.Frame.Sums.{total_scopes};
-ghost use Rattle.puffin_collector.specs.Collector.State.{nothing_collected, after_adding, after_learning, after_wanting};
-ghost use Rattle.puffin_collector.specs.Collector.Registering.{known_id, Adds, AddsSome};
+ghost use Rattle.puffin_collector.specs.Collector.State.{nothing_collected, after_learning, after_wanting};
+ghost use Rattle.puffin_collector.specs.Collector.Registering.{Adds, AddsSome, AddsOne, IsAddingRefusal};
 ghost use Rattle.puffin_collector.specs.Collector.Collecting.{CollectsFrame, CountsScopes, KnowsSome};
 ghost use Rattle.puffin_collector.specs.inner.HandingOut.{HoldsPending, after_handing_out};
 
@@ -36,13 +36,14 @@ mod reporting;
 pub struct Collector {
     alloc: Global,
     pending: ThreadStreams,
+    // The meta of a frame of all that is pending.
     meta: FrameMeta,
     reported: u64,
     emitted: u64,
     collection: ScopeCollection,
     new_details: Vec<Arc<ScopeDetails>>,
     wants_all: bool,
-    // How many bytes may be pending after a report, unless it is the first one.
+    // How many bytes may be pending after a report, unless nothing was pending before it.
     max_pending: usize,
 }
 
@@ -57,20 +58,20 @@ impl Model for Collector {
     ghost use Rattle.puffin_threads.specs.Details.{shared_details, AllHaveIds};
     ghost use Rattle.puffin_collector.specs.Collector.Collecting.{IsTallied};
 
-    ghost view = { λ c.
+    ghost view = { λ fields.
         record {
-          index = c.meta.frame_index;
-          reported = c.reported;
-          emitted = c.emitted;
-          streams = shared_streams c.pending.entries;
-          collection = c.collection;
-          new_details = shared_details c.new_details.items;
-          wants_all = c.wants_all;
+          index = fields.meta.frame_index;
+          reported = fields.reported;
+          emitted = fields.emitted;
+          streams = shared_streams fields.pending.entries;
+          collection = fields.collection;
+          new_details = shared_details fields.new_details.items;
+          wants_all = fields.wants_all;
         } };
 
-    ghost invariant = { λ c.
-        IsTallied (shared_streams c.pending.entries) c.meta c.reported c.emitted
-        × AllHaveIds (shared_details c.new_details.items) };
+    ghost invariant = { λ fields.
+        IsTallied (shared_streams fields.pending.entries) fields.meta fields.reported fields.emitted
+        × AllHaveIds (shared_details fields.new_details.items) };
 }
 
 impl Collector {
@@ -123,23 +124,18 @@ impl Collector {
         Ok(scope_ids)
     }
 
-    /// Registers one scope. If it fails, nothing changes, but an id may be used up.
+    /// Registers one scope, as [`Collector::register_user_scopes`] does, and returns its id. If it fails, nothing changes, but an id
+    /// may be used up.
     fn register_user_scope(&mut self, ids: &ScopeIds, details: &ScopeDetails) -> Result<ScopeId>
-        ensures ok { IfOk result (λ id.
-            ((known_id self.old.collection (details_of details.now) ≡ Some id)
-            × (self.new ≡ self.old))
-            ⊎ ((known_id self.old.collection (details_of details.now) ≡ None)
-            × (self.new
-            ≡ after_adding self.old (with_id (details_of details.now) id ∷ [])))) }
+        ensures ok { IfOk result (λ id. AddsOne self.old (details_of details.now) id self.new) }
         ensures err { OnErr result (self.new ≡ self.old) }
-        ensures cause { IfErr result (λ e.
-            (e ≡ Error.Memory)
-            ⊎ ((e ≡ Error.IdsExhausted)
-            × (known_id self.old.collection (details_of details.now) ≡ None))) }
+        ensures cause { IfErr result (
+            IsAddingRefusal self.old.collection (details_of details.now)) }
     {
         if let Some(id) = self.collection.fetch_by_name(details.name().as_str()) {
             return Ok(*id);
         }
+        // The room is made first, so that no step can fail once the collection knows the scope.
         self.new_details.reserve(1)?;
         let id = ids.draw()?;
         let details = Arc::new(self.alloc, details.clone()?.with_scope_id(id))?;
@@ -198,13 +194,15 @@ impl Collector {
             &self.collection,
             self.wants_all,
         )?;
+        // The frame has its list already, so what becomes known here isn't listed twice.
         self.collection.insert_all(&self.new_details)?;
         let frame = self.hand_out(next, delta)?;
         Ok(Some(frame))
     }
 
-    /// Moves all that is pending into a frame that lists these details. At least one scope must be pending. The next frame then
-    /// has the index `next`, no new details, and no request for a snapshot. Fails only with `Memory`; nothing changes then.
+    /// Moves all that is pending into a frame that lists the details of `delta`, and returns it. A scope must be pending. The next
+    /// frame then has the index `next`, no new details, and no request for a snapshot. Fails only with `Memory`; nothing changes
+    /// then.
     #[tactic(auto, using(puffin_frames::proofs::lemmas::Measured::no_values, puffin_frames::proofs::lemmas::Honest::none_is_honest, puffin_frames::proofs::lemmas::Honest::ordered, puffin_frames::proofs::lemmas::LayoutsKept::none_laid_out, puffin_frames::proofs::lemmas::PackedAgain::read_again,))]
     fn hand_out(
         &mut self,
@@ -218,6 +216,7 @@ impl Collector {
         ensures err { OnErr result (self.new ≡ self.old) }
         ensures memory { IsOkUnless result Error.Memory }
     {
+        // The streams are taken out, because the frame has to own them before it is known that there is memory for it.
         let thread_streams = mem::replace(&mut self.pending, BTreeMap::new(self.alloc));
         let unpacked = UnpackedFrameData {
             meta: self.meta,
@@ -233,6 +232,7 @@ impl Collector {
                 Ok(frame)
             }
             Err(refused) => {
+                // The frame comes back with the refusal, so its streams are pending again.
                 self.pending = refused.value.into_unpacked().thread_streams;
                 Err(Error::Memory)
             }

@@ -1,3 +1,5 @@
+//! Details of scopes: copies of them, and the list of them in a frame.
+
 ghost use Rattle.std.specs.Prelude.{◌≡◌, ◌++◌, ◌↔◌, OnOk, IfOk, All, IsTrue, IsSome, IsOkUnless};
 ghost use Rattle.puffin_threads.specs.Details.{details_of, details_seen, shared_details, AllHaveIds};
 ghost use Rattle.puffin_threads.specs.Details.Collection.{KeepsOwnIds};
@@ -10,13 +12,16 @@ use std::sync::Arc;
 
 /// Returns whether all of these details have ids.
 pub(crate) fn all_have_ids(details: &[ScopeDetails]) -> bool
-    ensures { IsTrue result ↔ All (λ d. IsSome (details_of d).id) details.now }
+    ensures { IsTrue result ↔ All (λ one. IsSome (details_of one).id) details.now }
 {
     details.iter().all(|details| details.scope_id().is_some())
 }
 
-/// Copies details. Fails only with `Memory`.
-pub(crate) fn copies(alloc: Global, details: &[ScopeDetails]) -> Result<Vec<Arc<ScopeDetails>>>
+/// Copies details, each into an `Arc` of its own. Fails only with `Memory`.
+pub(crate) fn copy_details(
+    alloc: Global,
+    details: &[ScopeDetails],
+) -> Result<Vec<Arc<ScopeDetails>>>
     ensures ok { IfOk result (λ copies. shared_details copies.items ≡ details_seen details.now) }
     ensures err { IsOkUnless result Error.Memory }
 {
@@ -47,16 +52,17 @@ pub(crate) fn scope_delta(
         delta.push(details.clone()?)?;
     }
     if wants_all {
-        tell_of_all(&mut delta, collection)?;
+        append_all(&mut delta, collection)?;
     }
     Ok(delta)
 }
 
-/// Appends all details of a collection, sorted by id. Fails only with `Memory`.
-fn tell_of_all(delta: &mut Vec<Arc<ScopeDetails>>, collection: &ScopeCollection) -> Result<()>
+/// Appends all details of a collection, sorted by id. Fails only with `Memory`; some may be appended then.
+fn append_all(delta: &mut Vec<Arc<ScopeDetails>>, collection: &ScopeCollection) -> Result<()>
     ensures ok { OnOk result (
         shared_details delta.new.items
         ≡ shared_details delta.old.items ++ all_details collection.now) }
+    // The collection keeps details only under their own ids, so each of them has one.
     ensures own { KeepsOwnIds collection.now }
     ensures err { IsOkUnless result Error.Memory }
 {

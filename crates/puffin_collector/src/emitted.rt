@@ -1,3 +1,5 @@
+//! What handing out a frame returns.
+
 use puffin_frames::frame_data::FrameData;
 use std::sync::Arc;
 

@@ -1,3 +1,5 @@
+//! Numbers of scopes.
+
 ghost use Rattle.std.specs.Prelude.{◌≡◌, ◌+◌};
 
 /// The numbers of scopes that were reported, are pending, and were handed out in frames.

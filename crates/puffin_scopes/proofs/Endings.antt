@@ -1,4 +1,5 @@
--- Endings of a text, taken off.
+-- Endings of a text, taken off. std's `trim_end_matches` takes closure endings off one by one, and leaves a text without one;
+-- `without_closures` has as many steps as the text has bytes, which are enough, since each ending has bytes.
 use Rattle.std.proofs.Common.{◌≡◌, ◌≢◌, ℕ, zero, suc, ◌-◌, ◌≤◌, true, false, List, [], ◌∷◌, ◌++◌, length, take, refl, sym, ◌∙◌, ap, arith, Option, Some, None, nat_eq}
 use Rattle.std.specs.List.{ends_with}
 use Rattle.std.specs.Option.{IfSome}
@@ -7,48 +8,65 @@ use Rattle.std.proofs.lemmas.Slice.Eq.{ends_is}
 use Rattle.std.proofs.lemmas.List.{length-take-le, length-append}
 use Rattle.std.proofs.lemmas.Bool.Decides.{Decides-eqb}
 use Rattle.std.proofs.lemmas.Bool.{false_from_ne_true}
-use Rattle.puffin_scopes.specs.Names.Functions.{closure_ending, without_closures_by, without_closures}
+use Rattle.puffin_scopes.specs.Names.Functions.{closure_ending, without_last, without_closures_by, without_closures}
 
-pub ends : (word s front : List ℕ) → s ≡ front ++ word → ends_with nat_eq s word ≡ true
-ends word s front e = (ends_is Decides-eqb s word (ends_with nat_eq s word) refl).1 front e
+-- a text that ends with a word
+pub ends : (word text front : List ℕ) → text ≡ front ++ word → ends_with nat_eq text word ≡ true
+ends word text front split = (ends_is Decides-eqb text word (ends_with nat_eq text word) refl).1 front split
 
-pub lacks_end : (word s : List ℕ) → ((front : List ℕ) → s ≢ front ++ word) → ends_with nat_eq s word ≡ false
-lacks_end word s h = false_from_ne_true _ (λ e. h (take (length s - length word) s) ((ends_is Decides-eqb s word (ends_with nat_eq s word) refl).0 e))
+-- a text that doesn't end with a word
+pub lacks_end : (word text : List ℕ) → ((front : List ℕ) → text ≢ front ++ word) → ends_with nat_eq text word ≡ false
+lacks_end word text lacks = false_from_ne_true _ (λ has.
+    lacks (take (length text - length word) text) ((ends_is Decides-eqb text word (ends_with nat_eq text word) refl).0 has))
 
 -- nothing is taken off what has no such ending
-stays : (n : ℕ) (s : List ℕ) → ends_with nat_eq s closure_ending ≡ false → without_closures_by n s ≡ s
-stays zero s h = refl
-stays (suc n) s h = rw h refl
+stays : (n : ℕ) (text : List ℕ) → ends_with nat_eq text closure_ending ≡ false → without_closures_by n text ≡ text
+stays zero text lacks = refl
+stays (suc n) text lacks = rw lacks refl
 
--- one ending taken off by enough steps
-step : (n : ℕ) (s : List ℕ) → ends_with nat_eq s closure_ending ≡ true → without_closures_by (suc n) s ≡ without_closures_by n (take (length s - 13) s)
-step n s h = rw h refl
+-- one step takes an ending off
+step : (n : ℕ) (text : List ℕ) → ends_with nat_eq text closure_ending ≡ true
+    → without_closures_by (suc n) text ≡ without_closures_by n (without_last 13 text)
+step n text has = rw has refl
+
+-- n steps from one text come to the same as some number of steps from another, which are enough for it
+abbrev ComesTo : (n : ℕ) → (text rest : List ℕ) → Type 0
+ComesTo n text rest = (m : ℕ) × (length rest ≤ m) × (without_closures_by n text ≡ without_closures_by m rest)
 
 -- the ending that was found last is taken off too
-cut_more : (s : List ℕ) (n : ℕ) (mid r : List ℕ) (k : ℕ) → FindsTextSuffix closure_ending mid (Some k) → r ≡ take (length mid - k) mid → (m : ℕ) × (length mid ≤ m) × (without_closures_by n s ≡ without_closures_by m mid) → (m : ℕ) × (length r ≤ m) × (without_closures_by n s ≡ without_closures_by m r)
-cut_more s n mid r k found off (zero, fits, same) =
-    let e : k ≡ 13 = found.0 in
-    let l : 13 ≤ length mid = omega (arith, ap length found.1, length-append {A = ℕ}) in
+cut_more : (text : List ℕ) (n : ℕ) (between rest : List ℕ) (size : ℕ) → FindsTextSuffix closure_ending between (Some size)
+    → rest ≡ without_last size between → ComesTo n text between → ComesTo n text rest
+cut_more text n between rest size found off (zero, fits, same) =
+    let thirteen : size ≡ 13 = found.0 in
+    let long : 13 ≤ length between = omega (arith, ap length found.1, length-append {A = ℕ}) in
     absurd (omega arith)
-cut_more s n mid r k found off (suc m, fits, same) =
-    let e : k ≡ 13 = found.0 in
-    let short : r ≡ take (length mid - 13) mid = off ∙ ap (λ i. take (length mid - i) mid) e in
-    let l : 13 ≤ length mid = omega (arith, ap length found.1, length-append {A = ℕ}) in
-    let t : length r ≡ length mid - 13 = ap length short ∙ length-take-le (length mid - 13) mid (omega arith) in
-    let on : without_closures_by (suc m) mid ≡ without_closures_by m (take (length mid - 13) mid) = step m mid (ends closure_ending mid _ found.1) in
+cut_more text n between rest size found off (suc m, fits, same) =
+    let thirteen : size ≡ 13 = found.0 in
+    let short : rest ≡ without_last 13 between = off ∙ ap (λ k. without_last k between) thirteen in
+    let long : 13 ≤ length between = omega (arith, ap length found.1, length-append {A = ℕ}) in
+    let left : length rest ≡ length between - 13 = ap length short ∙ length-take-le (length between - 13) between (omega arith) in
+    let on : without_closures_by (suc m) between ≡ without_closures_by m (without_last 13 between) =
+    step m between (ends closure_ending between _ found.1) in
     (m, omega arith, same ∙ (on ∙ ap (without_closures_by m) (sym short)))
 
 -- a text that is fully trimmed has no such ending
-bare : (r : List ℕ) (o : Option ℕ) → FindsTextSuffix closure_ending r o → IfSome o (λ n. n ≡ 0) → ends_with nat_eq r closure_ending ≡ false
-bare r None found none = lacks_end closure_ending r found
-bare r (Some k) found none = let e : k ≡ 13 = found.0 in let z : k ≡ 0 = none in absurd (omega arith)
+bare : (text : List ℕ) (last : Option ℕ) → FindsTextSuffix closure_ending text last → IfSome last (λ size. size ≡ 0)
+    → ends_with nat_eq text closure_ending ≡ false
+bare text None lacks none = lacks_end closure_ending text lacks
+bare text (Some size) found none =
+    let thirteen : size ≡ 13 = found.0 in
+    let nothing : size ≡ 0 = none in
+    absurd (omega arith)
 
--- so many steps are as good as fewer, while they are enough
-pub cut_off : (ns s r : List ℕ) (n : ℕ) → length s ≤ n → CutsSuffixes (FindsTextSuffix closure_ending) s ns r → (m : ℕ) × (length r ≤ m) × (without_closures_by n s ≡ without_closures_by m r)
-cut_off [] s r n l h = (n, rw h l, rw h refl)
-cut_off (k ∷ ns) s r n l (mid, before, found, off) = cut_more s n mid r k found off (cut_off ns s mid n l before)
+-- all endings that were found are taken off; `sizes` are theirs
+pub cut_off : (sizes text rest : List ℕ) (n : ℕ) → length text ≤ n → CutsSuffixes (FindsTextSuffix closure_ending) text sizes rest
+    → ComesTo n text rest
+cut_off [] text rest n enough same = (n, rw same enough, rw same refl)
+cut_off (size ∷ sizes) text rest n enough (between, before, found, off) =
+    cut_more text n between rest size found off (cut_off sizes text between n enough before)
 
-pub trimmed : (s r : List ℕ) → IsTrimEndMatches (FindsTextSuffix closure_ending) s r → r ≡ without_closures s
-trimmed s r ((ns, cuts), (o, found, none)) =
-    let far = cut_off ns s r (length s) (omega arith) cuts in
-    sym (far.2 ∙ stays far.0 r (bare r o found none))
+-- what `trim_end_matches` leaves
+pub trimmed : (text rest : List ℕ) → IsTrimEndMatches (FindsTextSuffix closure_ending) text rest → rest ≡ without_closures text
+trimmed text rest ((sizes, cuts), (last, found, none)) =
+    let far = cut_off sizes text rest (length text) (omega arith) cuts in
+    sym (far.2 ∙ stays far.0 rest (bare rest last found none))

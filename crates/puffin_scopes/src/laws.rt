@@ -12,14 +12,17 @@ use puffin_data::Error;
 /// Two states are equal exactly if both scopes began at the same offset, both are off, or both were refused with the same
 /// error.
 pub fn guard_states()
-    ensures begun { (a b : ℕ) → ⟦<GuardState as PartialEq>⟧.eq (On a) (On b) ≡ (a == b) }
+    ensures begun { (offset other : ℕ) →
+        ⟦<GuardState as PartialEq>⟧.eq (On offset) (On other) ≡ (offset == other) }
     ensures off { ⟦<GuardState as PartialEq>⟧.eq Off Off ≡ true }
-    ensures refused { (e f : Error) → ⟦<GuardState as PartialEq>⟧.eq (Refused e) (Refused f)
-        ≡ ⟦<Error as PartialEq>⟧.eq e f }
-    ensures unlike { (a : ℕ) (e : Error) → (⟦<GuardState as PartialEq>⟧.eq (On a) Off ≡ false)
-        × (⟦<GuardState as PartialEq>⟧.eq (On a) (Refused e) ≡ false)
-        × (⟦<GuardState as PartialEq>⟧.eq Off (On a) ≡ false)
-        × (⟦<GuardState as PartialEq>⟧.eq Off (Refused e) ≡ false)
-        × (⟦<GuardState as PartialEq>⟧.eq (Refused e) (On a) ≡ false)
-        × (⟦<GuardState as PartialEq>⟧.eq (Refused e) Off ≡ false) }
+    ensures refused { (cause other : Error) →
+        ⟦<GuardState as PartialEq>⟧.eq (Refused cause) (Refused other)
+        ≡ ⟦<Error as PartialEq>⟧.eq cause other }
+    ensures unlike { (offset : ℕ) (cause : Error) →
+        (⟦<GuardState as PartialEq>⟧.eq (On offset) Off ≡ false)
+        × (⟦<GuardState as PartialEq>⟧.eq (On offset) (Refused cause) ≡ false)
+        × (⟦<GuardState as PartialEq>⟧.eq Off (On offset) ≡ false)
+        × (⟦<GuardState as PartialEq>⟧.eq Off (Refused cause) ≡ false)
+        × (⟦<GuardState as PartialEq>⟧.eq (Refused cause) (On offset) ≡ false)
+        × (⟦<GuardState as PartialEq>⟧.eq (Refused cause) Off ≡ false) }
 {}

@@ -90,7 +90,7 @@ impl<'p, C: NsSource> ProfilerScope<'p, C> {
         &mut *self.profiler
     }
 
-    /// Returns the scope's offset, or `None` if the guard has no scope.
+    /// Returns the offset of the guard's scope, which its profiler's calls take, or `None` if the guard has no scope.
     pub fn offset(&self) -> Option<usize>
         ensures { result ≡ offset_of self.now }
     {
@@ -129,16 +129,17 @@ impl<'p, C: NsSource> ProfilerScope<'p, C> {
 
 impl<C: NsSource> Drop for ProfilerScope<'_, C> {
     ghost use Rattle.puffin_scopes.specs.Guards.Guard.{profiler_of, offset_of};
-    ghost use Rattle.puffin_scopes.specs.Guards.Ending.{IsLeft};
+    ghost use Rattle.puffin_scopes.specs.Guards.Ending.{IsDropped};
 
     /// Ends the scope if it is the innermost open one, and reports nothing: closed scopes wait for the thread's next report.
     #[inline(always)]
     fn drop(self)
-        ensures left { IsLeft C.answers (offset_of self.entry)
+        ensures left { IsDropped C.answers (offset_of self.entry)
             (profiler_of self.entry) self.exit.0.now }
     {
         let ProfilerScope { profiler, state } = self;
         if let GuardState::On(offset) = state {
+            // It fails if another scope is the innermost, and then changes nothing: a drop has nobody to tell.
             let _ = profiler.close_scope(offset);
         }
     }

@@ -9,7 +9,7 @@ use std::alloc::Global;
 use std::borrow::CowStr;
 use std::sync::atomic::{AtomicIn, Ordering, Rule};
 
-/// The invariant of a word that is 0 or an id.
+/// The rule of an atomic word that is 0 or an id, which is below 2^32.
 struct IdOrZero;
 
 impl Rule for IdOrZero {
@@ -114,7 +114,7 @@ impl Site {
         Ok(self.keep(id))
     }
 
-    /// Returns the short names of the function and of the file. Fails only with `Memory`.
+    /// Returns the short name of a function, and that of the place's file. Fails only with `Memory`.
     #[cold]
     fn short_names(
         &self,
@@ -131,7 +131,7 @@ impl Site {
         Ok((CowStr::Owned(function), CowStr::Owned(file)))
     }
 
-    /// Keeps the id, unless one is kept already, and returns the one that is kept.
+    /// Keeps the id, unless another thread kept one first, and returns the one that is kept.
     #[cold]
     fn keep(&self, id: ScopeId) -> ScopeId {
         let word = u64::from(id.get());

@@ -12,15 +12,19 @@ use Rattle.puffin_threads.specs.Details.Collection.{Collection, collection_code,
 use Rattle.puffin_frames.specs.Frame.Contents.{Streams, streams_code, stream_under}
 use Rattle.puffin_frames.specs.Frame.Sums.{total_bytes, total_scopes, joined_range, IsOrdered, DurationFits}
 
--- The index of the next frame, the numbers of scopes ever reported and handed out in frames, and the streams of the next frame;
--- the known details, those new in the next frame, in order, and whether the next frame is to list all known ones.
+-- What a profiler holds between two calls.
 pub record Collected : Type 0 where
+  -- the index of the next frame
   pub index : ℕ
+  -- how many scopes were ever reported, and how many of them were handed out in frames
   pub reported : ℕ
   pub emitted : ℕ
+  -- what is pending: the streams of the next frame, by thread
   pub streams : Streams
+  -- the details that are known, and those that are new in the next frame, in order
   pub collection : Collection
   pub new_details : List Details
+  -- whether a snapshot is wanted: the next frame is to list all known details
   pub wants_all : Bool
 
 -- the encoding of this state for contracts: the tuple of its fields
@@ -29,16 +33,16 @@ collected_code =
     code_by (ℕ × (ℕ × (ℕ × (Streams × (Collection × (List Details × Bool))))))
     (coded× coded_ℕ (coded× coded_ℕ (coded× coded_ℕ (coded× streams_code (
     coded× collection_code (coded× (coded_list details_code) coded_bool))))))
-    (λ c.
-    (c.index, (c.reported, (c.emitted, (c.streams, (c.collection, (c.new_details, c.wants_all)))))))
-    (λ p. record {
-      index = p.0;
-      reported = p.1.0;
-      emitted = p.1.1.0;
-      streams = p.1.1.1.0;
-      collection = p.1.1.1.1.0;
-      new_details = p.1.1.1.1.1.0;
-      wants_all = p.1.1.1.1.1.1;
+    (λ all.
+    (all.index, (all.reported, (all.emitted, (all.streams, (all.collection, (all.new_details, all.wants_all)))))))
+    (λ parts. record {
+      index = parts.0;
+      reported = parts.1.0;
+      emitted = parts.1.1.0;
+      streams = parts.1.1.1.0;
+      collection = parts.1.1.1.1.0;
+      new_details = parts.1.1.1.1.1.0;
+      wants_all = parts.1.1.1.1.1.1;
     })
     (λ _. refl)
 
@@ -54,58 +58,64 @@ nothing_collected index = record {
   wants_all = false;
 }
 
--- ---- reports
+-- ---- reports: a thread reports a stream, and the details of its new scopes
 
-abbrev pub after_report : Collected → ThreadKey → List Details → StreamFacts → Collected
-after_report c i ds r = record c {
-  reported = c.reported + r.num_scopes;
-  streams = reported_to c.streams i r;
-  new_details = c.new_details ++ ds;
+-- after a report: its stream is appended to what is pending under the thread
+abbrev pub after_report : Collected → ThreadKey → (details : List Details) → (stream : StreamFacts) → Collected
+after_report old thread details stream = record old {
+  reported = old.reported + stream.num_scopes;
+  streams = reported_to old.streams thread stream;
+  new_details = old.new_details ++ details;
 }
 
--- with one more info, what is pending has sums that fit 64 bits
-pub record PendingFits (c : Collected) (r : StreamFacts) : Type 0 where
-  pub bytes : total_bytes (map.values c.streams) + length r.bytes < 2 ^ 64
-  pub scopes : total_scopes (map.values c.streams) + r.num_scopes < 2 ^ 64
-  pub reported : c.reported + r.num_scopes < 2 ^ 64
+-- together with this stream, what is pending has sums that fit 64 bits
+pub record PendingFits (old : Collected) (stream : StreamFacts) : Type 0 where
+  pub bytes : total_bytes (map.values old.streams) + length stream.bytes < 2 ^ 64
+  pub scopes : total_scopes (map.values old.streams) + stream.num_scopes < 2 ^ 64
+  pub reported : old.reported + stream.num_scopes < 2 ^ 64
 
--- the joined range of all that is pending and one more info
+-- the joined range of all that is pending and this stream
 abbrev pub range_with : Collected → StreamFacts → ℤ × ℤ
-range_with c r = joined_range (r ∷ map.values c.streams)
+range_with old stream = joined_range (stream ∷ map.values old.streams)
 
 -- the range is too long: it isn't reversed, and its duration doesn't fit i64
 abbrev pub IsTooLong : ℤ × ℤ → Type 0
 IsTooLong range = IsOrdered range × ¬ DurationFits range
 
--- what is pending under an info and what is added under it have bytes in unlike forms
+-- what is pending under a thread and what the thread reports have bytes in unlike forms
 abbrev pub IsUnlike : Collected → ThreadKey → StreamFacts → Type 0
-IsUnlike c i r = AreUnlike (stream_under c.streams i) r
+IsUnlike old thread stream = AreUnlike (stream_under old.streams thread) stream
 
 -- why a report is refused although its details have ids and its form fits what is pending: the first cause that applies
-abbrev pub IsSumRefusal : Collected → StreamFacts → Error → Type 0
-IsSumRefusal c r e =
-    ((e ≡ TooLarge) × ¬ PendingFits c r)
-    ⊎ ((e ≡ RangeTooLong) × PendingFits c r × IsTooLong (range_with c r))
-    ⊎ ((e ≡ Memory) × PendingFits c r × ¬ IsTooLong (range_with c r))
+abbrev pub IsSumRefusal : Collected → StreamFacts → (cause : Error) → Type 0
+IsSumRefusal old stream cause =
+    ((cause ≡ TooLarge) × ¬ PendingFits old stream)
+    ⊎ ((cause ≡ RangeTooLong) × PendingFits old stream × IsTooLong (range_with old stream))
+    ⊎ ((cause ≡ Memory) × PendingFits old stream × ¬ IsTooLong (range_with old stream))
 
--- Why a report is refused: the first cause that applies.
-abbrev pub IsReportRefusal : Collected → ThreadKey → List Details → StreamFacts → Error → Type 0
-IsReportRefusal c i ds r e =
-    ((e ≡ MissingId) × ¬ AllHaveIds ds)
-    ⊎ ((e ≡ UnlikeForms) × AllHaveIds ds × IsUnlike c i r)
-    ⊎ (AllHaveIds ds × (¬ IsUnlike c i r) × IsSumRefusal c r e)
+-- why a report is refused: the first cause that applies
+abbrev pub IsReportRefusal : Collected → ThreadKey → (details : List Details) → (stream : StreamFacts) →
+    (cause : Error) → Type 0
+IsReportRefusal old thread details stream cause =
+    ((cause ≡ MissingId) × ¬ AllHaveIds details)
+    ⊎ ((cause ≡ UnlikeForms) × AllHaveIds details × IsUnlike old thread stream)
+    ⊎ (AllHaveIds details × (¬ IsUnlike old thread stream) × IsSumRefusal old stream cause)
 
--- the outcome of an accepted report, and of a refused one
-abbrev pub AcceptsReport : Collected → ThreadKey → List Details → StreamFacts → Collected → Type 0
-AcceptsReport old i ds r new =
-    (new ≡ after_report old i ds r)
-    × AllHaveIds ds
-    × (¬ IsUnlike old i r)
-    × PendingFits old r
-    × ¬ IsTooLong (range_with old r)
+-- what an accepted report does, and that no cause of a refusal applied but that there is no memory
+abbrev pub AcceptsReport : (old : Collected) → ThreadKey → (details : List Details) → (stream : StreamFacts) →
+    (new : Collected) → Type 0
+AcceptsReport old thread details stream new =
+    (new ≡ after_report old thread details stream)
+    × AllHaveIds details
+    × (¬ IsUnlike old thread stream)
+    × PendingFits old stream
+    × ¬ IsTooLong (range_with old stream)
 
-abbrev pub RefusesReport : Collected → ThreadKey → List Details → StreamFacts → Error → Collected → Type 0
-RefusesReport old i ds r e new = IsReportRefusal old i ds r e × (new ≡ old)
+-- a refused report changes nothing, and tells the first cause that applies
+abbrev pub RefusesReport : (old : Collected) → ThreadKey → (details : List Details) → (stream : StreamFacts) →
+    (cause : Error) → (new : Collected) → Type 0
+RefusesReport old thread details stream cause new =
+    IsReportRefusal old thread details stream cause × (new ≡ old)
 
 -- ---- frames
 
@@ -117,30 +127,34 @@ all_details collection = map.values collection.by_id
 abbrev pub delta_of : Collection → List Details → Bool → List Details
 delta_of collection new wanted = new ++ (if wanted then all_details collection else [])
 
--- after a frame with all that was pending, and after a call that found no scope
+-- after a frame with all that was pending
 abbrev pub after_frame : Collected → Collected
-after_frame c = record c {
-  index = c.index + 1;
-  emitted = c.reported;
+after_frame old = record old {
+  index = old.index + 1;
+  emitted = old.reported;
   streams = map.empty;
-  collection = with_all_details c.collection c.new_details;
+  collection = with_all_details old.collection old.new_details;
   new_details = [];
   wants_all = false;
 }
 
+-- after a call that found no pending scope, and so made no frame
 abbrev pub after_no_frame : Collected → Collected
-after_no_frame c = record c { index = c.index + 1 }
+after_no_frame old = record old { index = old.index + 1 }
 
--- after a prefix of details became known, and after a snapshot was asked for
+-- after these details became known, which no frame lists as new
 abbrev pub after_learning : Collected → List Details → Collected
-after_learning c learnt = record c { collection = with_all_details c.collection learnt }
+after_learning old learnt = record old { collection = with_all_details old.collection learnt }
 
+-- after a snapshot was asked for
 abbrev pub after_wanting : Collected → Collected
-after_wanting c = record c { wants_all = true }
+after_wanting old = record old { wants_all = true }
 
 -- ---- the caller's own scopes
 
 -- after these details became known, which are new in the next frame
 abbrev pub after_adding : Collected → List Details → Collected
-after_adding c new =
-    record c { collection = with_all_details c.collection new; new_details = c.new_details ++ new }
+after_adding old new = record old {
+  collection = with_all_details old.collection new;
+  new_details = old.new_details ++ new;
+}

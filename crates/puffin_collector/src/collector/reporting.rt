@@ -10,7 +10,7 @@ ghost use Rattle.puffin_collector.specs.Collector.State.{IsReportRefusal, Accept
 ghost use Rattle.puffin_collector.specs.inner.ReportSums.{IsFirstCause, AddsUp};
 
 use crate::collector::Collector;
-use crate::delta::{all_have_ids, copies};
+use crate::delta::{all_have_ids, copy_details};
 use puffin_data::data::{StreamInfoRef, is_valid_range};
 use puffin_data::{Error, NanoSecond, Result};
 use puffin_frames::frame_data::{FrameMeta, are_unlike, report_to};
@@ -61,7 +61,7 @@ impl Collector {
         self.append(info, times)
     }
 
-    /// Handles a report with details, which is rare.
+    /// Does what [`Collector::report`] does. Reports with details are rare, so this isn't inlined.
     #[cold]
     #[inline(never)]
     fn report_with_details(
@@ -81,10 +81,12 @@ impl Collector {
         if !all_have_ids(details) {
             return Err(Error::MissingId);
         }
-        let mut fresh = match copies(self.alloc, details) {
+        let mut fresh = match copy_details(self.alloc, details) {
             Ok(fresh) => fresh,
             Err(_) => return Err(self.cause_without_memory(&info, times)),
         };
+        // All that needs memory for the details is done before the scopes are appended; if those are refused, the details are
+        // removed again.
         let known = self.new_details.len();
         match self.new_details.append(&mut fresh) {
             Ok(()) => {}
@@ -116,16 +118,18 @@ impl Collector {
         if self.max_pending < meta.num_bytes && self.meta.num_bytes > 0 {
             return Err(self.first_cause(&info, times, Error::Memory));
         }
+        // This is the last step that can fail, and changes nothing if it does.
         report_to(self.alloc, &mut self.pending, info, times)?;
         self.meta = meta;
         self.reported = reported;
         Ok(())
     }
 
-    /// Returns the error of a report for which there is no memory: the first cause that applies.
+    /// Returns the error of a report for whose details there is no memory: a cause that comes before `Memory`, if one applies, or
+    /// `Memory`.
     fn cause_without_memory(&self, info: &ThreadInfo, times: &StreamInfoRef) -> Error
-        ensures { (ds : List Details) → AllHaveIds ds →
-            IsReportRefusal self.now (key_of info.now) ds (facts_of_ref times.now) result }
+        ensures { (details : List Details) → AllHaveIds details →
+            IsReportRefusal self.now (key_of info.now) details (facts_of_ref times.now) result }
     {
         match self.sums_with(times) {
             Ok(_) => self.first_cause(info, times, Error::Memory),
@@ -187,7 +191,7 @@ impl Reporter for Collector {
     }
 }
 
-/// Returns whether a range isn't reversed but its duration doesn't fit `i64`.
+/// Returns whether a range is too long: it isn't reversed, but its duration doesn't fit `i64`.
 fn is_too_long(range: (NanoSecond, NanoSecond)) -> bool
     ensures { MatchBool result (IsTooLong range) (IsOrdered range → DurationFits range) }
 {

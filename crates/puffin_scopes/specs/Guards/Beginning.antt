@@ -10,14 +10,15 @@ use Rattle.puffin_threads.specs.Thread.Calls.{Thread, after_begin}
 use Rattle.puffin_scopes.specs.declared.profiler_scope.ProfilerScope.{ProfilerScope}
 use Rattle.puffin_scopes.specs.Guards.Guard.{profiler_of, offset_of, guard_refusal}
 
--- the offset of the size of a scope with this text that begins now
+-- the offset at which a scope with this text will keep its size, if it begins now: past all that is written, and its own head
 abbrev pub begun_offset : Thread → List ℕ → ℕ
 begun_offset thread text =
     word_size thread.form thread.word + size_offset thread.form (cut_text thread.form text)
 
--- The guard has a scope, begun just as the profiler's own call begins one. The clock's answer is one that `answers` allows.
-pub record IsOn {C : Type 0} (answers : C → ℤ → C → Type 0) (old : ThreadProfiler C) (id : ℕ)
-    (text : List ℕ) (scope : ProfilerScope C) : Type 0 where
+-- The guard has a scope with this id and text, begun just as the profiler's own call begins one, at a time that the clock gave.
+-- `answers` is the clock's contract: its state before a reading, the time, and its state after.
+pub record IsOn {Clock : Type 0} (answers : Clock → ℤ → Clock → Type 0)
+    (old : ThreadProfiler Clock) (id : ℕ) (text : List ℕ) (scope : ProfilerScope Clock) : Type 0 where
   pub at : ℤ
   pub answered : answers (clock_of old) at (clock_of (profiler_of scope))
   pub never_negative : pos 0 ≤ℤ at
@@ -26,9 +27,9 @@ pub record IsOn {C : Type 0} (answers : C → ℤ → C → Type 0) (old : Threa
   pub offset : offset_of scope ≡ Some (begun_offset (thread_of old) text)
   pub refusal : guard_refusal scope ≡ None
 
--- the profiler didn't change, and the guard has no scope, for this reason
-pub record IsOff {C : Type 0} (old : ThreadProfiler C) (refusal : Option Error)
-    (scope : ProfilerScope C) : Type 0 where
+-- The profiler didn't change, and the guard has no scope: it was refused for this reason, or is off if there is none.
+pub record IsOff {Clock : Type 0} (old : ThreadProfiler Clock) (refusal : Option Error)
+    (scope : ProfilerScope Clock) : Type 0 where
   pub unchanged : profiler_of scope ≡ old
   pub offset : offset_of scope ≡ None
   pub why : guard_refusal scope ≡ refusal

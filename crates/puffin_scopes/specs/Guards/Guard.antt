@@ -8,27 +8,29 @@ use Rattle.puffin_scopes.specs.declared.guard_state.GuardState.TheVariants.{On, 
 use Rattle.puffin_scopes.specs.declared.profiler_scope.ProfilerScope.{ProfilerScope}
 
 -- the borrowed profiler, as it is now
-abbrev pub profiler_of : {C : Type 0} → ProfilerScope C → ThreadProfiler C
+abbrev pub profiler_of : {Clock : Type 0} → ProfilerScope Clock → ThreadProfiler Clock
 profiler_of scope = scope.profiler.now
 
--- the name of the borrow
-abbrev pub lender_of : {C : Type 0} → ProfilerScope C → GName
+-- the ghost name of the guard's borrow, which tells this borrow from any other
+abbrev pub lender_of : {Clock : Type 0} → ProfilerScope Clock → GName
 lender_of scope = scope.profiler.ghost_name
 
+-- the offset of the size of the scope that began, if it did
 abbrev pub offset_in : GuardState → Option ℕ
 offset_in (On offset) = Some offset
 offset_in Off = None
-offset_in (Refused e) = None
+offset_in (Refused cause) = None
 
+-- why the scope was refused, if it was
 abbrev pub refusal_in : GuardState → Option Error
 refusal_in (On offset) = None
 refusal_in Off = None
-refusal_in (Refused e) = Some e
+refusal_in (Refused cause) = Some cause
 
--- the offset of the size of the guard's scope
-abbrev pub offset_of : {C : Type 0} → ProfilerScope C → Option ℕ
+-- the offset of the size of the guard's scope, if it has one
+abbrev pub offset_of : {Clock : Type 0} → ProfilerScope Clock → Option ℕ
 offset_of scope = offset_in scope.state
 
--- the error if the scope was refused
-abbrev pub guard_refusal : {C : Type 0} → ProfilerScope C → Option Error
+-- why the guard's scope was refused, if it was
+abbrev pub guard_refusal : {Clock : Type 0} → ProfilerScope Clock → Option Error
 guard_refusal scope = refusal_in scope.state

@@ -1,9 +1,9 @@
 //! Short names of files.
 
-ghost use Rattle.std.specs.Prelude.{◌≡◌, ◌<◌, ◌==◌, map, length, IfSome, IfOk, string_bytes, IsOkUnless};
-ghost use Rattle.std.specs.List.{slice_split, join_with_byte};
+ghost use Rattle.std.specs.Prelude.{◌≡◌, ◌<◌, map, length, IfSome, IfOk, string_bytes, IsOkUnless};
+ghost use Rattle.std.specs.List.{join_with_byte};
 ghost use Rattle.puffin_data.specs.declared.error.Error.{Error};
-ghost use Rattle.puffin_scopes.specs.Names.Files.{with_slashes, short_file, kept_parts, last_src};
+ghost use Rattle.puffin_scopes.specs.Names.Files.{short_file, parts_of, kept_parts, last_src};
 
 use puffin_data::{Error, Result};
 use std::alloc::Global;
@@ -15,29 +15,30 @@ pub fn short_file_name(alloc: Global, path: &str) -> Result<String>
     ensures err { IsOkUnless result Error.Memory }
 {
     if !path.contains('\\') {
-        return shortened(alloc, path);
+        return shorten_path(alloc, path);
     }
     let path = path.replace(alloc, '\\', "/")?;
-    shortened(alloc, &path)
+    shorten_path(alloc, &path)
 }
 
-/// Shortens a path without backslashes.
-fn shortened(alloc: Global, path: &str) -> Result<String>
+/// Shortens a path without backslashes. Fails only with `Memory`.
+fn shorten_path(alloc: Global, path: &str) -> Result<String>
+    // The byte of a slash is 47.
     ensures ok { IfOk result (λ name. string_bytes name
-        ≡ join_with_byte 47 (kept_parts (slice_split (λ b. b == 47) path.now))) }
+        ≡ join_with_byte 47 (kept_parts (parts_of path.now))) }
     ensures err { IsOkUnless result Error.Memory }
 {
-    let parts = parts(alloc, path)?;
+    let parts = split_path(alloc, path)?;
     if parts.len() <= 2 {
         return Ok(String::from_str(alloc, path)?);
     }
-    kept(alloc, &parts)
+    join_kept(alloc, &parts)
 }
 
-/// Splits a path at its slashes.
-fn parts(alloc: Global, path: &str) -> Result<Vec<&str>>
+/// Splits a path at its slashes. Fails only with `Memory`.
+fn split_path(alloc: Global, path: &str) -> Result<Vec<&str>>
     ensures ok { IfOk result (λ parts.
-        map (λ part. part.now) parts.items ≡ slice_split (λ b. b == 47) path.now) }
+        map (λ part. part.now) parts.items ≡ parts_of path.now) }
     ensures err { IsOkUnless result Error.Memory }
 {
     let mut parts = Vec::with_capacity(alloc, 16)?;
@@ -47,7 +48,7 @@ fn parts(alloc: Global, path: &str) -> Result<Vec<&str>>
     Ok(parts)
 }
 
-/// Returns the position of the last part that is `src`.
+/// Returns the index of the last part that is `src`, or `None` if there is no such part.
 fn last_src(parts: &[&str]) -> Option<usize>
     ensures place { result ≡ last_src (map (λ part. part.now) parts.now) }
     ensures below { IfSome result (λ place. place < length parts.now) }
@@ -61,8 +62,9 @@ fn last_src(parts: &[&str]) -> Option<usize>
     last
 }
 
-/// Joins the parts that are kept of a path with at least three parts.
-fn kept(alloc: Global, parts: &[&str]) -> Result<String>
+/// Joins the parts that are kept of a path with at least three parts: the folder of its crate, the file, and the part between them,
+/// or `…` for several. Fails only with `Memory`.
+fn join_kept(alloc: Global, parts: &[&str]) -> Result<String>
     requires { 2 < length parts.now }
     ensures ok { IfOk result (λ name. string_bytes name
         ≡ join_with_byte 47 (kept_parts (map (λ part. part.now) parts.now))) }
@@ -74,11 +76,13 @@ fn kept(alloc: Global, parts: &[&str]) -> Result<String>
     let Some(src) = last_src(parts) else {
         return Ok(format!(in alloc; "{folder}/{file}")?);
     };
-    let first = src.saturating_sub(1);
-    let name = parts[first];
-    if first + 2 == last {
+    // The folder of the crate holds `src`; a path that begins with `src` doesn't show it.
+    let crate_index = src.saturating_sub(1);
+    let name = parts[crate_index];
+    if crate_index + 2 == last {
         Ok(format!(in alloc; "{name}/{folder}/{file}")?)
     } else if file == "lib.rs" {
+        // Many files are called that, so the folder tells which one it is.
         Ok(format!(in alloc; "{name}/…/{folder}/{file}")?)
     } else {
         Ok(format!(in alloc; "{name}/…/{file}")?)

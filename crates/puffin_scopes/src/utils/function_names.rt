@@ -21,12 +21,13 @@ pub fn clean_function_name(alloc: Global, name: &str) -> Result<String>
     }
 }
 
-/// Shortens a function's name: `a::b::c` becomes `b::c`, and `<a::T as b::U>::f` becomes `<T as U>::f`. Fails only with
-/// `Memory`.
+/// Shortens a function's name to its last two segments: `a::b::c` becomes `b::c`. The name of a trait's method only loses the paths
+/// of type and trait: `<a::T as b::U>::f` becomes `<T as U>::f`. Fails only with `Memory`.
 pub fn shorten_rust_function_name(alloc: Global, name: &str) -> Result<String>
     ensures ok { IfOk result (λ short. string_bytes short ≡ shorten name.now) }
     ensures err { IsOkUnless result Error.Memory }
 {
+    // A method of a trait is named `<type as trait>::method`; any other name has no ` as ` with a `>` after it.
     let Some((front, back)) = name.rsplit_once(" as ") else {
         return last_two_segments(alloc, name);
     };
@@ -42,7 +43,7 @@ pub fn shorten_rust_function_name(alloc: Global, name: &str) -> Result<String>
     Ok(format!(in alloc; "<{concrete} as {trait_name}>{rest}")?)
 }
 
-/// Returns what follows the last `::`.
+/// Returns what follows the last `::`, or the whole text if there is none.
 fn last_segment(text: &str) -> &str
     ensures { result.now ≡ last_segment text.now }
 {
@@ -52,7 +53,7 @@ fn last_segment(text: &str) -> &str
     }
 }
 
-/// Returns the last two segments, or the whole name if it has fewer than three.
+/// Returns the last two segments between `::`, or the whole name if it has fewer than three. Fails only with `Memory`.
 fn last_two_segments(alloc: Global, name: &str) -> Result<String>
     ensures ok { IfOk result (λ short. string_bytes short ≡ two_segments name.now) }
     ensures err { IsOkUnless result Error.Memory }

@@ -1,3 +1,4 @@
+-- The last `src` of the parts so far.
 use Rattle.std.proofs.Common.{◌≡◌, ◌<◌, map, take, IfSome}
 use Rattle.puffin_scopes.specs.Names.Files.{last_src}
 use Rattle.puffin_scopes.proofs.utils.file_names.last_src.Given as goal

@@ -1,3 +1,4 @@
+-- A path without backslashes is left as it is; in another they are replaced by slashes.
 use Rattle.std.proofs.Common.{lit<, ◌≡◌, refl, sym, ◌∙◌, string_bytes, true≢false}
 use Rattle.std.proofs.lemmas.Str.Pattern.{contains_char}
 use Rattle.puffin_scopes.specs.Names.Files.{with_slashes}
@@ -8,11 +9,13 @@ pub returns-then-not-contains-clause-ok : goal.returns-then-not-contains-clause-
 returns-then-not-contains-clause-ok c =
     let path = c.args.path.now in
     let found = contains_char 92 path c.contains.result c.contains.ensures.cases (lit< tt) in
-    let none : with_slashes path ≡ path = same path (λ i l h. absurd (true≢false (sym (found.1 i l h) ∙ c.if-not-contains.true))) in
-    rw (sym none) at c.shortened.ensures.ok
+    let none : with_slashes path ≡ path =
+    same path (λ i less is. absurd (true≢false (sym (found.1 i less is) ∙ c.if-not-contains.true))) in
+    rw (sym none) at c.shorten_path.ensures.ok
 
 pub returns-clause-ok : goal.returns-clause-ok
 returns-clause-ok c =
-    let made = c.in_ok-path.ensures.ok in
-    let e : string_bytes c.in_ok-path.path ≡ with_slashes c.args.path.now = slashed_by_replace made.0 _ _ _ refl made.1 in
-    rw (c.deref.ensures, e) at c.shortened-2.ensures.ok
+    let replaced = c.in_ok-path.ensures.ok in
+    let slashed : string_bytes c.in_ok-path.path ≡ with_slashes c.args.path.now =
+    slashed_by_replace replaced.0 _ _ _ refl replaced.1 in
+    rw (c.deref.ensures, slashed) at c.shorten_path-2.ensures.ok

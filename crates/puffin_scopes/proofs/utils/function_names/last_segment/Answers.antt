@@ -1,3 +1,4 @@
+-- `rsplit_once` at `::` answers with the last cut. The bytes of `::` are 58 and 58.
 use Rattle.std.proofs.Common.{refl, [], ◌∷◌}
 use Rattle.puffin_scopes.proofs.Cuts.{cut_is, cut_none}
 use Rattle.puffin_scopes.proofs.utils.function_names.last_segment.Goals as goal

@@ -1,3 +1,4 @@
+-- Each `rsplit_once` at `::` answers with the last cut, or with none. The bytes of `::` are 58 and 58.
 use Rattle.std.proofs.Common.{◌≡◌, None, rules, [], ◌∷◌}
 use Rattle.puffin_scopes.proofs.Cuts.{cut_is, cut_none}
 use Rattle.puffin_scopes.proofs.utils.function_names.last_two_segments.Goals as goal
@@ -11,10 +12,13 @@ returns-clause-ok c =
 
 pub returns-2-clause-ok : goal.returns-2-clause-ok
 returns-2-clause-ok c = elim c.in_default.branch [
-  | in_default-via-in-None-1 w ↦ let e : c.rsplit_once.result ≡ None = search rules in let none = cut_none 58 (58 ∷ []) _ _ c.rsplit_once.ensures.cases e in rw none c.in_ok-from_str.ensures.ok
-  | in_default-via-in-Some+in-None-1 w ↦
-      let last = cut_is 58 (58 ∷ []) _ _ _ _ c.rsplit_once.ensures.cases w.in-Some.is in
-      let e : w.rsplit_once-2.result ≡ None = search rules in
-      let none = cut_none 58 (58 ∷ []) _ _ w.rsplit_once-2.ensures.cases e in
+  | in_default-via-in-None-1 no_cut ↦
+      let is : c.rsplit_once.result ≡ None = search rules in
+      let none = cut_none 58 (58 ∷ []) _ _ c.rsplit_once.ensures.cases is in
+      rw none c.in_ok-from_str.ensures.ok
+  | in_default-via-in-Some+in-None-1 one_cut ↦
+      let last = cut_is 58 (58 ∷ []) _ _ _ _ c.rsplit_once.ensures.cases one_cut.in-Some.is in
+      let is : one_cut.rsplit_once-2.result ≡ None = search rules in
+      let none = cut_none 58 (58 ∷ []) _ _ one_cut.rsplit_once-2.ensures.cases is in
       rw (last, none) c.in_ok-from_str.ensures.ok
 ]
