@@ -11,11 +11,15 @@ use Rattle.puffin_frames.specs.Packet.Structs.{IsThreadKey, AreCounts, AreStream
 use Rattle.puffin_frames.proofs.Listed.{and-first, and-second, and-both}
 
 -- streams in order are sorted, in each form
-pub sorted_in : (packed : Form) (es : List (ThreadKey × StreamFacts)) → are_ordered packed es ≡ true → is_sorted key_cmp es ≡ true
+pub sorted_in : (packed : Form) (es : List (ThreadKey × StreamFacts)) →
+    are_ordered packed es ≡ true →
+    is_sorted key_cmp es ≡ true
 sorted_in Short es e = e
 sorted_in Long es e = and-first _ _ e
 
-pub ordered_in : (packed : Form) (es : List (ThreadKey × StreamFacts)) → packed ≡ form_of_all es → is_sorted key_cmp es ≡ true → are_ordered packed es ≡ true
+pub ordered_in : (packed : Form) (es : List (ThreadKey × StreamFacts)) →
+    packed ≡ form_of_all es → is_sorted key_cmp es ≡ true →
+    are_ordered packed es ≡ true
 ordered_in Short es is e = e
 ordered_in Long es is e = and-both _ _ e (long_is (some_long es) is)
   where
@@ -23,7 +27,9 @@ ordered_in Long es is e = and-both _ _ e (long_is (some_long es) is)
     long_is true h = refl
     long_is false h = absurd cc
 
-none_long : (es : List (ThreadKey × StreamFacts)) → AllByRecursion (λ (e : ThreadKey × StreamFacts). IsThreadKey e.0 × AreStreamFacts Short e.1) es → some_long es ≡ false
+none_long : (es : List (ThreadKey × StreamFacts)) →
+    AllByRecursion (λ (e : ThreadKey × StreamFacts). IsThreadKey e.0 × AreStreamFacts Short e.1) es →
+    some_long es ≡ false
 none_long [] all = refl
 none_long (e ∷ es) all = ap (λ (f : Form). is_long f || some_long es) all.0.1.0 ∙ none_long es all.1
 
@@ -33,11 +39,15 @@ form_stored Short es fit = ap form_of_flag (sym (none_long es fit.0.1))
 form_stored Long es fit = ap form_of_flag (sym (and-second _ _ fit.1))
 
 -- and the other way round
-pub stored_in : (packed : Form) (es : List (ThreadKey × StreamFacts)) → packed ≡ form_of_all es → AllByRecursion (λ (e : ThreadKey × StreamFacts). IsThreadKey e.0 × AreCounts e.1) es → AllByRecursion (λ (e : ThreadKey × StreamFacts). IsThreadKey e.0 × AreStreamFacts packed e.1) es
+pub stored_in : (packed : Form) (es : List (ThreadKey × StreamFacts)) →
+    packed ≡ form_of_all es → AllByRecursion (λ (e : ThreadKey × StreamFacts). IsThreadKey e.0 × AreCounts e.1) es →
+    AllByRecursion (λ (e : ThreadKey × StreamFacts). IsThreadKey e.0 × AreStreamFacts packed e.1) es
 stored_in Long [] is all = tt
 stored_in Long (e ∷ es) is all = ((all.0.0, (tt, all.0.1)), each_long es all.1)
   where
-    each_long : (es : List (ThreadKey × StreamFacts)) → AllByRecursion (λ (e : ThreadKey × StreamFacts). IsThreadKey e.0 × AreCounts e.1) es → AllByRecursion (λ (e : ThreadKey × StreamFacts). IsThreadKey e.0 × AreStreamFacts Long e.1) es
+    each_long : (es : List (ThreadKey × StreamFacts)) →
+        AllByRecursion (λ (e : ThreadKey × StreamFacts). IsThreadKey e.0 × AreCounts e.1) es →
+        AllByRecursion (λ (e : ThreadKey × StreamFacts). IsThreadKey e.0 × AreStreamFacts Long e.1) es
     each_long [] all = tt
     each_long (e ∷ es) all = ((all.0.0, (tt, all.0.1)), each_long es all.1)
 stored_in Short es is all = each_short es (short_is (some_long es) is) all
@@ -58,6 +68,9 @@ stored_in Short es is all = each_short es (short_is (some_long es) is) all
     or-second true b h = absurd cc
     or-second false b h = h
 
-    each_short : (es : List (ThreadKey × StreamFacts)) → some_long es ≡ false → AllByRecursion (λ (e : ThreadKey × StreamFacts). IsThreadKey e.0 × AreCounts e.1) es → AllByRecursion (λ (e : ThreadKey × StreamFacts). IsThreadKey e.0 × AreStreamFacts Short e.1) es
+    each_short : (es : List (ThreadKey × StreamFacts)) →
+        some_long es ≡ false → AllByRecursion (λ (e : ThreadKey × StreamFacts). IsThreadKey e.0 × AreCounts e.1) es →
+        AllByRecursion (λ (e : ThreadKey × StreamFacts). IsThreadKey e.0 × AreStreamFacts Short e.1) es
     each_short [] none all = tt
-    each_short (e ∷ es) none all = ((all.0.0, (form_short e.1.form (or-first _ _ none), all.0.1)), each_short es (or-second _ _ none) all.1)
+    each_short (e ∷ es) none all =
+        ((all.0.0, (form_short e.1.form (or-first _ _ none), all.0.1)), each_short es (or-second _ _ none) all.1)

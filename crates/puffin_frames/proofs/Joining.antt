@@ -36,8 +36,12 @@ pub scopes_above : (n : ℕ) (infos : List StreamFacts) → n ≤ scopes_from n 
 scopes_above n [] = omega arith
 scopes_above n (x ∷ xs) = omega (arith, scopes_above (n + x.num_scopes) xs)
 
-pub one_more : (meta more : FrameMeta) (x : StreamFacts) (rest all : List StreamFacts) (index : ℕ) → ComesTo meta (x ∷ rest) index all → more.frame_index ≡ meta.frame_index → more.num_bytes ≡ meta.num_bytes + length x.bytes → more.num_scopes ≡ meta.num_scopes + x.num_scopes
-    → more.range_ns.0 ≡ int_min meta.range_ns.0 x.range_ns.0 → more.range_ns.1 ≡ int_max meta.range_ns.1 x.range_ns.1 → (more.num_bytes < 2 ^ 64) × (more.num_scopes < 2 ^ 64) → ComesTo more rest index all
+pub one_more : (meta more : FrameMeta) (x : StreamFacts) (rest all : List StreamFacts) (index : ℕ) →
+    ComesTo meta (x ∷ rest) index all → more.frame_index ≡ meta.frame_index →
+    more.num_bytes ≡ meta.num_bytes + length x.bytes → more.num_scopes ≡ meta.num_scopes + x.num_scopes →
+    more.range_ns.0 ≡ int_min meta.range_ns.0 x.range_ns.0 → more.range_ns.1 ≡ int_max meta.range_ns.1 x.range_ns.1 →
+    (more.num_bytes < 2 ^ 64) × (more.num_scopes < 2 ^ 64) →
+    ComesTo more rest index all
 one_more meta more x rest all index h ei eb es e0 e1 fits = record {
   frame_index = ei ∙ h.frame_index;
   num_bytes = ap (λ n. bytes_from n rest) eb ∙ h.num_bytes;
@@ -48,7 +52,10 @@ one_more meta more x rest all index h ei eb es e0 e1 fits = record {
 }
 
 -- a sum that doesn't fit on the way doesn't fit at the end
-pub too_large : (meta : FrameMeta) (x same : StreamFacts) (rest all : List StreamFacts) (index : ℕ) → ComesTo meta (x ∷ rest) index all → same ≡ x → (2 ^ 64 ≤ meta.num_bytes + length same.bytes) ⊎ (2 ^ 64 ≤ meta.num_scopes + same.num_scopes) → TotalsFit all → ⊥
+pub too_large : (meta : FrameMeta) (x same : StreamFacts) (rest all : List StreamFacts) (index : ℕ) →
+    ComesTo meta (x ∷ rest) index all → same ≡ x →
+    (2 ^ 64 ≤ meta.num_bytes + length same.bytes) ⊎ (2 ^ 64 ≤ meta.num_scopes + same.num_scopes) → TotalsFit all →
+    ⊥
 too_large meta x same rest all index h is over fits =
     let bytes = bytes_above (meta.num_bytes + length x.bytes) rest in
     let scopes = scopes_above (meta.num_scopes + x.num_scopes) rest in
@@ -74,5 +81,7 @@ totals_fit meta all index h = record {
 }
 
 -- what a loop over the rest leaves to be joined
-pub at_next : (meta : FrameMeta) (rest next : List StreamFacts) (all : List StreamFacts) (index : ℕ) → ComesTo meta rest index all → rest ≡ next → ComesTo meta next index all
+pub at_next : (meta : FrameMeta) (rest next : List StreamFacts) (all : List StreamFacts) (index : ℕ) →
+    ComesTo meta rest index all → rest ≡ next →
+    ComesTo meta next index all
 at_next meta rest next all index h e = subst (λ (infos : List StreamFacts). ComesTo meta infos index all) e h

@@ -24,14 +24,22 @@ use Rattle.puffin_frames.proofs.FormsOfAll.{sorted_in, form_stored}
 
 module _ {A : Type 0} (es : List (ThreadInfo × Arc StreamInfo A)) where
   -- what has a layout in some packets has one in those that store it
-  pub stored_plainly : (packed : Form) → AreStreams packed (pairs_of es) → AreStreams (form_of_all (entries (shared_streams es))) (entries (shared_streams es))
+  pub stored_plainly : (packed : Form) →
+      AreStreams packed (pairs_of es) →
+      AreStreams (form_of_all (entries (shared_streams es))) (entries (shared_streams es))
   stored_plainly packed fit =
       let listed = entries-listed es (sorted_in packed (pairs_of es) fit.1) in
-      subst (λ (xs : List (ThreadKey × StreamFacts)). AreStreams (form_of_all xs) xs) (sym listed) (subst (λ (f : Form). AreStreams f (pairs_of es)) (form_stored packed (pairs_of es) fit) fit)
+      subst (λ (xs : List (ThreadKey × StreamFacts)). AreStreams (form_of_all xs) xs) (sym listed)
+      (subst (λ (f : Form). AreStreams f (pairs_of es)) (form_stored packed (pairs_of es) fit) fit)
 
   -- streams in order, whose threads and counts fit
-  pub all_laid_out : IsStrictlySortedBy thread_cmp (keys_of es) → length (pairs_of es) < 2 ^ 64 → AllByRecursion (λ (e : ThreadKey × StreamFacts). IsThreadKey e.0 × AreCounts e.1) (pairs_of es) → HaveLayout (shared_streams es)
-  all_laid_out sorted short fit = subst (λ (xs : List (ThreadKey × StreamFacts)). AreItems (λ (e : ThreadKey × StreamFacts). IsThreadKey e.0 × AreCounts e.1) xs) (sym (entries-listed es (listed-sorted es sorted))) (short, fit)
+  pub all_laid_out : IsStrictlySortedBy thread_cmp (keys_of es) → length (pairs_of es) < 2 ^ 64 →
+      AllByRecursion (λ (e : ThreadKey × StreamFacts). IsThreadKey e.0 × AreCounts e.1) (pairs_of es) →
+      HaveLayout (shared_streams es)
+  all_laid_out sorted short fit =
+      subst (λ (xs : List (ThreadKey × StreamFacts)).
+      AreItems (λ (e : ThreadKey × StreamFacts). IsThreadKey e.0 × AreCounts e.1) xs)
+      (sym (entries-listed es (listed-sorted es sorted))) (short, fit)
 
 -- ---- frames
 

@@ -23,7 +23,9 @@ use Rattle.puffin_frames.specs.Packet.Front.{is_end, next_at}
 
 -- ---- behind a header
 
-pub after_header : (header xs : List ℕ) → length header ≡ 4 → is_end header ≡ false → next_at (header ++ xs) ≡ stored_after header xs
+pub after_header : (header xs : List ℕ) →
+    length header ≡ 4 → is_end header ≡ false →
+    next_at (header ++ xs) ≡ stored_after header xs
 unfolding next_at
 after_header [] xs e h = absurd (omega arith)
 after_header (a ∷ []) xs e h = absurd (omega arith)
@@ -34,14 +36,25 @@ after_header (a ∷ b ∷ d ∷ f ∷ []) xs e h =
     rw (long, h) refl
 after_header (a ∷ b ∷ d ∷ f ∷ g ∷ more) xs e h = absurd (omega arith)
 
-fails_after_header : (e : FileError) (old mid new : Option (List ℕ)) (header : List ℕ) → length header ≡ 4 → is_end header ≡ false → Consumes old mid header → FailsAt e mid new (stored_after header) → FailsAt e old new next_at
+fails_after_header : (e : FileError) (old mid new : Option (List ℕ)) (header : List ℕ) →
+    length header ≡ 4 → is_end header ≡ false → Consumes old mid header → FailsAt e mid new (stored_after header) →
+    FailsAt e old new next_at
 fails_after_header file.Io old mid new header four more c h = tt
 fails_after_header file.Memory old mid new header four more c h = tt
-fails_after_header file.Truncated old mid new header four more c h = (header ++ h.0, Consumes-trans old mid new header h.0 c h.1, h.2, after_header header h.0 four more ∙ h.3)
-fails_after_header _ old mid new header four more c h =
-    (header ++ h.0, Consumes-trans old mid new header h.0 c h.1, λ rest. ap next_at (append_assoc header h.0 rest) ∙ (after_header header (h.0 ++ rest) four more ∙ h.2 rest))
+fails_after_header file.Truncated old mid new header four more c h =
+    (header ++ h.0, Consumes-trans old mid new header h.0 c h.1, h.2, after_header header h.0 four more ∙ h.3)
+fails_after_header _ old mid new header four more c h = (
+  header ++ h.0,
+  Consumes-trans old mid new header h.0 c h.1,
+  λ rest. ap next_at (append_assoc header h.0 rest)
+      ∙ (after_header header (h.0 ++ rest) four more ∙ h.2 rest),
+)
 
-pub given_after_header : {X : Type 0} (view : X → Option Stored) (r : Result X FileError) (old mid new : Option (List ℕ)) (header : List ℕ) → length header ≡ 4 → is_end header ≡ false → Consumes old mid header → IsBytes header → FromDevice view mid new r (stored_after header) → FromDevice view old new r next_at
+pub given_after_header :
+    {X : Type 0} (view : X → Option Stored) (r : Result X FileError) (old mid new : Option (List ℕ)) (header : List ℕ) →
+    length header ≡ 4 → is_end header ≡ false → Consumes old mid header → IsBytes header →
+    FromDevice view mid new r (stored_after header) →
+    FromDevice view old new r next_at
 given_after_header view (Ok x) old mid new header four more c is h = (
   header ++ h.0,
   Consumes-trans old mid new header h.0 c h.1,
@@ -74,7 +87,10 @@ not_end header four some =
 
 -- ---- frames in the form in which they are stored
 
-fails_as : {A : Type 0} (form : A → Stored) (e : FileError) (old new : Option (List ℕ)) (read : List ℕ → Result (A × List ℕ) FileError) → FailsAt e old new read → FailsAt e old new (λ bytes. as_stored form (read bytes))
+fails_as : {A : Type 0} (form : A → Stored) (e : FileError) (old new : Option (List ℕ))
+    (read : List ℕ → Result (A × List ℕ) FileError) →
+    FailsAt e old new read →
+    FailsAt e old new (λ bytes. as_stored form (read bytes))
 fails_as form file.Io old new read h = tt
 fails_as form file.Memory old new read h = tt
 fails_as form file.Truncated old new read h = (h.0, h.1, h.2, ap (as_stored form) h.3)
@@ -84,15 +100,31 @@ packed_so : (frame : FrameData) (o : Option Packing) → is_some o ≡ true → 
 packed_so frame (Some p) e = refl
 packed_so frame None e = absurd cc
 
-pub if_packed_so : (r : Result FrameData FileError) (old new : Option (List ℕ)) (read : List ℕ → Result (PacketFields × List ℕ) FileError) → IfOk r (λ frame. is_some (holding_of frame).packed ≡ true) → FromDevice packet_fields old new r read → FromDevice (λ frame. Some (stored_of frame)) old new r (λ bytes. as_stored packed (read bytes))
-if_packed_so (Ok frame) old new read is h =
-    (h.0, h.1, λ rest. ap (as_stored packed) (h.2 rest) ∙ ap (λ (s : Stored). Ok (Some s, rest)) (sym (packed_so frame (holding_of frame).packed is)), h.3)
+pub if_packed_so : (r : Result FrameData FileError) (old new : Option (List ℕ))
+    (read : List ℕ → Result (PacketFields × List ℕ) FileError) →
+    IfOk r (λ frame. is_some (holding_of frame).packed ≡ true) → FromDevice packet_fields old new r read →
+    FromDevice (λ frame. Some (stored_of frame)) old new r (λ bytes. as_stored packed (read bytes))
+if_packed_so (Ok frame) old new read is h = (
+  h.0,
+  h.1,
+  λ rest. ap (as_stored packed) (h.2 rest)
+      ∙ ap (λ (s : Stored). Ok (Some s, rest)) (sym (packed_so frame (holding_of frame).packed is)),
+  h.3,
+)
 if_packed_so (Err e) old new read is h = fails_as packed e old new read h
 
 legacy_so : (frame : FrameData) (o : Option Packing) → o ≡ None → stored_as frame o ≡ legacy (legacy_of frame)
 legacy_so frame o e = ap (stored_as frame) e
 
-pub if_legacy_so : (r : Result FrameData FileError) (old new : Option (List ℕ)) (read : List ℕ → Result (Legacy × List ℕ) FileError) → IfOk r (λ frame. (holding_of frame).packed ≡ None) → FromDevice legacy_of old new r read → FromDevice (λ frame. Some (stored_of frame)) old new r (λ bytes. as_stored legacy (read bytes))
-if_legacy_so (Ok frame) old new read is h =
-    (h.0, h.1, λ rest. ap (as_stored legacy) (h.2 rest) ∙ ap (λ (s : Stored). Ok (Some s, rest)) (sym (legacy_so frame (holding_of frame).packed is)), h.3)
+pub if_legacy_so :
+    (r : Result FrameData FileError) (old new : Option (List ℕ)) (read : List ℕ → Result (Legacy × List ℕ) FileError) →
+    IfOk r (λ frame. (holding_of frame).packed ≡ None) → FromDevice legacy_of old new r read →
+    FromDevice (λ frame. Some (stored_of frame)) old new r (λ bytes. as_stored legacy (read bytes))
+if_legacy_so (Ok frame) old new read is h = (
+  h.0,
+  h.1,
+  λ rest. ap (as_stored legacy) (h.2 rest)
+      ∙ ap (λ (s : Stored). Ok (Some s, rest)) (sym (legacy_so frame (holding_of frame).packed is)),
+  h.3,
+)
 if_legacy_so (Err e) old new read is h = fails_as legacy e old new read h

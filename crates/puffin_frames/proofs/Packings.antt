@@ -35,16 +35,28 @@ use Rattle.puffin_frames.proofs.PartsTaken.{same_ok}
 use Rattle.puffin_frames.proofs.FormsOfAll.{sorted_in, form_stored}
 
 -- what a frame says goes by its meta and its packing
-pub fields_same : (m n : FrameMeta) (p q : Packing) (ds : List Details) → m ≡ n → p ≡ q → fields_from m p ds ≡ fields_from n q ds
+pub fields_same : (m n : FrameMeta) (p q : Packing) (ds : List Details) →
+    m ≡ n → p ≡ q →
+    fields_from m p ds ≡ fields_from n q ds
 fields_same m n p q ds metas packings = ap (λ x. fields_from x p ds) metas ∙ ap (λ x. fields_from n x ds) packings
 
 -- a frame whose way to be held is replaced by an equal one is the same frame
-pub with_held : (frame : FrameData) (h : Held) (ordered : IsOrdered frame.meta.range_ns) (fits : DurationFits frame.meta.range_ns) (same : HasMeta h frame.meta) → frame.held ≡ h → record frame { held = h; ordered = ordered; duration_fits = fits; same_meta = same } ≡ frame
+pub with_held :
+    (frame : FrameData) (h : Held) (ordered : IsOrdered frame.meta.range_ns) (fits : DurationFits frame.meta.range_ns)
+    (same : HasMeta h frame.meta) →
+    frame.held ≡ h →
+    record frame { held = h; ordered = ordered; duration_fits = fits; same_meta = same } ≡ frame
 with_held frame h ordered fits same e =
     let one : IsProp (DurationFits frame.meta.range_ns) = Prim.hlevel props in
     let first : IsProp (IsOrdered frame.meta.range_ns) = Prim.hlevel props in
-    subst (λ (x : Held). (s : HasMeta x frame.meta) → record frame { held = x; ordered = ordered; duration_fits = fits; same_meta = s } ≡ frame) e
-    (λ s. λ i. record frame { ordered = first ordered frame.ordered i; duration_fits = one fits frame.duration_fits i; same_meta = HasMeta-prop frame.held frame.meta s frame.same_meta i })
+    subst (λ (x : Held). (s : HasMeta x frame.meta) →
+    record frame { held = x; ordered = ordered; duration_fits = fits; same_meta = s } ≡ frame) e
+    (λ s. λ i. record frame {
+      ordered = first ordered frame.ordered i;
+      duration_fits =
+          one fits frame.duration_fits i;
+      same_meta = HasMeta-prop frame.held frame.meta s frame.same_meta i;
+    })
     same
 
 packing-keeps : (p : Option Packing) (u : Option Streams) → Agree p u → streams_in (packing p u) ≡ either_content p u
@@ -70,7 +82,9 @@ unpack-keeps h = unpacking-keeps h.packed h.unpacked
 
 -- ---- packed bytes and the streams whose layout they are
 
-streams_from : (o : Option (List (ThreadKey × StreamFacts))) (streams : Streams) → option_map from_sorted o ≡ Some streams → (es : List (ThreadKey × StreamFacts)) × (o ≡ Some es) × (from_sorted es ≡ streams)
+streams_from : (o : Option (List (ThreadKey × StreamFacts))) (streams : Streams) →
+    option_map from_sorted o ≡ Some streams →
+    (es : List (ThreadKey × StreamFacts)) × (o ≡ Some es) × (from_sorted es ≡ streams)
 streams_from None streams e = absurd cc
 streams_from (Some es) streams e = (es, refl, same_Some (from_sorted es) streams e)
 
@@ -83,11 +97,20 @@ streams_taken : (p : Packing) (streams : Streams) → IsBytes p.bytes → stream
 streams_taken p streams is e =
     let g = cond_option (is_uncompressed p.kind) (option_map from_sorted (whole (streams_at p.form) p.bytes)) streams e in
     let o = streams_from (whole (streams_at p.form) p.bytes) streams g.1 in
-    let w = whole_taken (AreStreams p.form) (streams_layout p.form) (streams_at p.form) (streams_reader p.form) p.bytes o.0 is o.1 in
-    let back : entries streams ≡ o.0 = ap entries (sym o.2) ∙ entries-from_sorted key_cmp o.0 (holds _ (sorted_in p.form o.0 w.0.1)) in
-    (uncompressed p.kind g.0, subst (λ (es : List (ThreadKey × StreamFacts)). AreStreams p.form es) (sym back) w.0, w.1 ∙ ap (streams_layout p.form) (sym back))
+    let w =
+    whole_taken (AreStreams p.form) (streams_layout p.form) (streams_at p.form)
+    (streams_reader p.form) p.bytes o.0 is o.1 in
+    let back : entries streams ≡ o.0 =
+    ap entries (sym o.2) ∙ entries-from_sorted key_cmp o.0 (holds _ (sorted_in p.form o.0 w.0.1)) in (
+      uncompressed p.kind g.0,
+      subst (λ (es : List (ThreadKey × StreamFacts)). AreStreams p.form es) (sym back) w.0,
+      w.1
+          ∙ ap (streams_layout p.form) (sym back),
+    )
   where
-    cond_option : (b : Bool) (o : Option Streams) (streams : Streams) → cond b o None ≡ Some streams → (b ≡ true) × (o ≡ Some streams)
+    cond_option : (b : Bool) (o : Option Streams) (streams : Streams) →
+        cond b o None ≡ Some streams →
+        (b ≡ true) × (o ≡ Some streams)
     cond_option true o streams e = (refl, e)
     cond_option false o streams e = absurd cc
 
@@ -103,12 +126,16 @@ streams_given p streams h =
     let fit = subst (λ (f : Form). AreStreams f (entries streams)) (form_stored p.form (entries streams) h.1) h.1 in
     ap streams_in (same_packing p streams h) ∙ packed_again streams fit
 
-pub holds_streams : (p : Packing) (streams : Streams) → IsBytes p.bytes → (streams_in p ≡ Some streams) ↔ HoldsStreams p streams
+pub holds_streams : (p : Packing) (streams : Streams) →
+    IsBytes p.bytes →
+    (streams_in p ≡ Some streams) ↔ HoldsStreams p streams
 holds_streams p streams is = (streams_taken p streams is, streams_given p streams)
 
 -- ---- what unpacking gives
 
-unpacked_so : (b : Bool) (kind : ℕ) (o : Option Streams) (streams : Streams) → cond b (or_bad o) (Err (file.Compressed kind)) ≡ Ok streams → cond b o None ≡ Some streams
+unpacked_so : (b : Bool) (kind : ℕ) (o : Option Streams) (streams : Streams) →
+    cond b (or_bad o) (Err (file.Compressed kind)) ≡ Ok streams →
+    cond b o None ≡ Some streams
 unpacked_so true kind None streams e = absurd cc
 unpacked_so true kind (Some x) streams e = ap Some (same_ok x streams e)
 unpacked_so false kind o streams e = absurd cc
@@ -116,15 +143,21 @@ unpacked_so false kind o streams e = absurd cc
 -- what was unpacked is read again, packed as it is
 pub unpacked-again : (p : Packing) (streams : Streams) → IsBytes p.bytes → unpacking p ≡ Ok streams → AreReadAgain streams
 unpacked-again p streams is e =
-    let taken = unpacked_so (is_uncompressed p.kind) (to_byte p.kind) (option_map from_sorted (whole (streams_at p.form) p.bytes)) streams e in
+    let taken =
+    unpacked_so (is_uncompressed p.kind) (to_byte p.kind)
+    (option_map from_sorted (whole (streams_at p.form) p.bytes)) streams e in
     ap streams_in (sym (same_packing p streams (streams_taken p streams is taken))) ∙ taken
 
-bad_so : (b : Bool) (kind : ℕ) (o : Option Streams) (streams : Streams) → cond b (or_bad o) (Err (file.Compressed kind)) ≡ Err file.BadStreams → cond b o None ≡ Some streams → ⊥
+bad_so : (b : Bool) (kind : ℕ) (o : Option Streams) (streams : Streams) →
+    cond b (or_bad o) (Err (file.Compressed kind)) ≡ Err file.BadStreams → cond b o None ≡ Some streams →
+    ⊥
 bad_so true kind None streams e some = absurd cc
 bad_so true kind (Some x) streams e some = absurd cc
 bad_so false kind o streams e some = absurd cc
 
-one_answer : (b : Bool) (o : Option Streams) (cause : FileError) (streams : Streams) → cond b o None ≡ Some streams → Ok streams ≡ cond b (or_bad o) (Err cause)
+one_answer : (b : Bool) (o : Option Streams) (cause : FileError) (streams : Streams) →
+    cond b o None ≡ Some streams →
+    Ok streams ≡ cond b (or_bad o) (Err cause)
 one_answer true o cause streams e = ap or_bad (sym e)
 one_answer false o cause streams e = absurd cc
 
@@ -134,13 +167,16 @@ unpacks None None agree = absurd agree
 unpacks (Some p) None agree = refl
 unpacks None (Some streams) agree = ap or_bad (sym agree)
 unpacks (Some p) (Some streams) agree =
-    one_answer (is_uncompressed p.kind) (option_map from_sorted (whole (streams_at p.form) p.bytes)) (file.Compressed (to_byte p.kind)) streams agree
+    one_answer (is_uncompressed p.kind) (option_map from_sorted (whole (streams_at p.form) p.bytes))
+    (file.Compressed (to_byte p.kind)) streams agree
 
 pub unpacks_packing : (h : Holding) → IsHolding h → unpacked_from h ≡ unpacking (packing_of h)
 unpacks_packing h agree = unpacks h.packed h.unpacked agree
 
 -- the streams that are handed out are those whose layout the packed bytes are
-layout_of : (h : Held) (streams : Streams) → unpacked_from (held_as h) ≡ Ok streams → IfSome (held_as h).packed (λ p. HoldsStreams p streams)
+layout_of : (h : Held) (streams : Streams) →
+    unpacked_from (held_as h) ≡ Ok streams →
+    IfSome (held_as h).packed (λ p. HoldsStreams p streams)
 layout_of (Own u) streams e = tt
 layout_of (Shared u) streams e = tt
 layout_of (Packed p) streams e =
@@ -149,11 +185,15 @@ layout_of (Packed p) streams e =
 layout_of (Both b) streams e =
     streams_taken (packed_as b.packed) streams b.packed.are_bytes (b.same ∙ ap Some (same_ok _ streams e))
 
-pub unpacked_layout : {X : Type 0} (view : X → Streams) (h : Held) (r : Result X FileError) → DecidedInMemory view r (unpacked_from (held_as h)) → IfOk r (λ x. IfSome (held_as h).packed (λ p. HoldsStreams p (view x)))
+pub unpacked_layout : {X : Type 0} (view : X → Streams) (h : Held) (r : Result X FileError) →
+    DecidedInMemory view r (unpacked_from (held_as h)) →
+    IfOk r (λ x. IfSome (held_as h).packed (λ p. HoldsStreams p (view x)))
 unpacked_layout view h (Ok x) d = layout_of h (view x) d
 unpacked_layout view h (Err e) d = tt
 
-bad_of : (h : Held) → unpacked_from (held_as h) ≡ Err file.BadStreams → IfSome (held_as h).packed (λ p. (streams : Streams) → HoldsStreams p streams → ⊥)
+bad_of : (h : Held) →
+    unpacked_from (held_as h) ≡ Err file.BadStreams →
+    IfSome (held_as h).packed (λ p. (streams : Streams) → HoldsStreams p streams → ⊥)
 bad_of (Own u) e = tt
 bad_of (Shared u) e = tt
 bad_of (Packed p) e = λ streams held.
@@ -161,5 +201,8 @@ bad_of (Packed p) e = λ streams held.
     bad_so (is_uncompressed p.kind) (to_byte p.kind) o streams e (streams_given (packed_as p) streams held)
 bad_of (Both b) e = absurd cc
 
-pub unpacked_no_layout : {X : Type 0} (view : X → Streams) (h : Held) (r : Result X FileError) → DecidedInMemory view r (unpacked_from (held_as h)) → r ≡ Err file.BadStreams → IfSome (held_as h).packed (λ p. (streams : Streams) → HoldsStreams p streams → ⊥)
-unpacked_no_layout view h r d e = bad_of h (subst (λ (x : Result _ FileError). DecidedInMemory view x (unpacked_from (held_as h))) e d)
+pub unpacked_no_layout : {X : Type 0} (view : X → Streams) (h : Held) (r : Result X FileError) →
+    DecidedInMemory view r (unpacked_from (held_as h)) → r ≡ Err file.BadStreams →
+    IfSome (held_as h).packed (λ p. (streams : Streams) → HoldsStreams p streams → ⊥)
+unpacked_no_layout view h r d e =
+    bad_of h (subst (λ (x : Result _ FileError). DecidedInMemory view x (unpacked_from (held_as h))) e d)

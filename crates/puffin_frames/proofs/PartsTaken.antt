@@ -24,7 +24,9 @@ use Rattle.puffin_frames.proofs.Structs.{meta_reader, details_reader, legacy_rea
 
 -- ---- steps
 
-pub bind_ok : {A B : Type 0} (r : Result A FileError) (f : A → Result B FileError) (y : B) → (r >>= f) ≡ Ok y → (x : A) × (r ≡ Ok x) × (f x ≡ Ok y)
+pub bind_ok : {A B : Type 0} (r : Result A FileError) (f : A → Result B FileError) (y : B) →
+    (r >>= f) ≡ Ok y →
+    (x : A) × (r ≡ Ok x) × (f x ≡ Ok y)
 bind_ok (Ok x) f y e = (x, refl, e)
 bind_ok (Err x) f y e = absurd cc
 
@@ -55,28 +57,37 @@ part_taken n bytes t rest e =
     let size : length (take n bytes) ≡ n = omega (arith, length-take n bytes) in
     subst (λ (y : List ℕ × List ℕ). (length y.0 ≡ n) × (bytes ≡ y.0 ++ y.1)) g.1 (size, sym (take-append-drop n bytes))
 
-pub length_taken : (bytes : List ℕ) (n : ℕ) (rest : List ℕ) → IsBytes bytes → part_length_at bytes ≡ Ok (n, rest) → (n < 2 ^ 32) × (bytes ≡ little_bytes 4 n ++ rest)
+pub length_taken : (bytes : List ℕ) (n : ℕ) (rest : List ℕ) →
+    IsBytes bytes → part_length_at bytes ≡ Ok (n, rest) →
+    (n < 2 ^ 32) × (bytes ≡ little_bytes 4 n ++ rest)
 length_taken bytes n rest is e =
     let b = bind_ok (part_of 4 bytes) (λ four. Ok (little_number 4 four.0, four.1)) (n, rest) e in
     let p = part_taken 4 bytes b.0.0 b.0.1 b.1 in
     let four : IsBytes b.0.0 = IsBytes-before bytes b.0.0 b.0.1 p.1 is in
-    let same : little_bytes 4 (little_number 4 b.0.0) ≡ b.0.0 = bytes_4 b.0.0 (omega (arith, p.0)) four ∙ take_all 4 b.0.0 (omega (arith, p.0)) in
+    let same : little_bytes 4 (little_number 4 b.0.0) ≡ b.0.0 =
+    bytes_4 b.0.0 (omega (arith, p.0)) four ∙ take_all 4 b.0.0 (omega (arith, p.0)) in
     let made : (ℕ × List ℕ) = (little_number 4 b.0.0, b.0.1) in
     let text : bytes ≡ little_bytes 4 (little_number 4 b.0.0) ++ b.0.1 = p.1 ∙ ap (λ (t : List ℕ). t ++ b.0.1) (sym same) in
-    subst (λ (y : ℕ × List ℕ). (y.0 < 2 ^ 32) × (bytes ≡ little_bytes 4 y.0 ++ y.1)) (same_ok made (n, rest) b.2) (below_4 b.0.0 four, text)
+    subst (λ (y : ℕ × List ℕ). (y.0 < 2 ^ 32) × (bytes ≡ little_bytes 4 y.0 ++ y.1)) (same_ok made (n, rest) b.2)
+    (below_4 b.0.0 four, text)
 
-pub counted_taken : (bytes t rest : List ℕ) → IsBytes bytes → counted_part_at bytes ≡ Ok (t, rest) → (length t < 2 ^ 32) × (bytes ≡ counted_part t ++ rest)
+pub counted_taken : (bytes t rest : List ℕ) →
+    IsBytes bytes → counted_part_at bytes ≡ Ok (t, rest) →
+    (length t < 2 ^ 32) × (bytes ≡ counted_part t ++ rest)
 counted_taken bytes t rest is e =
     let a = bind_ok (part_length_at bytes) (λ n. part_of n.0 n.1) (t, rest) e in
     let l = length_taken bytes a.0.0 a.0.1 is a.1 in
     let p = part_taken a.0.0 a.0.1 t rest a.2 in
     let short : length t < 2 ^ 32 = rw p.0 l.0 in
-    let text : bytes ≡ (little_bytes 4 a.0.0 ++ t) ++ rest = l.1 ∙ (ap (λ (x : List ℕ). little_bytes 4 a.0.0 ++ x) p.1 ∙ sym (append_assoc (little_bytes 4 a.0.0) t rest)) in
+    let text : bytes ≡ (little_bytes 4 a.0.0 ++ t) ++ rest =
+    l.1 ∙ (ap (λ (x : List ℕ). little_bytes 4 a.0.0 ++ x) p.1 ∙ sym (append_assoc (little_bytes 4 a.0.0) t rest)) in
     (short, rw p.0 text)
 
 -- ---- meta
 
-ranged : (o : Option FrameMeta) (m : FrameMeta) → meta_with_range o ≡ Ok m → (o ≡ Some m) × (is_valid_range_at m.range_ns.0 m.range_ns.1 ≡ true)
+ranged : (o : Option FrameMeta) (m : FrameMeta) →
+    meta_with_range o ≡ Ok m →
+    (o ≡ Some m) × (is_valid_range_at m.range_ns.0 m.range_ns.1 ≡ true)
 ranged None m e = absurd cc
 ranged (Some x) m e =
     let g = only_if (is_valid_range_at x.range_ns.0 x.range_ns.1) file.BadRange x m e in
@@ -87,17 +98,22 @@ pub record MetaTaken (bytes : List ℕ) (m : FrameMeta) (rest : List ℕ) : Type
   pub range : is_valid_range_at m.range_ns.0 m.range_ns.1 ≡ true
   pub text : bytes ≡ counted_part (meta_layout m) ++ rest
 
-pub meta_taken : (bytes : List ℕ) (m : FrameMeta) (rest : List ℕ) → IsBytes bytes → meta_part_at bytes ≡ Ok (m, rest) → MetaTaken bytes m rest
+pub meta_taken : (bytes : List ℕ) (m : FrameMeta) (rest : List ℕ) →
+    IsBytes bytes → meta_part_at bytes ≡ Ok (m, rest) →
+    MetaTaken bytes m rest
 meta_taken bytes m rest is e =
     let a = bind_ok (counted_part_at bytes) (λ part. meta_from part.0 >>= λ meta. Ok (meta, part.1)) (m, rest) e in
     let b = bind_ok (meta_from a.0.0) (λ meta. Ok (meta, a.0.1)) (m, rest) a.2 in
     let c = counted_taken bytes a.0.0 a.0.1 is a.1 in
-    let part : IsBytes a.0.0 = IsBytes-after (counted_part a.0.0) (little_bytes 4 (length a.0.0)) a.0.0 refl (IsBytes-before bytes (counted_part a.0.0) a.0.1 c.1 is) in
+    let part : IsBytes a.0.0 =
+    IsBytes-after (counted_part a.0.0) (little_bytes 4 (length a.0.0)) a.0.0 refl
+    (IsBytes-before bytes (counted_part a.0.0) a.0.1 c.1 is) in
     let r = ranged (whole meta_at a.0.0) b.0 b.1 in
     let w = whole_taken IsMeta meta_layout meta_at meta_reader a.0.0 b.0 part r.0 in
     let made : (FrameMeta × List ℕ) = (b.0, a.0.1) in
     let text : bytes ≡ counted_part (meta_layout b.0) ++ a.0.1 = c.1 ∙ ap (λ (t : List ℕ). counted_part t ++ a.0.1) w.1 in
-    subst (λ (y : FrameMeta × List ℕ). MetaTaken bytes y.0 y.1) (same_ok made (m, rest) b.2) (record { fits = w.0; range = r.1; text = text })
+    subst (λ (y : FrameMeta × List ℕ). MetaTaken bytes y.0 y.1) (same_ok made (m, rest) b.2)
+    (record { fits = w.0; range = r.1; text = text })
 
 -- ---- the kind
 
@@ -115,10 +131,13 @@ first_taken bytes b rest e =
     subst (λ (y : ℕ × List ℕ). bytes ≡ y.0 ∷ y.1) (same_ok made (b, rest) a.2) text
 
 kind_given : (byte : ℕ) (kind : Kind) → kind_from byte ≡ Ok kind → byte ≡ to_byte kind
-kind_given byte kind e = by_test byte kind (eqb byte 0) (eqb byte 1) (eqb byte 2) (eqb-true byte 0) (eqb-true byte 1) (eqb-true byte 2) e
+kind_given byte kind e =
+    by_test byte kind (eqb byte 0) (eqb byte 1) (eqb byte 2) (eqb-true byte 0) (eqb-true byte 1) (eqb-true byte 2) e
   where
-    by_test : (byte : ℕ) (kind : Kind) (zero one two : Bool) → (zero ≡ true → byte ≡ 0) → (one ≡ true → byte ≡ 1) → (two ≡ true → byte ≡ 2)
-        → known_kind byte (cond zero (Some Uncompressed) (cond one (Some Lz4) (cond two (Some Zstd) None))) ≡ Ok kind → byte ≡ to_byte kind
+    by_test : (byte : ℕ) (kind : Kind) (zero one two : Bool) →
+        (zero ≡ true → byte ≡ 0) → (one ≡ true → byte ≡ 1) → (two ≡ true → byte ≡ 2) →
+        known_kind byte (cond zero (Some Uncompressed) (cond one (Some Lz4) (cond two (Some Zstd) None))) ≡ Ok kind →
+        byte ≡ to_byte kind
     by_test byte kind true one two is_0 is_1 is_2 e = is_0 refl ∙ ap to_byte (same_ok Uncompressed kind e)
     by_test byte kind false true two is_0 is_1 is_2 e = is_1 refl ∙ ap to_byte (same_ok Lz4 kind e)
     by_test byte kind false false true is_0 is_1 is_2 e = is_2 refl ∙ ap to_byte (same_ok Zstd kind e)
@@ -128,7 +147,8 @@ pub kind_taken : (bytes : List ℕ) (k : Kind) (rest : List ℕ) → given_kind_
 kind_taken bytes k rest e =
     let a = bind_ok (first_at bytes) (λ b. kind_from b.0 >>= λ k. Ok (k, b.1)) (k, rest) e in
     let b = bind_ok (kind_from a.0.0) (λ k. Ok (k, a.0.1)) (k, rest) a.2 in
-    let text : bytes ≡ to_byte b.0 ∷ a.0.1 = first_taken bytes a.0.0 a.0.1 a.1 ∙ ap (λ (x : ℕ). x ∷ a.0.1) (kind_given a.0.0 b.0 b.1) in
+    let text : bytes ≡ to_byte b.0 ∷ a.0.1 =
+    first_taken bytes a.0.0 a.0.1 a.1 ∙ ap (λ (x : ℕ). x ∷ a.0.1) (kind_given a.0.0 b.0 b.1) in
     let made : (Kind × List ℕ) = (b.0, a.0.1) in
     subst (λ (y : Kind × List ℕ). bytes ≡ to_byte y.0 ∷ y.1) (same_ok made (k, rest) b.2) text
 
@@ -143,21 +163,32 @@ pub record DetailsTaken (bytes : List ℕ) (ds : List Details) (rest : List ℕ)
   pub short : length (details_layout ds) < 2 ^ 32
   pub text : bytes ≡ counted_part (details_layout ds) ++ rest
 
-pub details_taken : (bytes : List ℕ) (ds : List Details) (rest : List ℕ) → IsBytes bytes → given_details_at bytes ≡ Ok (ds, rest) → DetailsTaken bytes ds rest
+pub details_taken : (bytes : List ℕ) (ds : List Details) (rest : List ℕ) →
+    IsBytes bytes → given_details_at bytes ≡ Ok (ds, rest) →
+    DetailsTaken bytes ds rest
 details_taken bytes ds rest is e =
-    let a = bind_ok (counted_part_at bytes) (λ part. details_from (whole details_at part.0) >>= λ ds. Ok (ds, part.1)) (ds, rest) e in
+    let a =
+    bind_ok (counted_part_at bytes) (λ part. details_from (whole details_at part.0) >>= λ ds. Ok (ds, part.1))
+    (ds, rest) e in
     let b = bind_ok (details_from (whole details_at a.0.0)) (λ ds. Ok (ds, a.0.1)) (ds, rest) a.2 in
     let c = counted_taken bytes a.0.0 a.0.1 is a.1 in
-    let part : IsBytes a.0.0 = IsBytes-after (counted_part a.0.0) (little_bytes 4 (length a.0.0)) a.0.0 refl (IsBytes-before bytes (counted_part a.0.0) a.0.1 c.1 is) in
-    let w = whole_taken AreDetails details_layout details_at details_reader a.0.0 b.0 part (given_from (whole details_at a.0.0) b.0 b.1) in
+    let part : IsBytes a.0.0 =
+    IsBytes-after (counted_part a.0.0) (little_bytes 4 (length a.0.0)) a.0.0 refl
+    (IsBytes-before bytes (counted_part a.0.0) a.0.1 c.1 is) in
+    let w =
+    whole_taken AreDetails details_layout details_at details_reader a.0.0 b.0 part
+    (given_from (whole details_at a.0.0) b.0 b.1) in
     let made : (List Details × List ℕ) = (b.0, a.0.1) in
     let text : bytes ≡ counted_part (details_layout b.0) ++ a.0.1 = c.1 ∙ ap (λ (t : List ℕ). counted_part t ++ a.0.1) w.1 in
     let short : length (details_layout b.0) < 2 ^ 32 = rw (← w.1) c.0 in
-    subst (λ (y : List Details × List ℕ). DetailsTaken bytes y.0 y.1) (same_ok made (ds, rest) b.2) (record { fits = w.0; short = short; text = text })
+    subst (λ (y : List Details × List ℕ). DetailsTaken bytes y.0 y.1) (same_ok made (ds, rest) b.2)
+    (record { fits = w.0; short = short; text = text })
 
 -- ---- a frame as it was written at first
 
-legacy_ranged : (o : Option Legacy) (l : Legacy) → legacy_with_range o ≡ Ok l → (o ≡ Some l) × (is_valid_range_at l.meta.range_ns.0 l.meta.range_ns.1 ≡ true)
+legacy_ranged : (o : Option Legacy) (l : Legacy) →
+    legacy_with_range o ≡ Ok l →
+    (o ≡ Some l) × (is_valid_range_at l.meta.range_ns.0 l.meta.range_ns.1 ≡ true)
 legacy_ranged None l e = absurd cc
 legacy_ranged (Some x) l e =
     let g = only_if (is_valid_range_at x.meta.range_ns.0 x.meta.range_ns.1) file.BadRange x l e in
@@ -169,7 +200,9 @@ pub record LegacyTaken (n : ℕ) (bytes : List ℕ) (l : Legacy) (rest : List �
   pub size : length (legacy_layout l) ≡ n
   pub text : bytes ≡ legacy_layout l ++ rest
 
-pub legacy_taken : (n : ℕ) (bytes : List ℕ) (l : Legacy) (rest : List ℕ) → IsBytes bytes → legacy_part_at n bytes ≡ Ok (l, rest) → LegacyTaken n bytes l rest
+pub legacy_taken : (n : ℕ) (bytes : List ℕ) (l : Legacy) (rest : List ℕ) →
+    IsBytes bytes → legacy_part_at n bytes ≡ Ok (l, rest) →
+    LegacyTaken n bytes l rest
 legacy_taken n bytes l rest is e =
     let a = bind_ok (part_of n bytes) (λ part. legacy_from part.0 >>= λ l. Ok (l, part.1)) (l, rest) e in
     let b = bind_ok (legacy_from a.0.0) (λ l. Ok (l, a.0.1)) (l, rest) a.2 in
@@ -180,4 +213,5 @@ legacy_taken n bytes l rest is e =
     let made : (Legacy × List ℕ) = (b.0, a.0.1) in
     let text : bytes ≡ legacy_layout b.0 ++ a.0.1 = p.1 ∙ ap (λ (t : List ℕ). t ++ a.0.1) w.1 in
     let size : length (legacy_layout b.0) ≡ n = rw (← w.1) p.0 in
-    subst (λ (y : Legacy × List ℕ). LegacyTaken n bytes y.0 y.1) (same_ok made (l, rest) b.2) (record { fits = w.0; range = r.1; size = size; text = text })
+    subst (λ (y : Legacy × List ℕ). LegacyTaken n bytes y.0 y.1) (same_ok made (l, rest) b.2)
+    (record { fits = w.0; range = r.1; size = size; text = text })

@@ -27,37 +27,59 @@ at_middle P [] k rest all = all.0
 at_middle P (x ∷ xs) k rest all = at_middle P xs k rest all.1
 
 -- an entry whose key is above all others goes to the end
-insert_last : {K X : Type 0} {cmp : K → K → Ordering} (total : IsTotalOrder cmp) (es : List (K × X)) (k : K) (v : X) (rest : List K) → IsStrictlySortedBy cmp (keys_of es ++ k ∷ rest) → insert_entry cmp es k v ≡ es ++ (k, v) ∷ []
+insert_last : {K X : Type 0} {cmp : K → K → Ordering} (total : IsTotalOrder cmp) (es : List (K × X)) (k : K) (v : X)
+    (rest : List K) →
+    IsStrictlySortedBy cmp (keys_of es ++ k ∷ rest) →
+    insert_entry cmp es k v ≡ es ++ (k, v) ∷ []
 insert_last total [] k v rest sorted = refl
 insert_last {cmp = cmp} total (e ∷ es) k v rest sorted =
     let below : cmp e.0 k ≡ Less = at_middle (λ y. cmp e.0 y ≡ Less) (keys_of es) k rest (sorted_head cmp e.0 _ sorted) in
     let above : cmp k e.0 ≡ Greater = total.antisymm k e.0 ∙ ap ordering_reverse below in
-    ap (λ r. match_ordering r ((k, v) ∷ e ∷ es) ((e.0, v) ∷ es) (e ∷ insert_entry cmp es k v)) above ∙ ap (λ l. e ∷ l) (insert_last total es k v rest (sorted_tail cmp e.0 _ sorted))
+    ap (λ r. match_ordering r ((k, v) ∷ e ∷ es) ((e.0, v) ∷ es) (e ∷ insert_entry cmp es k v)) above
+    ∙ ap (λ l. e ∷ l) (insert_last total es k v rest (sorted_tail cmp e.0 _ sorted))
 
-keys_of-unshared : {A : Type 0} (es : List (ThreadInfo × Arc StreamInfo A)) (k : ThreadInfo) (info : StreamInfo) (rest : List (ThreadInfo × StreamInfo)) → keys_of (without_sharing es ++ (k, info) ∷ rest) ≡ keys_of es ++ k ∷ keys_of rest
+keys_of-unshared : {A : Type 0} (es : List (ThreadInfo × Arc StreamInfo A)) (k : ThreadInfo) (info : StreamInfo)
+    (rest : List (ThreadInfo × StreamInfo)) →
+    keys_of (without_sharing es ++ (k, info) ∷ rest) ≡ keys_of es ++ k ∷ keys_of rest
 keys_of-unshared [] k info rest = refl
 keys_of-unshared (e ∷ es) k info rest = ap (λ l. e.0 ∷ l) (keys_of-unshared es k info rest)
 
-unshared-last : {A : Type 0} (es : List (ThreadInfo × Arc StreamInfo A)) (k : ThreadInfo) (arc : Arc StreamInfo A) (rest : List (ThreadInfo × StreamInfo)) → without_sharing (es ++ (k, arc) ∷ []) ++ rest ≡ without_sharing es ++ (k, arc_value arc) ∷ rest
+unshared-last : {A : Type 0} (es : List (ThreadInfo × Arc StreamInfo A)) (k : ThreadInfo) (arc : Arc StreamInfo A)
+    (rest : List (ThreadInfo × StreamInfo)) →
+    without_sharing (es ++ (k, arc) ∷ []) ++ rest ≡ without_sharing es ++ (k, arc_value arc) ∷ rest
 unshared-last [] k arc rest = refl
 unshared-last (e ∷ es) k arc rest = ap (λ l. (e.0, arc_value e.1) ∷ l) (unshared-last es k arc rest)
 
 -- what is shared so far, with what is left, is what there was, in order
-pub record SharesInOrder {A : Type 0} (es : List (ThreadInfo × Arc StreamInfo A)) (rest all : List (ThreadInfo × StreamInfo)) : Type 0 where
+pub record SharesInOrder {A : Type 0} (es : List (ThreadInfo × Arc StreamInfo A))
+    (rest all : List (ThreadInfo × StreamInfo)) : Type 0 where
   pub whole : without_sharing es ++ rest ≡ all
   pub sorted : IsStrictlySortedBy thread_cmp (keys_of all)
   pub fit : AllByRecursion (λ (e : ThreadKey × StreamFacts). IsThreadKey e.0 × AreCounts e.1) (pairs_of es)
 
-pub one_more : {A : Type 0} (es fs : List (ThreadInfo × Arc StreamInfo A)) (k : ThreadInfo) (info : StreamInfo) (arc : Arc StreamInfo A) (left rest all : List (ThreadInfo × StreamInfo)) → SharesInOrder es left all → left ≡ (k, info) ∷ rest → arc_value arc ≡ info → fs ≡ insert_entry thread_cmp es k arc → IsThreadKey (key_of k) → AreCounts (facts_of info) → SharesInOrder fs rest all
+pub one_more : {A : Type 0} (es fs : List (ThreadInfo × Arc StreamInfo A)) (k : ThreadInfo) (info : StreamInfo)
+    (arc : Arc StreamInfo A) (left rest all : List (ThreadInfo × StreamInfo)) →
+    SharesInOrder es left all → left ≡ (k, info) ∷ rest → arc_value arc ≡ info → fs ≡ insert_entry thread_cmp es k arc →
+    IsThreadKey (key_of k) → AreCounts (facts_of info) →
+    SharesInOrder fs rest all
 one_more es fs k info arc left rest all h next same put thread counts =
     let whole : without_sharing es ++ (k, info) ∷ rest ≡ all = ap (λ l. without_sharing es ++ l) (sym next) ∙ h.whole in
-    let sorted = subst (λ (ks : List ThreadInfo). IsStrictlySortedBy thread_cmp ks) (ap keys_of (sym whole) ∙ keys_of-unshared es k info rest) h.sorted in
+    let sorted =
+    subst (λ (ks : List ThreadInfo). IsStrictlySortedBy thread_cmp ks)
+    (ap keys_of (sym whole) ∙ keys_of-unshared es k info rest) h.sorted in
     let last = insert_last thread_cmp_total es k arc (keys_of rest) sorted in
     record {
-      whole = ap (λ l. without_sharing l ++ rest) (put ∙ last) ∙ unshared-last es k arc rest ∙ ap (λ x. without_sharing es ++ (k, x) ∷ rest) same ∙ whole;
+      whole =
+          ap (λ l. without_sharing l ++ rest) (put ∙ last)
+          ∙ unshared-last es k arc rest
+          ∙ ap (λ x. without_sharing es ++ (k, x) ∷ rest) same
+          ∙ whole;
       sorted = h.sorted;
-      fit = subst (λ (xs : List (ThreadKey × StreamFacts)). AllByRecursion Fits xs) (sym (ap pairs_of (put ∙ last) ∙ listed-push es k arc))
-          (all_one Fits (pairs_of es) (key_of k, facts_of (arc_value arc)) h.fit (thread, subst (λ (x : StreamInfo). AreCounts (facts_of x)) (sym same) counts));
+      fit =
+          subst (λ (xs : List (ThreadKey × StreamFacts)). AllByRecursion Fits xs)
+          (sym (ap pairs_of (put ∙ last) ∙ listed-push es k arc))
+          (all_one Fits (pairs_of es) (key_of k, facts_of (arc_value arc)) h.fit
+          (thread, subst (λ (x : StreamInfo). AreCounts (facts_of x)) (sym same) counts));
     }
   where
     Fits : ThreadKey × StreamFacts → Type 0

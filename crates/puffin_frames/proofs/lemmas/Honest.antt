@@ -35,18 +35,27 @@ none_honest = record {
 pub none_is_honest : AreHonest empty
 none_is_honest i r found = let none = get-empty {X = StreamFacts} key_cmp i in absurd cc
 
-joined_honest : (o : Option StreamFacts) (r : StreamFacts) (f : Forest) → (AreUnlike (unwrap_or o no_scopes) r → ⊥) → AreHonestFacts r f → ((x : StreamFacts) → o ≡ Some x → IsHonestSomehow x) → IsHonestSomehow (joined_facts (unwrap_or o no_scopes) r)
-joined_honest None r f like h before = merely (append forest.empty f, honest_joined no_scopes r forest.empty f like none_honest h)
+joined_honest : (o : Option StreamFacts) (r : StreamFacts) (f : Forest) →
+    (AreUnlike (unwrap_or o no_scopes) r → ⊥) → AreHonestFacts r f →
+    ((x : StreamFacts) → o ≡ Some x → IsHonestSomehow x) →
+    IsHonestSomehow (joined_facts (unwrap_or o no_scopes) r)
+joined_honest None r f like h before =
+    merely (append forest.empty f, honest_joined no_scopes r forest.empty f like none_honest h)
 joined_honest (Some x) r f like h before = ∥∥₁_map (before x refl) (λ p. (append p.0 f, honest_joined x r p.0 f like p.1 h))
 
-at_test : (b : Bool) (j x : StreamFacts) (o : Option StreamFacts) → IsHonestSomehow j → (o ≡ Some x → IsHonestSomehow x) → cond b (Some j) o ≡ Some x → IsHonestSomehow x
+at_test : (b : Bool) (j x : StreamFacts) (o : Option StreamFacts) →
+    IsHonestSomehow j → (o ≡ Some x → IsHonestSomehow x) → cond b (Some j) o ≡ Some x →
+    IsHonestSomehow x
 at_test true j x o h before found = let same : j ≡ x = cc in subst IsHonestSomehow same h
 at_test false j x o h before found = before found
 
-pub honest-report : (streams : Streams) (i : ThreadKey) (r : StreamFacts) (f : Forest) → (AreUnlike (stream_under streams i) r → ⊥) → AreHonest streams → AreHonestFacts r f → AreHonest (reported_to streams i r)
+pub honest-report : (streams : Streams) (i : ThreadKey) (r : StreamFacts) (f : Forest) →
+    (AreUnlike (stream_under streams i) r → ⊥) → AreHonest streams → AreHonestFacts r f →
+    AreHonest (reported_to streams i r)
 honest-report streams i r f like honest h q x found =
     let more = joined_facts (unwrap_or (get streams i) no_scopes) r in
-    at_test (has_same_key q i) more x (get streams q) (joined_honest (get streams i) r f like h (λ y. honest i y)) (honest q x) (sym (get-insert key_cmp_total streams i more q) ∙ found)
+    at_test (has_same_key q i) more x (get streams q) (joined_honest (get streams i) r f like h (λ y. honest i y))
+    (honest q x) (sym (get-insert key_cmp_total streams i more q) ∙ found)
 
 -- ---- what holds at each info holds of each stream
 none_at : (x : ThreadKey) (es : List (ThreadKey × StreamFacts)) → T (below_all key_cmp x es) → find key_cmp x es ≡ None
@@ -55,18 +64,25 @@ none_at x (e ∷ es) below =
     ap (λ o. cond (is_eq o) (Some e.1) (find key_cmp x es)) (less (key_cmp x e.0) (first _ _ below))
     ∙ none_at x es (second (is_lt (key_cmp x e.0)) _ below)
 
-past_first : (o : Ordering) (q : ThreadKey) (x : StreamFacts) (e : ThreadKey × StreamFacts) (es : List (ThreadKey × StreamFacts)) → key_cmp q e.0 ≡ o → T (below_all key_cmp e.0 es) → find key_cmp q es ≡ Some x → cond (is_eq o) (Some e.1) (find key_cmp q es) ≡ Some x
+past_first : (o : Ordering) (q : ThreadKey) (x : StreamFacts) (e : ThreadKey × StreamFacts)
+    (es : List (ThreadKey × StreamFacts)) →
+    key_cmp q e.0 ≡ o → T (below_all key_cmp e.0 es) → find key_cmp q es ≡ Some x →
+    cond (is_eq o) (Some e.1) (find key_cmp q es) ≡ Some x
 past_first Less q x e es is below found = found
 past_first Equal q x e es is below found =
     let none = ap (λ k. find key_cmp k es) (key_cmp-one q e.0 is) ∙ none_at e.0 es below in
     absurd cc
 past_first Greater q x e es is below found = found
 
-all_from_each : (P : StreamFacts → Type 0) (es : List (ThreadKey × StreamFacts)) → T (is_sorted key_cmp es) → ((q : ThreadKey) (x : StreamFacts) → find key_cmp q es ≡ Some x → P x) → AllByRecursion P (map (λ e. e.1) es)
+all_from_each : (P : StreamFacts → Type 0) (es : List (ThreadKey × StreamFacts)) →
+    T (is_sorted key_cmp es) →
+    ((q : ThreadKey) (x : StreamFacts) → find key_cmp q es ≡ Some x → P x) →
+    AllByRecursion P (map (λ e. e.1) es)
 all_from_each P [] sorted each = tt
 all_from_each P (e ∷ es) sorted each = (
   each e.0 e.1 (ap (λ o. cond (is_eq o) (Some e.1) (find key_cmp e.0 es)) (tied_itself key_cmp_total e.0)),
-  all_from_each P es (second (below_all key_cmp e.0 es) _ sorted) (λ q x found. each q x (past_first (key_cmp q e.0) q x e es refl (first _ _ sorted) found)),
+  all_from_each P es (second (below_all key_cmp e.0 es) _ sorted)
+      (λ q x found. each q x (past_first (key_cmp q e.0) q x e es refl (first _ _ sorted) found)),
 )
 
 -- ---- the joined range
@@ -80,7 +96,10 @@ one_ordered x honest some reversed =
 not_above : (a b : ℤ) → ¬ (b <ℤ a) → a ≤ℤ b
 not_above a b h = grind (arith, ints)
 
-ordered_from : (n : ℕ) (x : StreamFacts) (xs : List StreamFacts) → x.num_scopes ≡ n → IsHonestSomehow x → 0 < total_scopes (x ∷ xs) → (0 < total_scopes xs → joined_start xs ≤ℤ joined_stop xs) → joined_start (x ∷ xs) ≤ℤ joined_stop (x ∷ xs)
+ordered_from : (n : ℕ) (x : StreamFacts) (xs : List StreamFacts) →
+    x.num_scopes ≡ n → IsHonestSomehow x → 0 < total_scopes (x ∷ xs) →
+    (0 < total_scopes xs → joined_start xs ≤ℤ joined_stop xs) →
+    joined_start (x ∷ xs) ≤ℤ joined_stop (x ∷ xs)
 ordered_from zero x xs is honest some later =
     let rest = later (omega (arith, total_scopes-one x xs)) in
     omega (arith, ints, clamps, least_start-one x xs, greatest_stop-one x xs, rest)
@@ -88,24 +107,36 @@ ordered_from (suc n) x xs is honest some later =
     let here : x.range_ns.0 ≤ℤ x.range_ns.1 = not_above _ _ (one_ordered x honest (omega arith)) in
     omega (arith, ints, clamps, least_start-one x xs, greatest_stop-one x xs, here)
 
-all_ordered : (xs : List StreamFacts) → AllByRecursion IsHonestSomehow xs → 0 < total_scopes xs → joined_start xs ≤ℤ joined_stop xs
+all_ordered : (xs : List StreamFacts) →
+    AllByRecursion IsHonestSomehow xs → 0 < total_scopes xs →
+    joined_start xs ≤ℤ joined_stop xs
 all_ordered [] all some = absurd (omega arith)
 all_ordered (x ∷ xs) all some = ordered_from x.num_scopes x xs refl all.0 some (all_ordered xs all.1)
 
-pub ordered : (streams : Streams) → AreHonest streams → 0 < total_scopes (values streams) → IsOrdered (joined_range (values streams))
+pub ordered : (streams : Streams) →
+    AreHonest streams → 0 < total_scopes (values streams) →
+    IsOrdered (joined_range (values streams))
 ordered streams honest some =
-    all_ordered (values streams) (all_from_each IsHonestSomehow (entries streams) (entries_sorted streams) (λ q x found. honest q x (get-entries streams q ∙ found))) some
+    all_ordered (values streams) (all_from_each IsHonestSomehow (entries streams) (entries_sorted streams)
+    (λ q x found. honest q x (get-entries streams q ∙ found))) some
 
 -- ---- no scope
-none_at_test : (b : Bool) (e : ThreadKey × StreamFacts) (r : StreamFacts) (o : Option StreamFacts) → e.1.num_scopes ≡ 0 → (o ≡ Some r → r.num_scopes ≡ 0) → cond b (Some e.1) o ≡ Some r → r.num_scopes ≡ 0
+none_at_test : (b : Bool) (e : ThreadKey × StreamFacts) (r : StreamFacts) (o : Option StreamFacts) →
+    e.1.num_scopes ≡ 0 → (o ≡ Some r → r.num_scopes ≡ 0) → cond b (Some e.1) o ≡ Some r →
+    r.num_scopes ≡ 0
 none_at_test true e r o nothing later found = let same : e.1 ≡ r = cc in sym (ap (λ x. x.num_scopes) same) ∙ nothing
 none_at_test false e r o nothing later found = later found
 
-none_of : (es : List (ThreadKey × StreamFacts)) (i : ThreadKey) (r : StreamFacts) → total_scopes (map (λ e. e.1) es) ≡ 0 → find key_cmp i es ≡ Some r → r.num_scopes ≡ 0
+none_of : (es : List (ThreadKey × StreamFacts)) (i : ThreadKey) (r : StreamFacts) →
+    total_scopes (map (λ e. e.1) es) ≡ 0 → find key_cmp i es ≡ Some r →
+    r.num_scopes ≡ 0
 none_of [] i r nothing found = absurd cc
 none_of (e ∷ es) i r nothing found =
     let sum = total_scopes-one e.1 (map (λ f. f.1) es) in
-    none_at_test (is_eq (key_cmp i e.0)) e r (find key_cmp i es) (omega (arith, sum, nothing)) (none_of es i r (omega (arith, sum, nothing))) found
+    none_at_test (is_eq (key_cmp i e.0)) e r (find key_cmp i es)
+    (omega (arith, sum, nothing)) (none_of es i r (omega (arith, sum, nothing))) found
 
-pub no_scopes_there : (streams : Streams) (i : ThreadKey) (r : StreamFacts) → total_scopes (values streams) ≡ 0 → get streams i ≡ Some r → r.num_scopes ≡ 0
+pub no_scopes_there : (streams : Streams) (i : ThreadKey) (r : StreamFacts) →
+    total_scopes (values streams) ≡ 0 → get streams i ≡ Some r →
+    r.num_scopes ≡ 0
 no_scopes_there streams i r nothing found = none_of (entries streams) i r nothing (sym (get-entries streams i) ∙ found)

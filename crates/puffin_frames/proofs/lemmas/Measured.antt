@@ -32,10 +32,13 @@ less Equal p = absurd p
 less Greater p = absurd p
 
 -- a key below all others isn't among them
-none_below : (x y : ThreadKey) (es : List (ThreadKey × StreamFacts)) → key_cmp x y ≡ Less → T (below_all key_cmp y es) → find key_cmp x es ≡ None
+none_below : (x y : ThreadKey) (es : List (ThreadKey × StreamFacts)) →
+    key_cmp x y ≡ Less → T (below_all key_cmp y es) →
+    find key_cmp x es ≡ None
 none_below x y [] lt below = refl
 none_below x y (e ∷ es) lt below =
-    ap (λ o. cond (is_eq o) (Some e.1) (find key_cmp x es)) (key_cmp_total.trans x y e.0 lt (less (key_cmp y e.0) (first _ _ below)))
+    ap (λ o. cond (is_eq o) (Some e.1) (find key_cmp x es))
+    (key_cmp_total.trans x y e.0 lt (less (key_cmp y e.0) (first _ _ below)))
     ∙ none_below x y es lt (second (is_lt (key_cmp y e.0)) _ below)
 
 -- a measure of lists that is one of their elements, put together by op
@@ -47,9 +50,17 @@ pub record IsMeasure {N : Type 0} (all : List StreamFacts → N) (one : StreamFa
   pub assoc : (a b c : N) → op a (op b c) ≡ op (op a b) c
 
 module _ {N : Type 0} {all : List StreamFacts → N} {one : StreamFacts → N} {op : N → N → N} (m : IsMeasure all one op) where
-  at_order : (o : Ordering) (i : ThreadKey) (r : StreamFacts) (e : ThreadKey × StreamFacts) (es : List (ThreadKey × StreamFacts)) → key_cmp i e.0 ≡ o → T (below_all key_cmp e.0 es)
-      → all (map (λ f. f.1) (put key_cmp i (joined_facts (unwrap_or (find key_cmp i es) no_scopes) r) es)) ≡ op (all (map (λ f. f.1) es)) (one r)
-      → all (map (λ f. f.1) (by_order o ((i, joined_facts (unwrap_or (cond (is_eq o) (Some e.1) (find key_cmp i es)) no_scopes) r) ∷ (e ∷ es)) ((e.0, joined_facts (unwrap_or (cond (is_eq o) (Some e.1) (find key_cmp i es)) no_scopes) r) ∷ es) (e ∷ put key_cmp i (joined_facts (unwrap_or (cond (is_eq o) (Some e.1) (find key_cmp i es)) no_scopes) r) es)))
+  at_order : (o : Ordering) (i : ThreadKey) (r : StreamFacts) (e : ThreadKey × StreamFacts)
+      (es : List (ThreadKey × StreamFacts)) →
+      key_cmp i e.0 ≡ o → T (below_all key_cmp e.0 es) →
+      all (map (λ f. f.1) (put key_cmp i (joined_facts (unwrap_or (find key_cmp i es) no_scopes) r) es))
+      ≡ op (all (map (λ f. f.1) es)) (one r) →
+      all (map (λ f. f.1) (by_order o ((
+        i,
+        joined_facts (unwrap_or (cond (is_eq o) (Some e.1) (find key_cmp i es)) no_scopes) r,
+      ) ∷ (e ∷ es))
+      ((e.0, joined_facts (unwrap_or (cond (is_eq o) (Some e.1) (find key_cmp i es)) no_scopes) r) ∷ es)
+      (e ∷ put key_cmp i (joined_facts (unwrap_or (cond (is_eq o) (Some e.1) (find key_cmp i es)) no_scopes) r) es)))
       ≡ op (all (e.1 ∷ map (λ f. f.1) es)) (one r)
   at_order Less i r e es lt below later =
       ap (λ o. all (joined_facts (unwrap_or o no_scopes) r ∷ (e.1 ∷ map (λ f. f.1) es))) (none_below i e.0 es lt below)
@@ -66,25 +77,36 @@ module _ {N : Type 0} {all : List StreamFacts → N} {one : StreamFacts → N} {
       ∙ m.assoc (one e.1) (all (map (λ f. f.1) es)) (one r)
       ∙ ap (λ n. op n (one r)) (sym (m.more e.1 (map (λ f. f.1) es)))
 
-  in_entries : (i : ThreadKey) (r : StreamFacts) (es : List (ThreadKey × StreamFacts)) → T (is_sorted key_cmp es) → all (map (λ f. f.1) (put key_cmp i (joined_facts (unwrap_or (find key_cmp i es) no_scopes) r) es)) ≡ op (all (map (λ f. f.1) es)) (one r)
+  in_entries : (i : ThreadKey) (r : StreamFacts) (es : List (ThreadKey × StreamFacts)) →
+      T (is_sorted key_cmp es) →
+      all (map (λ f. f.1) (put key_cmp i (joined_facts (unwrap_or (find key_cmp i es) no_scopes) r) es))
+      ≡ op (all (map (λ f. f.1) es)) (one r)
   in_entries i r [] sorted = m.more (joined_facts no_scopes r) [] ∙ m.fresh r []
   in_entries i r (e ∷ es) sorted =
-      at_order (key_cmp i e.0) i r e es refl (first _ _ sorted) (in_entries i r es (second (below_all key_cmp e.0 es) _ sorted))
+      at_order (key_cmp i e.0) i r e es refl (first _ _ sorted)
+      (in_entries i r es (second (below_all key_cmp e.0 es) _ sorted))
 
   -- the measure of what is there and is reported
-  pub after_report : (streams : Streams) (i : ThreadKey) (r : StreamFacts) → all (values (reported_to streams i r)) ≡ op (all (values streams)) (one r)
+  pub after_report : (streams : Streams) (i : ThreadKey) (r : StreamFacts) →
+      all (values (reported_to streams i r)) ≡ op (all (values streams)) (one r)
   after_report streams i r =
-      ap (λ es. all (map (λ f. f.1) es)) (entries-insert key_cmp_total streams i (joined_facts (unwrap_or (get streams i) no_scopes) r) ∙ ap (λ o. put key_cmp i (joined_facts (unwrap_or o no_scopes) r) (entries streams)) (get-entries streams i))
+      ap (λ es. all (map (λ f. f.1) es)) (entries-insert key_cmp_total streams i
+      (joined_facts (unwrap_or (get streams i) no_scopes) r)
+      ∙ ap (λ o. put key_cmp i (joined_facts (unwrap_or o no_scopes) r) (entries streams)) (get-entries streams i))
       ∙ in_entries i r (entries streams) (entries_sorted streams)
 
 -- ---- the four measures
 bytes_from-add : (n : ℕ) (xs : List StreamFacts) → bytes_from n xs ≡ n + total_bytes xs
 bytes_from-add n [] = omega arith
-bytes_from-add n (x ∷ xs) = let here = bytes_from-add (n + length x.bytes) xs in let there = bytes_from-add (0 + length x.bytes) xs in omega (arith, here, there)
+bytes_from-add n (x ∷ xs) =
+    let here = bytes_from-add (n + length x.bytes) xs in
+    let there = bytes_from-add (0 + length x.bytes) xs in omega (arith, here, there)
 
 scopes_from-add : (n : ℕ) (xs : List StreamFacts) → scopes_from n xs ≡ n + total_scopes xs
 scopes_from-add n [] = omega arith
-scopes_from-add n (x ∷ xs) = let here = scopes_from-add (n + x.num_scopes) xs in let there = scopes_from-add (0 + x.num_scopes) xs in omega (arith, here, there)
+scopes_from-add n (x ∷ xs) =
+    let here = scopes_from-add (n + x.num_scopes) xs in
+    let there = scopes_from-add (0 + x.num_scopes) xs in omega (arith, here, there)
 
 pub total_bytes-one : (x : StreamFacts) (xs : List StreamFacts) → total_bytes (x ∷ xs) ≡ length x.bytes + total_bytes xs
 total_bytes-one x xs = let e = bytes_from-add (0 + length x.bytes) xs in omega (arith, e)
@@ -129,15 +151,20 @@ stops_measure = record {
 }
 
 -- ---- the scopes under one info
-at_test_least : (b : Bool) (e : ThreadKey × StreamFacts) (o : Option StreamFacts) (rest : ℕ) → (unwrap_or o no_scopes).num_scopes ≤ rest → (unwrap_or (cond b (Some e.1) o) no_scopes).num_scopes ≤ e.1.num_scopes + rest
+at_test_least : (b : Bool) (e : ThreadKey × StreamFacts) (o : Option StreamFacts) (rest : ℕ) →
+    (unwrap_or o no_scopes).num_scopes ≤ rest →
+    (unwrap_or (cond b (Some e.1) o) no_scopes).num_scopes ≤ e.1.num_scopes + rest
 at_test_least true e o rest least = omega arith
 at_test_least false e o rest least = omega arith
 
-found_least : (i : ThreadKey) (es : List (ThreadKey × StreamFacts)) → (unwrap_or (find key_cmp i es) no_scopes).num_scopes ≤ total_scopes (map (λ e. e.1) es)
+found_least : (i : ThreadKey) (es : List (ThreadKey × StreamFacts)) →
+    (unwrap_or (find key_cmp i es) no_scopes).num_scopes ≤ total_scopes (map (λ e. e.1) es)
 found_least i [] = omega arith
 found_least i (e ∷ es) =
     let sum = total_scopes-one e.1 (map (λ f. f.1) es) in
-    let here = at_test_least (is_eq (key_cmp i e.0)) e (find key_cmp i es) (total_scopes (map (λ f. f.1) es)) (found_least i es) in
+    let here =
+    at_test_least (is_eq (key_cmp i e.0)) e (find key_cmp i es) (total_scopes (map (λ f. f.1) es))
+    (found_least i es) in
     omega (arith, sum, here)
 
 pub under_one : (streams : Streams) (i : ThreadKey) → (stream_under streams i).num_scopes ≤ total_scopes (values streams)

@@ -12,7 +12,8 @@ use Rattle.puffin_frames.proofs.Listed.{is_so}
 use Rattle.puffin_frames.proofs.FormsOfAll.{ordered_in, stored_in}
 
 from_entries_back : (m : Streams) → from_sorted {R = key_cmp} (entries m) ≡ m
-from_entries_back m = same_entries_map (from_sorted (entries m)) m (entries-from_sorted key_cmp (entries m) (entries_sorted m))
+from_entries_back m =
+    same_entries_map (from_sorted (entries m)) m (entries-from_sorted key_cmp (entries m) (entries_sorted m))
 
 pub packed_again : (m : Streams) → AreStreams (form_of_all (entries m)) (entries m) → streams_in (plainly_packed m) ≡ Some m
 packed_again m h =
@@ -23,4 +24,7 @@ packed_again m h =
 pub read_again : (m : Streams) → HaveLayout m → AreReadAgain m
 read_again m h =
     let packed = form_of_all (entries m) in
-    packed_again m ((h.0, stored_in packed (entries m) refl h.1), ordered_in packed (entries m) refl (is_so _ (entries_sorted m)))
+    packed_again m (
+      (h.0, stored_in packed (entries m) refl h.1),
+      ordered_in packed (entries m) refl (is_so _ (entries_sorted m)),
+    )

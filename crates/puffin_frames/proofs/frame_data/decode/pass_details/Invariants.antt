@@ -6,4 +6,6 @@ use Rattle.puffin_threads.specs.Details.{Details}
 use Rattle.puffin_frames.proofs.frame_data.decode.pass_details.Given as goal
 
 abbrev pub invariant-details : goal.invariant-details
-invariant-details l = (before : List Details) × (with_front before (times_at detail_at (l.count - l.counter) l.cursor) ≡ times_at detail_at l.count l.initial.cursor)
+invariant-details l =
+    (before : List Details) × (with_front before (times_at detail_at (l.count - l.counter) l.cursor)
+    ≡ times_at detail_at l.count l.initial.cursor)

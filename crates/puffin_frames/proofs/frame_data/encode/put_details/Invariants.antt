@@ -5,4 +5,6 @@ use Rattle.puffin_frames.proofs.Appending.{Writes}
 use Rattle.puffin_frames.proofs.frame_data.encode.put_details.Given as goal
 
 abbrev pub invariant-details : goal.invariant-details
-invariant-details l = Writes detail_layout IsDetail l.initial.out.items l.out.items (shared_details (drop l.one-index l.details)) (shared_details l.details)
+invariant-details l =
+    Writes detail_layout IsDetail l.initial.out.items l.out.items (shared_details (drop l.one-index l.details))
+    (shared_details l.details)

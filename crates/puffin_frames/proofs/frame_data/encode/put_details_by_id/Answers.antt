@@ -8,4 +8,5 @@ use Rattle.puffin_frames.proofs.frame_data.encode.put_details_by_id.Goals as goa
 pub details-preserved : goal.details-preserved
 details-preserved c =
     let left = rest_more (λ (x : _). x.now) _ _ _ _ c.in-Some.is c.next.ensures.steps in
-    one_more detail_layout IsDetail _ _ _ _ _ _ (next_of _ _ _ _ _ _ _ (ap shared_details left) c.details.invariant) (rw c.deref.ensures at c.in_ok-put_detail.ensures.ok) (rw c.deref.ensures at c.in_ok-put_detail.ensures.fits)
+    one_more detail_layout IsDetail _ _ _ _ _ _ (next_of _ _ _ _ _ _ _ (ap shared_details left) c.details.invariant)
+    (rw c.deref.ensures at c.in_ok-put_detail.ensures.ok) (rw c.deref.ensures at c.in_ok-put_detail.ensures.fits)

@@ -12,4 +12,5 @@ returns-clause-ok c =
     let first = rw (c.block_of-stream.ensures.same, c.bytes.ensures) at c.in_ok-put_bytes.ensures.ok in
     let fourth = rw (to_z-of_z start) at c.in_ok-put_i64.ensures.ok in
     let fifth = rw (to_z-of_z stop) at c.put_i64-2.ensures.ok in
-    on_ok_weaker c.put_i64-2.result (six _ _ _ _ _ _ _ _ _ _ _ _ _ form first c.in_ok-put_u64.ensures.ok c.in_ok-put_u64-2.ensures.ok fourth) fifth
+    on_ok_weaker c.put_i64-2.result (six _ _ _ _ _ _ _ _ _ _ _ _ _ form first c.in_ok-put_u64.ensures.ok
+    c.in_ok-put_u64-2.ensures.ok fourth) fifth

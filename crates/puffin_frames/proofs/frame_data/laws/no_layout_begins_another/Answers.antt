@@ -10,10 +10,12 @@ pub returns-clause-threads : goal.returns-clause-threads
 returns-clause-threads c a b x y = begins_no_other IsThreadKey key_layout key_at thread_reader a b x y
 
 pub returns-clause-infos : goal.returns-clause-infos
-returns-clause-infos c packed a b x y = begins_no_other (AreStreamFacts packed) (facts_layout packed) (facts_at packed) (facts_reader packed) a b x y
+returns-clause-infos c packed a b x y =
+    begins_no_other (AreStreamFacts packed) (facts_layout packed) (facts_at packed) (facts_reader packed) a b x y
 
 pub returns-clause-streams : goal.returns-clause-streams
-returns-clause-streams c packed a b x y = begins_no_other (AreStreams packed) (streams_layout packed) (streams_at packed) (streams_reader packed) a b x y
+returns-clause-streams c packed a b x y =
+    begins_no_other (AreStreams packed) (streams_layout packed) (streams_at packed) (streams_reader packed) a b x y
 
 pub returns-clause-details : goal.returns-clause-details
 returns-clause-details c a b x y = begins_no_other AreDetails details_layout details_at details_reader a b x y

@@ -10,10 +10,12 @@ pub returns-clause-threads : goal.returns-clause-threads
 returns-clause-threads c b x r = reads_layouts IsThreadKey key_layout key_at thread_reader b x r
 
 pub returns-clause-infos : goal.returns-clause-infos
-returns-clause-infos c packed b x r = reads_layouts (AreStreamFacts packed) (facts_layout packed) (facts_at packed) (facts_reader packed) b x r
+returns-clause-infos c packed b x r =
+    reads_layouts (AreStreamFacts packed) (facts_layout packed) (facts_at packed) (facts_reader packed) b x r
 
 pub returns-clause-streams : goal.returns-clause-streams
-returns-clause-streams c packed b x r = reads_layouts (AreStreams packed) (streams_layout packed) (streams_at packed) (streams_reader packed) b x r
+returns-clause-streams c packed b x r =
+    reads_layouts (AreStreams packed) (streams_layout packed) (streams_at packed) (streams_reader packed) b x r
 
 pub returns-clause-details : goal.returns-clause-details
 returns-clause-details c b x r = reads_layouts AreDetails details_layout details_at details_reader b x r

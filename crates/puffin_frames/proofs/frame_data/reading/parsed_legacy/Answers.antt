@@ -26,11 +26,14 @@ returns-clause-decided c =
     let l : Legacy = record { meta = meta; streams = pairs_of es } in
     let frame = c.from_unpacked.result in
     let first : legacy_from c.args.bytes.now ≡ Ok l =
-    ap legacy_with_range c.in-Ok.ensures.given ∙ ap (λ (b : Bool). cond b (Ok l) (Err file.BadRange)) (sym c.if-not-is_valid_range.ensures.test) in
+    ap legacy_with_range c.in-Ok.ensures.given
+    ∙ ap (λ (b : Bool). cond b (Ok l) (Err file.BadRange)) (sym c.if-not-is_valid_range.ensures.test) in
     let streams : entries_if_any (holding_of frame).unpacked ≡ pairs_of es =
     ap (λ (h : Holding). entries_if_any h.unpacked) c.from_unpacked.ensures.held ∙ entries-listed es c.in-Ok.ensures.sorted in
     let same : legacy_of frame ≡ l =
-    ap (λ (m : FrameMeta). record { meta = m; streams = entries_if_any (holding_of frame).unpacked }) c.from_unpacked.ensures.meta ∙ ap (λ (s : List (ThreadKey × StreamFacts)). record { meta = meta; streams = s }) streams in
+    ap (λ (m : FrameMeta). record { meta = m; streams = entries_if_any (holding_of frame).unpacked })
+    c.from_unpacked.ensures.meta
+    ∙ ap (λ (s : List (ThreadKey × StreamFacts)). record { meta = meta; streams = s }) streams in
     first ∙ ap Ok (sym same)
 
 pub invariant_of-unpacked : goal.invariant_of-unpacked

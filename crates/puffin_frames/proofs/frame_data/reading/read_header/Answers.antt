@@ -9,7 +9,13 @@ returns-then-branch-lt4-clause-header g c =
     let buf = c.read_up_to.new.buf in
     let took = c.in_ok-read_up_to.ensures.took.1 in
     let short : length (take n buf) < 4 = omega (arith, length-take n buf, c.if-branch-lt4.true) in
-    record { taken = take n buf; consumed = took.consumed; none = short_end (take n buf) short; last = inr (took.fewer short) }
+    record {
+      taken = take n buf;
+      consumed = took.consumed;
+      none = short_end (take n buf) short;
+      last =
+          inr (took.fewer short);
+    }
 
 pub returns-then-read_u32-eq0-clause-header : goal.returns-then-read_u32-eq0-clause-header
 returns-then-read_u32-eq0-clause-header g c =

@@ -24,7 +24,8 @@ made version m s ds = record { meta = m; form = text_form version; kind = s.0; s
 -- what follows the meta, and what follows the streams
 after_meta : Version → FrameMeta → List ℕ → Result (PacketFields × List ℕ) FileError
 unfolding made
-after_meta version m bytes = streams_part_at version bytes >>= λ s. details_part_at version s.1 >>= λ d. Ok (made version m s.0 d.0, d.1)
+after_meta version m bytes =
+    streams_part_at version bytes >>= λ s. details_part_at version s.1 >>= λ d. Ok (made version m s.0 d.0, d.1)
 
 after_streams : Version → FrameMeta → Kind × List ℕ → List ℕ → Result (PacketFields × List ℕ) FileError
 after_streams version m s bytes = details_part_at version bytes >>= λ d. Ok (made version m s d.0, d.1)
@@ -59,12 +60,17 @@ returns-clause-part g c =
     let s : (Kind × List ℕ) = (c.in_ok-kind.kind, c.in_ok-kind.bytes.items) in
     let d = shared_details c.in_ok-scope_delta.scope_delta.items in
     let out : PacketFields = made version m s d in
-    let says : Packing → PacketFields = λ (p : Packing). record { meta = m; form = p.form; kind = p.kind; streams = p.bytes; details = d } in
-    let same : says (packed_as c.new.result) ≡ out = ap says c.new.ensures ∙ ap (λ (form : Form). record { meta = m; form = form; kind = s.0; streams = s.1; details = d }) c.text_form.ensures in
+    let says : Packing → PacketFields =
+    λ (p : Packing). record { meta = m; form = p.form; kind = p.kind; streams = p.bytes; details = d } in
+    let same : says (packed_as c.new.result) ≡ out =
+    ap says c.new.ensures
+    ∙ ap (λ (form : Form). record { meta = m; form = form; kind = s.0; streams = s.1; details = d })
+    c.text_form.ensures in
     let old = g.S.Source.remaining c.args.source.now in
     let now = g.S.Source.remaining c.read_details_part.new.source in
     subst (λ (said : PacketFields). FromDevice (λ (x : PacketFields). x) old now (Ok said) (packet_at version)) (sym same)
     (gives_on m out _ _ _ meta_part_at (after_meta version) c.in_ok-meta.ensures.part
     (gives_on s out _ _ _ (streams_part_at version) (after_streams version m) c.in_ok-kind.ensures.part
-    (gives_on d out _ _ _ (details_part_at version) (λ x bytes. Ok (made version m s x, bytes)) c.in_ok-scope_delta.ensures.part
+    (gives_on d out _ _ _ (details_part_at version)
+    (λ x bytes. Ok (made version m s x, bytes)) c.in_ok-scope_delta.ensures.part
     (given out _))))

@@ -9,4 +9,5 @@ returns-in_err-write_all-clause-err g c =
 
 pub returns-clause-err : goal.returns-clause-err
 returns-clause-err g c =
-    on_err_weaker c.write_all-2.result (λ h. beginning_after _ _ _ _ _ c.in_ok-write_all.ensures.ok h) c.write_all-2.ensures.err
+    on_err_weaker c.write_all-2.result (λ h. beginning_after _ _ _ _ _ c.in_ok-write_all.ensures.ok h)
+    c.write_all-2.ensures.err

@@ -8,7 +8,9 @@ pub returns-in_err-write_both-clause-written : goal.returns-in_err-write_both-cl
 returns-in_err-write_both-clause-written g c =
     let p = err_from_is_err_and c.from_residual-in_err-write_both.result c.from_residual-in_err-write_both.ensures.1 in
     let len : c.len-len.result ≡ length c.args.streams.now.bytes.items = search rules in
-    let h = rw (c.deref.ensures.value, c.deref-2.ensures.value, c.in_ok-head.ensures.ok, len) at c.in_err-write_both.ensures.err in
+    let h =
+    rw (c.deref.ensures.value, c.deref-2.ensures.value, c.in_ok-head.ensures.ok, len) at
+    c.in_err-write_both.ensures.err in
     record {
       ok = search rules;
       begun = rw p.1 (λ _. beginning_more _ _ _ _ h);
@@ -22,7 +24,9 @@ returns-in_err-write_both-clause-written g c =
 pub returns-clause-written : goal.returns-clause-written
 returns-clause-written g c =
     let len : c.len-len.result ≡ length c.args.streams.now.bytes.items = search rules in
-    let first = rw (c.deref.ensures.value, c.deref-2.ensures.value, c.in_ok-head.ensures.ok, len) at c.in_ok-write_both.ensures.ok in
+    let first =
+    rw (c.deref.ensures.value, c.deref-2.ensures.value, c.in_ok-head.ensures.ok, len) at
+    c.in_ok-write_both.ensures.ok in
     let second = rw c.to_le_bytes.ensures at c.write_both-2.ensures.err in
     let after = rw c.to_le_bytes.ensures at c.write_both-2.ensures.ok in
     record {

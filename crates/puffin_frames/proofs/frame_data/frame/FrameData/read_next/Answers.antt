@@ -10,14 +10,18 @@ pub returns-in_err-frame-clause-next : goal.returns-in_err-frame-clause-next
 returns-in_err-frame-clause-next g c =
     let p = err_from_is_err_and c.from_residual-in_err-frame.result c.from_residual-in_err-frame.ensures.1 in
     let h = rw c.in-Some.is at c.in_ok-header.ensures.header in
-    rw (p.1, p.2) (given_after_header (λ (f : FrameData). Some (stored_of f)) (Err c.in_err-frame.field-0.0) _ _ _ c.in-Some.header h.0 h.2 h.1 h.3 c.in_err-frame.ensures.part)
+    rw (p.1, p.2) (given_after_header (λ (f : FrameData). Some (stored_of f))
+    (Err c.in_err-frame.field-0.0) _ _ _ c.in-Some.header h.0 h.2 h.1 h.3 c.in_err-frame.ensures.part)
 
 pub returns-clause-next : goal.returns-clause-next
 returns-clause-next g c =
     let h = rw c.in-Some.is at c.in_ok-header.ensures.header in
-    given_after_header (λ (f : FrameData). Some (stored_of f)) (Ok c.in_ok-frame.frame) _ _ _ c.in-Some.header h.0 h.2 h.1 h.3 c.in_ok-frame.ensures.part
+    given_after_header (λ (f : FrameData). Some (stored_of f))
+    (Ok c.in_ok-frame.frame) _ _ _ c.in-Some.header h.0 h.2 h.1 h.3 c.in_ok-frame.ensures.part
 
 pub returns-clause-took : goal.returns-clause-took
 returns-clause-took g c =
     let h = rw c.in-Some.is at c.in_ok-header.ensures.header in
-    took_stored (λ (f : FrameData). stored_of f) c.in_ok-frame.frame _ _ (given_after_header (λ (f : FrameData). Some (stored_of f)) (Ok c.in_ok-frame.frame) _ _ _ c.in-Some.header h.0 h.2 h.1 h.3 c.in_ok-frame.ensures.part)
+    took_stored (λ (f : FrameData). stored_of f) c.in_ok-frame.frame _ _
+    (given_after_header (λ (f : FrameData). Some (stored_of f))
+    (Ok c.in_ok-frame.frame) _ _ _ c.in-Some.header h.0 h.2 h.1 h.3 c.in_ok-frame.ensures.part)

@@ -16,7 +16,9 @@ returns-in-Own-clause-written g c =
 
 pub returns-in-Shared-clause-written : goal.returns-in-Shared-clause-written
 returns-in-Shared-clause-written g c =
-    let h = rw (c.deref-in-Shared-2.ensures.value, c.in_ok-details.ensures.ok) at c.write_unpacked-in-Shared.ensures.written.begun in
+    let h =
+    rw (c.deref-in-Shared-2.ensures.value, c.in_ok-details.ensures.ok) at
+    c.write_unpacked-in-Shared.ensures.written.begun in
     let k = rw c.deref-in-Shared.ensures at h in
     record {
       ok = search rules;
