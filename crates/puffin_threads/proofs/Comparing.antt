@@ -21,7 +21,8 @@ details_cmp_total =
     then_total (on_total (λ (d : Details). d.id) (options_total nat_cmp_total))
     (then_total (on_total (λ (d : Details). d.scope_name) (options_total nat_list_cmp_total))
     (then_total (on_total (λ (d : Details). d.function_name) nat_list_cmp_total)
-    (then_total (on_total (λ (d : Details). d.file_path) nat_list_cmp_total) (on_total (λ (d : Details). d.line_nr) nat_cmp_total))))
+    (then_total (on_total (λ (d : Details). d.file_path) nat_list_cmp_total)
+    (on_total (λ (d : Details). d.line_nr) nat_cmp_total))))
 
 options_one : {A : Type 0} {R : A → A → Ordering} → IsAntisymmetric R → IsAntisymmetric (option_cmp R)
 options_one one None None e = refl
@@ -53,7 +54,9 @@ same_ids None (Some y) = refl
 same_ids (Some x) None = refl
 same_ids (Some x) (Some y) = unsigned_ties x y
 
-same_names : {Z : Type 0} (a b : Option (CowStr Z)) → option_eq (λ x y. pointwise nat_eq (cow_str_bytes x) (cow_str_bytes y)) a b ≡ is_eq (option_cmp (slice_cmp nat_cmp) (option_map cow_str_bytes a) (option_map cow_str_bytes b))
+same_names : {Z : Type 0} (a b : Option (CowStr Z)) →
+    option_eq (λ x y. pointwise nat_eq (cow_str_bytes x) (cow_str_bytes y)) a b
+    ≡ is_eq (option_cmp (slice_cmp nat_cmp) (option_map cow_str_bytes a) (option_map cow_str_bytes b))
 same_names None None = refl
 same_names None (Some y) = refl
 same_names (Some x) None = refl
@@ -65,7 +68,8 @@ and_then r s first later = λ i. first i && later i
 pub same_parts : (a b : ScopeDetails) → (option_eq nat_eq a.scope_id b.scope_id
     && (option_eq (λ x y. pointwise nat_eq (cow_str_bytes x) (cow_str_bytes y)) a.scope_name b.scope_name
     && (pointwise nat_eq (cow_str_bytes a.function_name) (cow_str_bytes b.function_name)
-    && (pointwise nat_eq (cow_str_bytes a.file_path) (cow_str_bytes b.file_path) && nat_eq a.line_nr b.line_nr)))) ≡ same_details (details_of a) (details_of b)
+    && (pointwise nat_eq (cow_str_bytes a.file_path) (cow_str_bytes b.file_path) && nat_eq a.line_nr b.line_nr))))
+    ≡ same_details (details_of a) (details_of b)
 same_parts a b =
     let x = details_of a in
     let y = details_of b in
@@ -74,7 +78,8 @@ same_parts a b =
     let function = slice_cmp nat_cmp x.function_name y.function_name in
     let name = option_cmp (slice_cmp nat_cmp) x.scope_name y.scope_name in
     let id = option_cmp nat_cmp x.id y.id in
-    let files = and_then file line (texts_ties x.file_path y.file_path) (unsigned_ties x.line_nr y.line_nr) ∙ both file line in
+    let files =
+    and_then file line (texts_ties x.file_path y.file_path) (unsigned_ties x.line_nr y.line_nr) ∙ both file line in
     let functions = and_then function _ (texts_ties x.function_name y.function_name) files ∙ both function _ in
     let names = and_then name _ (same_names a.scope_name b.scope_name) functions ∙ both name _ in
     and_then id (texts_cmp x y) (same_ids x.id y.id) names ∙ both id (texts_cmp x y)

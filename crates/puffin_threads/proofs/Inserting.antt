@@ -16,27 +16,43 @@ use Rattle.puffin_threads.proofs.lemmas.EntriesSeen.{get-seen, insert-seen, writ
 use Rattle.std.proofs.lemmas.Option.{same_Some, none-some}
 
 module _ {A : Type 0} where
-  pub get-by_ids : (es : List (ℕ × Arc ScopeDetails A)) (q : ℕ) → get (by_ids es) q ≡ option_map (λ d. details_of (arc_value d)) (lookup (is_at (nat_cmp q)) es)
+  pub get-by_ids : (es : List (ℕ × Arc ScopeDetails A)) (q : ℕ) →
+      get (by_ids es) q ≡ option_map (λ d. details_of (arc_value d)) (lookup (is_at (nat_cmp q)) es)
   get-by_ids es q = get-seen (λ k. k) (λ d. details_of (arc_value d)) nat_cmp nat_cmp_total es q
 
-  pub by_ids-insert : (es : List (ℕ × Arc ScopeDetails A)) (k : ℕ) (d : Arc ScopeDetails A) → by_ids (insert_entry nat_cmp es k d) ≡ insert (by_ids es) k (details_of (arc_value d))
-  by_ids-insert es k d = insert-seen (λ k. k) (λ d. details_of (arc_value d)) nat_cmp nat_cmp_total nat_cmp-IsAntisymmetric es k d
+  pub by_ids-insert : (es : List (ℕ × Arc ScopeDetails A)) (k : ℕ) (d : Arc ScopeDetails A) →
+      by_ids (insert_entry nat_cmp es k d) ≡ insert (by_ids es) k (details_of (arc_value d))
+  by_ids-insert es k d =
+      insert-seen (λ k. k) (λ d. details_of (arc_value d)) nat_cmp nat_cmp_total nat_cmp-IsAntisymmetric es k d
 
-  pub get-by_names : (es : List (String A × ℕ)) (q : List ℕ) → get (by_names es) q ≡ lookup (is_at (λ k. bytes_cmp q (string_bytes k))) es
-  get-by_names es q = get-seen (λ k. string_bytes k) (λ n. n) bytes_cmp nat_list_cmp_total es q ∙ same (lookup (is_at (λ k. bytes_cmp q (string_bytes k))) es)
+  pub get-by_names : (es : List (String A × ℕ)) (q : List ℕ) →
+      get (by_names es) q ≡ lookup (is_at (λ k. bytes_cmp q (string_bytes k))) es
+  get-by_names es q =
+      get-seen (λ k. string_bytes k) (λ n. n) bytes_cmp nat_list_cmp_total es q
+      ∙ same (lookup (is_at (λ k. bytes_cmp q (string_bytes k))) es)
     where
       same : (o : Option ℕ) → option_map (λ n. n) o ≡ o
       same None = refl
       same (Some n) = refl
 
-  pub by_names-insert : (es : List (String A × ℕ)) (k : String A) (n : ℕ) → by_names (insert_entry (λ a b. bytes_cmp (string_bytes a) (string_bytes b)) es k n) ≡ insert (by_names es) (string_bytes k) n
-  by_names-insert es k n = insert-seen (λ k. string_bytes k) (λ n. n) bytes_cmp nat_list_cmp_total (slice_cmp-IsAntisymmetric nat_cmp-IsAntisymmetric) es k n
+  pub by_names-insert : (es : List (String A × ℕ)) (k : String A) (n : ℕ) →
+      by_names (insert_entry (λ a b. bytes_cmp (string_bytes a) (string_bytes b)) es k n)
+      ≡ insert (by_names es) (string_bytes k) n
+  by_names-insert es k n =
+      insert-seen (λ k. string_bytes k) (λ n. n) bytes_cmp nat_list_cmp_total
+      (slice_cmp-IsAntisymmetric nat_cmp-IsAntisymmetric) es k n
 
-  pub by_names-write : (es : List (String A × ℕ)) (name : List ℕ) (old n : ℕ) → lookup (is_at (λ k. bytes_cmp name (string_bytes k))) es ≡ Some old → by_names (set_value (is_at (λ k. bytes_cmp name (string_bytes k))) es n) ≡ insert (by_names es) name n
-  by_names-write es name old n found = write-seen (λ k. string_bytes k) (λ n. n) bytes_cmp nat_list_cmp_total (slice_cmp-IsAntisymmetric nat_cmp-IsAntisymmetric) es name old n found
+  pub by_names-write : (es : List (String A × ℕ)) (name : List ℕ) (old n : ℕ) →
+      lookup (is_at (λ k. bytes_cmp name (string_bytes k))) es ≡ Some old →
+      by_names (set_value (is_at (λ k. bytes_cmp name (string_bytes k))) es n) ≡ insert (by_names es) name n
+  by_names-write es name old n found =
+      write-seen (λ k. string_bytes k) (λ n. n) bytes_cmp nat_list_cmp_total
+      (slice_cmp-IsAntisymmetric nat_cmp-IsAntisymmetric) es name old n found
 
   -- an id that is taken out again, where there was none
-  undone_test : (b : Bool) (q k : ℕ) (d : Arc ScopeDetails A) (o : Option (Arc ScopeDetails A)) → (b ≡ true → o ≡ None) → cond b None (cond b (Some d) o) ≡ o
+  undone_test : (b : Bool) (q k : ℕ) (d : Arc ScopeDetails A) (o : Option (Arc ScopeDetails A)) →
+      (b ≡ true → o ≡ None) →
+      cond b None (cond b (Some d) o) ≡ o
   undone_test true q k d o none = sym (none refl)
   undone_test false q k d o none = refl
 
@@ -45,14 +61,28 @@ module _ {A : Type 0} where
 same_ids : (q id : ℕ) → eq_by_cmp nat_cmp q id ≡ true → q ≡ id
 same_ids q id e = nat_cmp-IsAntisymmetric q id ((Equal-is (nat_cmp q id)).0 e)
 
-own_at : (b : Bool) (q id : ℕ) (d x : Details) (o : Option Details) → (b ≡ true → q ≡ id) → d.id ≡ Some id → (o ≡ Some x → x.id ≡ Some q) → cond b (Some d) o ≡ Some x → x.id ≡ Some q
-own_at true q id d x o same is later found = ap (λ (y : Details). y.id) (sym (same_Some d x found)) ∙ is ∙ ap Some (sym (same refl))
+own_at : (b : Bool) (q id : ℕ) (d x : Details) (o : Option Details) →
+    (b ≡ true → q ≡ id) → d.id ≡ Some id → (o ≡ Some x → x.id ≡ Some q) → cond b (Some d) o ≡ Some x →
+    x.id ≡ Some q
+own_at true q id d x o same is later found =
+    ap (λ (y : Details). y.id) (sym (same_Some d x found)) ∙ is ∙ ap Some (sym (same refl))
 own_at false q id d x o same is later found = later found
 
-pub own_ids_put : (m : FinMap nat_cmp Details) (id : ℕ) (d : Details) → ((q : ℕ) (x : Details) → get m q ≡ Some x → x.id ≡ Some q) → d.id ≡ Some id → (q : ℕ) (x : Details) → get (insert m id d) q ≡ Some x → x.id ≡ Some q
-own_ids_put m id d own is q x found = own_at (eq_by_cmp nat_cmp q id) q id d x (get m q) (same_ids q id) is (own q x) (sym (get-insert nat_cmp_total m id d q) ∙ found)
+pub own_ids_put :
+    (m : FinMap nat_cmp Details) (id : ℕ) (d : Details) → ((q : ℕ) (x : Details) → get m q ≡ Some x → x.id ≡ Some q) →
+    d.id ≡ Some id →
+    (q : ℕ) (x : Details) →
+    get (insert m id d) q ≡ Some x →
+    x.id ≡ Some q
+own_ids_put m id d own is q x found =
+    own_at (eq_by_cmp nat_cmp q id) q id d x (get m q) (same_ids q id) is (own q x)
+    (sym (get-insert nat_cmp_total m id d q) ∙ found)
 
-own_or : (o : Option Details) (c : Collection) (d : Details) (id : ℕ) → d.id ≡ Some id → KeepsOwnIds c → (q : ℕ) (x : Details) → get (kept_or o c.by_id id d) q ≡ Some x → x.id ≡ Some q
+own_or : (o : Option Details) (c : Collection) (d : Details) (id : ℕ) →
+    d.id ≡ Some id → KeepsOwnIds c →
+    (q : ℕ) (x : Details) →
+    get (kept_or o c.by_id id d) q ≡ Some x →
+    x.id ≡ Some q
 own_or (Some kept) c d id is own q x found = own q x found
 own_or None c d id is own q x found = own_ids_put c.by_id id d own is q x found
 
@@ -68,26 +98,40 @@ own_ids_inserted c d own = own_ids_at c d d.id refl own
 
 -- ---- what an insertion leaves
 
-pub kept_inserted : (c : Collection) (d : Details) (id : ℕ) (old : Details) (names : FinMap bytes_cmp ℕ) → d.id ≡ Some id → get c.by_id id ≡ Some old → names ≡ insert c.by_name (name_of d) id → ◌≡◌ {A = Collection} (record { by_id = c.by_id; by_name = names }) (with_details c d)
-kept_inserted c d id old names is there named = (λ i. record { by_id = kept_or (sym there i) c.by_id id d; by_name = named i }) ∙ ap (with_details_under c d) (sym is)
+pub kept_inserted : (c : Collection) (d : Details) (id : ℕ) (old : Details) (names : FinMap bytes_cmp ℕ) →
+    d.id ≡ Some id → get c.by_id id ≡ Some old → names ≡ insert c.by_name (name_of d) id →
+    ◌≡◌ {A = Collection} (record { by_id = c.by_id; by_name = names }) (with_details c d)
+kept_inserted c d id old names is there named =
+    (λ i. record { by_id = kept_or (sym there i) c.by_id id d; by_name = named i })
+    ∙ ap (with_details_under c d) (sym is)
 
-pub fresh_inserted : (c : Collection) (d : Details) (id : ℕ) (ids : FinMap nat_cmp Details) (names : FinMap bytes_cmp ℕ) → d.id ≡ Some id → get c.by_id id ≡ None → ids ≡ insert c.by_id id d → names ≡ insert c.by_name (name_of d) id
-    → ◌≡◌ {A = Collection} (record { by_id = ids; by_name = names }) (with_details c d)
+pub fresh_inserted : (c : Collection) (d : Details) (id : ℕ) (ids : FinMap nat_cmp Details) (names : FinMap bytes_cmp ℕ) →
+    d.id ≡ Some id → get c.by_id id ≡ None → ids ≡ insert c.by_id id d → names ≡ insert c.by_name (name_of d) id →
+    ◌≡◌ {A = Collection} (record { by_id = ids; by_name = names }) (with_details c d)
 fresh_inserted c d id ids names is none put named =
     let fresh : ids ≡ kept_or (get c.by_id id) c.by_id id d = put ∙ ap (λ o. kept_or o c.by_id id d) (sym none) in
     (λ i. record { by_id = fresh i; by_name = named i }) ∙ ap (with_details_under c d) (sym is)
 
-pub kept_is : (c : Collection) (d : Details) (id : ℕ) (kept : Details) → d.id ≡ Some id → get c.by_id id ≡ Some kept → kept_for c d ≡ Some kept
+pub kept_is : (c : Collection) (d : Details) (id : ℕ) (kept : Details) →
+    d.id ≡ Some id → get c.by_id id ≡ Some kept →
+    kept_for c d ≡ Some kept
 kept_is c d id kept is there = ap (option_and_then (λ id. get c.by_id id)) is ∙ there
 
 pub get-put : (m : FinMap nat_cmp Details) (id : ℕ) (d : Details) → get (insert m id d) id ≡ Some d
-get-put m id d = get-insert nat_cmp_total m id d id ∙ ap (λ b. cond b (Some d) (get m id)) ((eq_by_cmp_equiv nat_cmp_total).refl id)
+get-put m id d =
+    get-insert nat_cmp_total m id d id ∙ ap (λ b. cond b (Some d) (get m id)) ((eq_by_cmp_equiv nat_cmp_total).refl id)
 
 -- an id that was put where there was none, and was taken out again
 module _ {A : Type 0} where
-  pub undone : (before put after : BTreeMap ℕ (Arc ScopeDetails A)) (id : ℕ) (d : Arc ScopeDetails A) → tree.get nat_cmp before id ≡ None → tree.Updates nat_cmp before put id (Some d) → tree.Updates nat_cmp put after id None → by_ids after.entries ≡ by_ids before.entries
+  pub undone : (before put after : BTreeMap ℕ (Arc ScopeDetails A)) (id : ℕ) (d : Arc ScopeDetails A) →
+      tree.get nat_cmp before id ≡ None → tree.Updates nat_cmp before put id (Some d) →
+      tree.Updates nat_cmp put after id None →
+      by_ids after.entries ≡ by_ids before.entries
   undone before put after id d none puts takes =
       same_map nat_cmp_total nat_cmp-IsAntisymmetric (by_ids after.entries) (by_ids before.entries)
       (λ q. get-by_ids after.entries q
-      ∙ ap (option_map (λ x. details_of (arc_value x))) (takes.0 q ∙ ap (cond (is_at (nat_cmp id) q) None) (puts.0 q) ∙ undone_test (is_at (nat_cmp id) q) q id d (tree.get nat_cmp before q) (λ same. ap (tree.get nat_cmp before) (sym (same_ids id q same)) ∙ none))
+      ∙ ap (option_map (λ x. details_of (arc_value x)))
+      (takes.0 q ∙ ap (cond (is_at (nat_cmp id) q) None) (puts.0 q)
+      ∙ undone_test (is_at (nat_cmp id) q) q id d (tree.get nat_cmp before q)
+      (λ same. ap (tree.get nat_cmp before) (sym (same_ids id q same)) ∙ none))
       ∙ sym (get-by_ids before.entries q))

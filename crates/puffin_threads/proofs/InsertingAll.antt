@@ -16,25 +16,35 @@ use Rattle.puffin_threads.proofs.lemmas.Ids.{none_lacks}
 -- ---- ids
 
 -- the test of shared details, and that of what they say
-any_shared : {A : Type 0} (ds : List (Arc ScopeDetails A)) → list_any (λ d. lacks_id (details_of (arc_value d))) ds ≡ list_any lacks_id (shared_details ds)
+any_shared : {A : Type 0} (ds : List (Arc ScopeDetails A)) →
+    list_any (λ d. lacks_id (details_of (arc_value d))) ds ≡ list_any lacks_id (shared_details ds)
 any_shared [] = refl
 any_shared (d ∷ ds) = ap (λ (b : Bool). lacks_id (details_of (arc_value d)) || b) (any_shared ds)
 
 -- what a test of shared details tells of what they say
-pub tested : {A : Type 0} (b : Bool) (ds : List (Arc ScopeDetails A)) → b ≡ list_any (λ d. lacks_id (details_of (arc_value d))) ds → list_any lacks_id (shared_details ds) ≡ b
+pub tested : {A : Type 0} (b : Bool) (ds : List (Arc ScopeDetails A)) →
+    b ≡ list_any (λ d. lacks_id (details_of (arc_value d))) ds →
+    list_any lacks_id (shared_details ds) ≡ b
 tested b ds is = sym (is ∙ any_shared ds)
 
 -- the details at a place of a list none of which lacks its id, and a copy of them, have one
-pub id_at : {A : Type 0} (ds : List (Arc ScopeDetails A)) (i : ℕ) (item copy : Arc ScopeDetails A) → list_any lacks_id (shared_details ds) ≡ false → i < length ds → item ≡ get_or ds i item → arc_value copy ≡ arc_value item → IsSome (details_of (arc_value copy)).id
+pub id_at : {A : Type 0} (ds : List (Arc ScopeDetails A)) (i : ℕ) (item copy : Arc ScopeDetails A) →
+    list_any lacks_id (shared_details ds) ≡ false → i < length ds → item ≡ get_or ds i item →
+    arc_value copy ≡ arc_value item →
+    IsSome (details_of (arc_value copy)).id
 id_at ds i item copy none lt is same =
     let f : Arc ScopeDetails _ → Details = λ d. details_of (arc_value d) in
     let all : AllHaveIds (shared_details ds) = none_lacks (shared_details ds) none in
     subst (λ (v : ScopeDetails). IsSome (details_of v).id) (sym same)
-    (subst (λ (e : Details). IsSome e.id) (get_or-map f ds i item (f item) lt ∙ ap f (sym is)) (All-get_or (λ e. IsSome e.id) (shared_details ds) i (f item) (omega (arith, lt, length-map ds f)) all))
+    (subst (λ (e : Details). IsSome e.id) (get_or-map f ds i item (f item) lt ∙ ap f (sym is))
+    (All-get_or (λ e. IsSome e.id) (shared_details ds) i (f item) (omega (arith, lt, length-map ds f)) all))
 
 -- the only refusal of details that have an id
-pub memory_alone : {T : Type 0} (r : Result T Error) (e : Error) (d : Details) → IsSome d.id → r ≡ Err e → ((r ≡ Err MissingId) ↔ (d.id ≡ None)) → (e ≡ MissingId) ⊎ (e ≡ Memory) → e ≡ Memory
-memory_alone r e d some is missing (inl none) = absurd (no_id (subst (λ (o : Option ℕ). IsSome o) (missing.0 (is ∙ ap Err none)) some))
+pub memory_alone : {T : Type 0} (r : Result T Error) (e : Error) (d : Details) →
+    IsSome d.id → r ≡ Err e → ((r ≡ Err MissingId) ↔ (d.id ≡ None)) → (e ≡ MissingId) ⊎ (e ≡ Memory) →
+    e ≡ Memory
+memory_alone r e d some is missing (inl none) =
+    absurd (no_id (subst (λ (o : Option ℕ). IsSome o) (missing.0 (is ∙ ap Err none)) some))
   where
     no_id : IsSome {T = ℕ} None → ⊥
     no_id e = cc
@@ -43,9 +53,15 @@ memory_alone r e d some is missing (inr memory) = memory
 -- ---- lists of details
 
 beginning : {A : Type 0} (ds : List (Arc ScopeDetails A)) (i : ℕ) → IsPrefix (shared_details (take i ds)) (shared_details ds)
-beginning ds i = (shared_details (drop i ds), ap shared_details (sym (take-append-drop i ds)) ∙ map-append (λ d. details_of (arc_value d)) (take i ds) (drop i ds))
+beginning ds i = (
+  shared_details (drop i ds),
+  ap shared_details (sym (take-append-drop i ds))
+      ∙ map-append (λ d. details_of (arc_value d)) (take i ds) (drop i ds),
+)
 
 -- what is inserted so far is a prefix of all
-pub learnt_so_far : {A T E : Type 0} (r : Result T E) (ds : List (Arc ScopeDetails A)) (i : ℕ) (old new : Collection) → new ≡ with_all_details old (shared_details (take i ds)) → OnErr r (LearnsSome old (shared_details ds) new)
+pub learnt_so_far : {A T E : Type 0} (r : Result T E) (ds : List (Arc ScopeDetails A)) (i : ℕ) (old new : Collection) →
+    new ≡ with_all_details old (shared_details (take i ds)) →
+    OnErr r (LearnsSome old (shared_details ds) new)
 learnt_so_far (Ok x) ds i old new is = tt
 learnt_so_far (Err e) ds i old new is = (shared_details (take i ds), beginning ds i, is)

@@ -5,8 +5,11 @@ use Rattle.puffin_data.proofs.lemmas.Cuts.{most_of_one_byte}
 use Rattle.puffin_threads.specs.inner.Supplied.{IsReady, IsSupplied, HasCopy, Prepares}
 use Rattle.puffin_threads.specs.declared.thread_profiler.supply.Supply.{Supply}
 
-pub prepares_short : (old new : Supply) (name : String Global) (stream : StreamState) (num_open : ℕ) (text : List ℕ) (ready : ℕ)
-    → 22 * num_open ≤ length stream.bytes → IsReady ready stream → length stream.bytes < ready → length text ≤ 127 → HasCopy old.copy new.copy name → IsSupplied new stream → Prepares old new name stream stream num_open text (Ok tt)
+pub prepares_short :
+    (old new : Supply) (name : String Global) (stream : StreamState) (num_open : ℕ) (text : List ℕ) (ready : ℕ) →
+    22 * num_open ≤ length stream.bytes → IsReady ready stream → length stream.bytes < ready → length text ≤ 127 →
+    HasCopy old.copy new.copy name → IsSupplied new stream →
+    Prepares old new name stream stream num_open text (Ok tt)
 prepares_short old new name stream num_open text ready few is shorter small has supplied = record {
   enough = omega (arith, few, is, shorter, most_of_one_byte stream.form text small);
   copied = has;

@@ -5,6 +5,7 @@ use Rattle.puffin_data.specs.declared.data.form.Form.TheVariants.{Short, Long}
 use Rattle.puffin_frames.specs.declared.frame_data.version.Version.{Version}
 use Rattle.puffin_frames.specs.declared.frame_data.version.Version.TheVariants.{Pfd2, Pfd3, Pfd4, PfdL}
 
+-- the letters and digits of a packet's front, as bytes
 abbrev pub letter_p : ℕ
 letter_p = 80
 
@@ -32,6 +33,7 @@ digit_4 = 52
 abbrev pub letter_l : ℕ
 letter_l = 76
 
+-- the letter after `PFD`
 abbrev pub last_letter : Version → ℕ
 last_letter Pfd2 = digit_2
 last_letter Pfd3 = digit_3
@@ -77,7 +79,7 @@ abbrev pub for_form : Form → Version
 for_form Short = Pfd4
 for_form Long = PfdL
 
--- a header begins with `PFD`
+-- whether a header begins with `PFD`
 abbrev pub is_packet : List ℕ → Bool
 is_packet header =
     (slice_index header 0 == letter_p) && (slice_index header 1 == letter_f) && (

@@ -13,7 +13,9 @@ use Rattle.std.specs.FinMap.{IsAntisymmetric, nat_cmp-IsAntisymmetric, int_cmp-I
 use Rattle.puffin_threads.specs.Thread.ThreadKey.{ThreadKey, key_of, key_cmp, thread_cmp, has_same_key}
 
 pub key_cmp_total : IsTotalOrder key_cmp
-key_cmp_total = then_total (on_total (λ (i : ThreadKey). i.start) (options_total int_cmp_total)) (on_total (λ (i : ThreadKey). i.name) nat_list_cmp_total)
+key_cmp_total =
+    then_total (on_total (λ (i : ThreadKey). i.start) (options_total int_cmp_total))
+    (on_total (λ (i : ThreadKey). i.name) nat_list_cmp_total)
 
 pub ties : (r s : Ordering) → ordering_then r s ≡ Equal → (r ≡ Equal) × (s ≡ Equal)
 ties Less s e = cc

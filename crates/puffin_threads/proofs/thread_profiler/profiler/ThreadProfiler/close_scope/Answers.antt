@@ -9,4 +9,9 @@ pub finish-requires : goal.finish-requires
 finish-requires g c =
     let thread = c.args.self.now.state in
     let same = ap (λ (t : Thread). open_after 0 t.word) c.time_of_end.ensures.thread in
-    omega (arith, same, length-open_offsets thread.form thread.word, slice_get_within (offsets_of thread) 0 c.args.offset c.in_ok-now_ns.ensures.innermost.innermost)
+    omega (
+      arith,
+      same,
+      length-open_offsets thread.form thread.word,
+      slice_get_within (offsets_of thread) 0 c.args.offset c.in_ok-now_ns.ensures.innermost.innermost,
+    )

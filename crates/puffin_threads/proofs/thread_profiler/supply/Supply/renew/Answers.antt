@@ -6,4 +6,11 @@ pub returns-then-len-self : goal.returns-then-len-self
 returns-then-len-self c =
     let supply = c.args.self.now in
     let is = c.requires.supplied.limit (omega (arith, c.if-len-self.true)) in
-    prepares_short supply _ c.args.name.now c.args.stream.now c.args.num_open c.args.text.now supply.limit c.requires.few is (omega (arith, c.len-len.ensures, c.if-len-self.true)) c.if-text-le-SHORT_TEXT.true c.in_ok-keep_copy.ensures.ok (record { ready = λ _. (is, copy_there supply.copy c.keep_copy.new.copy c.args.name.now c.in_ok-keep_copy.ensures.ok); limit = λ _. is })
+    prepares_short supply _ c.args.name.now c.args.stream.now c.args.num_open c.args.text.now supply.limit
+    c.requires.few is (omega (arith, c.len-len.ensures, c.if-len-self.true)) c.if-text-le-SHORT_TEXT.true
+    c.in_ok-keep_copy.ensures.ok (record {
+      ready =
+          λ _. (is, copy_there supply.copy c.keep_copy.new.copy c.args.name.now c.in_ok-keep_copy.ensures.ok);
+      limit =
+          λ _. is;
+    })

@@ -12,8 +12,23 @@ pub invariant_of-self : goal.invariant_of-self
 invariant_of-self g =
     let h = g.self.invariant in
     let none = ap (λ (t : Thread). open_after 0 t.word) g.self.view_is ∙ g.requires in
-    cleared_in _ h.latest g.clear.ensures.honest (none_open_in g.self.inside h none) (none_innermost g.self.inside h (none_open_in g.self.inside h none)) (stays_supplied g.self.inside.supply g.self.inside.info.stream _ (omega (arith, ap (λ (i : StreamInfo). length i.stream.bytes + i.stream.room) g.complete.ensures.info, g.clear.ensures.room)) h.supplied) h.spare
+    cleared_in _ h.latest g.clear.ensures.honest (none_open_in g.self.inside h none)
+    (none_innermost g.self.inside h (none_open_in g.self.inside h none))
+    (stays_supplied g.self.inside.supply g.self.inside.info.stream _
+    (omega (
+      arith,
+      ap (λ (i : StreamInfo). length i.stream.bytes + i.stream.room) g.complete.ensures.info,
+      g.clear.ensures.room,
+    )) h.supplied) h.spare
 
 pub returns : goal.returns
 returns g =
-    same_thread _ _ (ap (λ (t : Thread). t.name) g.self.view_is) (g.clear.ensures.form ∙ ap (λ (i : StreamInfo). i.stream.form) g.complete.ensures.info ∙ ap (λ (t : Thread). t.form) g.self.view_is) (ap (option_or g.complete.new.first) (ap first_open (none_in g.clear.new.self g.clear.ensures.honest)) ∙ or_none g.complete.new.first ∙ g.complete.ensures.first ∙ first_in g.self.inside g.self.invariant ∙ ap (λ (t : Thread). t.first_start) g.self.view_is) (ap (λ (t : Thread). t.latest) g.self.view_is) (none_in g.clear.new.self g.clear.ensures.honest) (ap (λ (t : Thread). t.details) g.self.view_is)
+    same_thread _ _ (ap (λ (t : Thread). t.name) g.self.view_is)
+    (g.clear.ensures.form ∙ ap (λ (i : StreamInfo). i.stream.form) g.complete.ensures.info
+    ∙ ap (λ (t : Thread). t.form) g.self.view_is)
+    (ap (option_or g.complete.new.first) (ap first_open (none_in g.clear.new.self g.clear.ensures.honest))
+    ∙ or_none g.complete.new.first
+    ∙ g.complete.ensures.first
+    ∙ first_in g.self.inside g.self.invariant
+    ∙ ap (λ (t : Thread). t.first_start) g.self.view_is) (ap (λ (t : Thread). t.latest) g.self.view_is)
+    (none_in g.clear.new.self g.clear.ensures.honest) (ap (λ (t : Thread). t.details) g.self.view_is)

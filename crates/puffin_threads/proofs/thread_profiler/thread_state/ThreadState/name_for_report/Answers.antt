@@ -18,6 +18,8 @@ invariant_of-self-2 c =
       innermost = h.innermost;
       room = h.room;
       has_spare = λ _. none_open_in c.self.inside h (ap (λ (t : Thread). open_after 0 t.word) c.self.view_is ∙ c.requires);
-      supplied = subst (λ (x : Supply). IsSupplied x c.self.inside.info.stream) (sym c.take_copy.ensures.left) (none_supplied c.self.inside.supply c.self.inside.info.stream h.supplied);
+      supplied =
+          subst (λ (x : Supply). IsSupplied x c.self.inside.info.stream) (sym c.take_copy.ensures.left)
+          (none_supplied c.self.inside.supply c.self.inside.info.stream h.supplied);
       spare = λ name is. cc (ap (λ (x : Supply). option_map (λ s. string_bytes s) x.copy) c.take_copy.ensures.left, is);
     }

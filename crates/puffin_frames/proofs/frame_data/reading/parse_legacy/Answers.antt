@@ -17,7 +17,7 @@ use Rattle.puffin_frames.proofs.Listed.{entries-listed}
 use Rattle.puffin_frames.proofs.Structs.{legacy_reader}
 use Rattle.puffin_frames.proofs.Layouts.{stored_plainly}
 use Rattle.puffin_frames.proofs.lemmas.PackedAgain.{packed_again}
-use Rattle.puffin_frames.proofs.frame_data.reading.parsed_legacy.Goals as goal
+use Rattle.puffin_frames.proofs.frame_data.reading.parse_legacy.Goals as goal
 
 pub returns-clause-decided : goal.returns-clause-decided
 returns-clause-decided c =

@@ -10,7 +10,7 @@ use Rattle.puffin_frames.specs.inner.Pairs.{pairs_of}
 use Rattle.puffin_frames.proofs.Layouts.{all_laid_out}
 use Rattle.puffin_frames.proofs.lemmas.PackedAgain.{read_again}
 use Rattle.puffin_frames.proofs.Sharing.{one_more}
-use Rattle.puffin_frames.proofs.frame_data.thread_streams.shared.Goals as goal
+use Rattle.puffin_frames.proofs.frame_data.thread_streams.share_streams.Goals as goal
 
 pub loop-thread-preserved-in_ok-_before : goal.loop-thread-preserved-in_ok-_before
 loop-thread-preserved-in_ok-_before c =
