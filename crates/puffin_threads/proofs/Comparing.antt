@@ -65,10 +65,11 @@ same_names (Some x) (Some y) = texts_ties (cow_str_bytes x) (cow_str_bytes y)
 and_then : {p q : Bool} (r s : Ordering) → p ≡ is_eq r → q ≡ is_eq s → (p && q) ≡ (is_eq r && is_eq s)
 and_then r s first later = λ i. first i && later i
 
-pub same_parts : (a b : ScopeDetails) → (option_eq nat_eq a.scope_id b.scope_id
-    && (option_eq (λ x y. pointwise nat_eq (cow_str_bytes x) (cow_str_bytes y)) a.scope_name b.scope_name
-    && (pointwise nat_eq (cow_str_bytes a.function_name) (cow_str_bytes b.function_name)
-    && (pointwise nat_eq (cow_str_bytes a.file_path) (cow_str_bytes b.file_path) && nat_eq a.line_nr b.line_nr))))
+pub same_parts : (a b : ScopeDetails) →
+    (option_eq nat_eq a.scope_id b.scope_id &&
+    (option_eq (λ x y. pointwise nat_eq (cow_str_bytes x) (cow_str_bytes y)) a.scope_name b.scope_name &&
+    (pointwise nat_eq (cow_str_bytes a.function_name) (cow_str_bytes b.function_name) &&
+    (pointwise nat_eq (cow_str_bytes a.file_path) (cow_str_bytes b.file_path) && nat_eq a.line_nr b.line_nr))))
     ≡ same_details (details_of a) (details_of b)
 same_parts a b =
     let x = details_of a in

@@ -61,65 +61,73 @@ module _ {A : Type 0} where
 same_ids : (q id : ℕ) → eq_by_cmp nat_cmp q id ≡ true → q ≡ id
 same_ids q id e = nat_cmp-IsAntisymmetric q id ((Equal-is (nat_cmp q id)).0 e)
 
-own_at : (b : Bool) (q id : ℕ) (d x : Details) (o : Option Details) →
-    (b ≡ true → q ≡ id) → d.id ≡ Some id → (o ≡ Some x → x.id ≡ Some q) → cond b (Some d) o ≡ Some x →
+own_at : (b : Bool) (q id : ℕ) (details x : Details) (o : Option Details) →
+    (b ≡ true → q ≡ id) → details.id ≡ Some id → (o ≡ Some x → x.id ≡ Some q) → cond b (Some details) o ≡ Some x →
     x.id ≡ Some q
-own_at true q id d x o same is later found =
-    ap (λ (y : Details). y.id) (sym (same_Some d x found)) ∙ is ∙ ap Some (sym (same refl))
-own_at false q id d x o same is later found = later found
+own_at true q id details x o same is later found =
+    ap (λ (y : Details). y.id) (sym (same_Some details x found)) ∙ is ∙ ap Some (sym (same refl))
+own_at false q id details x o same is later found = later found
 
-pub own_ids_put :
-    (m : FinMap nat_cmp Details) (id : ℕ) (d : Details) → ((q : ℕ) (x : Details) → get m q ≡ Some x → x.id ≡ Some q) →
-    d.id ≡ Some id →
+pub own_ids_put : (m : FinMap nat_cmp Details) (id : ℕ) (details : Details) →
+    ((q : ℕ) (x : Details) → get m q ≡ Some x → x.id ≡ Some q) →
+    details.id ≡ Some id →
     (q : ℕ) (x : Details) →
-    get (insert m id d) q ≡ Some x →
+    get (insert m id details) q ≡ Some x →
     x.id ≡ Some q
-own_ids_put m id d own is q x found =
-    own_at (eq_by_cmp nat_cmp q id) q id d x (get m q) (same_ids q id) is (own q x)
-    (sym (get-insert nat_cmp_total m id d q) ∙ found)
+own_ids_put m id details own is q x found =
+    own_at (eq_by_cmp nat_cmp q id) q id details x (get m q) (same_ids q id) is (own q x)
+    (sym (get-insert nat_cmp_total m id details q) ∙ found)
 
-own_or : (o : Option Details) (c : Collection) (d : Details) (id : ℕ) →
-    d.id ≡ Some id → KeepsOwnIds c →
+own_or : (o : Option Details) (collection : Collection) (details : Details) (id : ℕ) →
+    details.id ≡ Some id → KeepsOwnIds collection →
     (q : ℕ) (x : Details) →
-    get (kept_or o c.by_id id d) q ≡ Some x →
+    get (kept_or o collection.by_id id details) q ≡ Some x →
     x.id ≡ Some q
-own_or (Some kept) c d id is own q x found = own q x found
-own_or None c d id is own q x found = own_ids_put c.by_id id d own is q x found
+own_or (Some kept) collection details id is own q x found = own q x found
+own_or None collection details id is own q x found = own_ids_put collection.by_id id details own is q x found
 
-own_ids_at : (c : Collection) (d : Details) (o : Option ℕ) → d.id ≡ o → KeepsOwnIds c → KeepsOwnIds (with_details_under c d o)
-own_ids_at c d None is own = own
-own_ids_at c d (Some id) is own = own_or (get c.by_id id) c d id is own
+own_ids_at : (collection : Collection) (details : Details) (o : Option ℕ) →
+    details.id ≡ o → KeepsOwnIds collection →
+    KeepsOwnIds (with_details_under collection details o)
+own_ids_at collection details None is own = own
+own_ids_at collection details (Some id) is own = own_or (get collection.by_id id) collection details id is own
 
 pub own_ids_none : KeepsOwnIds no_details
 own_ids_none id d found = absurd (none-some d (sym (get-empty nat_cmp id) ∙ found))
 
-pub own_ids_inserted : (c : Collection) (d : Details) → KeepsOwnIds c → KeepsOwnIds (with_details c d)
-own_ids_inserted c d own = own_ids_at c d d.id refl own
+pub own_ids_inserted : (collection : Collection) (details : Details) →
+    KeepsOwnIds collection →
+    KeepsOwnIds (with_details collection details)
+own_ids_inserted collection details own = own_ids_at collection details details.id refl own
 
 -- ---- what an insertion leaves
 
-pub kept_inserted : (c : Collection) (d : Details) (id : ℕ) (old : Details) (names : FinMap bytes_cmp ℕ) →
-    d.id ≡ Some id → get c.by_id id ≡ Some old → names ≡ insert c.by_name (name_of d) id →
-    ◌≡◌ {A = Collection} (record { by_id = c.by_id; by_name = names }) (with_details c d)
-kept_inserted c d id old names is there named =
-    (λ i. record { by_id = kept_or (sym there i) c.by_id id d; by_name = named i })
-    ∙ ap (with_details_under c d) (sym is)
+pub kept_inserted : (collection : Collection) (details : Details) (id : ℕ) (old : Details) (names : FinMap bytes_cmp ℕ) →
+    details.id ≡ Some id → get collection.by_id id ≡ Some old → names ≡ insert collection.by_name (name_of details) id →
+    ◌≡◌ {A = Collection} (record { by_id = collection.by_id; by_name = names }) (with_details collection details)
+kept_inserted collection details id old names is there named =
+    (λ i. record { by_id = kept_or (sym there i) collection.by_id id details; by_name = named i })
+    ∙ ap (with_details_under collection details) (sym is)
 
-pub fresh_inserted : (c : Collection) (d : Details) (id : ℕ) (ids : FinMap nat_cmp Details) (names : FinMap bytes_cmp ℕ) →
-    d.id ≡ Some id → get c.by_id id ≡ None → ids ≡ insert c.by_id id d → names ≡ insert c.by_name (name_of d) id →
-    ◌≡◌ {A = Collection} (record { by_id = ids; by_name = names }) (with_details c d)
-fresh_inserted c d id ids names is none put named =
-    let fresh : ids ≡ kept_or (get c.by_id id) c.by_id id d = put ∙ ap (λ o. kept_or o c.by_id id d) (sym none) in
-    (λ i. record { by_id = fresh i; by_name = named i }) ∙ ap (with_details_under c d) (sym is)
+pub fresh_inserted :
+    (collection : Collection) (details : Details) (id : ℕ) (ids : FinMap nat_cmp Details) (names : FinMap bytes_cmp ℕ) →
+    details.id ≡ Some id → get collection.by_id id ≡ None → ids ≡ insert collection.by_id id details →
+    names ≡ insert collection.by_name (name_of details) id →
+    ◌≡◌ {A = Collection} (record { by_id = ids; by_name = names }) (with_details collection details)
+fresh_inserted collection details id ids names is none put named =
+    let fresh : ids ≡ kept_or (get collection.by_id id) collection.by_id id details =
+    put ∙ ap (λ o. kept_or o collection.by_id id details) (sym none) in
+    (λ i. record { by_id = fresh i; by_name = named i }) ∙ ap (with_details_under collection details) (sym is)
 
-pub kept_is : (c : Collection) (d : Details) (id : ℕ) (kept : Details) →
-    d.id ≡ Some id → get c.by_id id ≡ Some kept →
-    kept_for c d ≡ Some kept
-kept_is c d id kept is there = ap (option_and_then (λ id. get c.by_id id)) is ∙ there
+pub kept_is : (collection : Collection) (details : Details) (id : ℕ) (kept : Details) →
+    details.id ≡ Some id → get collection.by_id id ≡ Some kept →
+    kept_for collection details ≡ Some kept
+kept_is collection details id kept is there = ap (option_and_then (λ id. get collection.by_id id)) is ∙ there
 
-pub get-put : (m : FinMap nat_cmp Details) (id : ℕ) (d : Details) → get (insert m id d) id ≡ Some d
-get-put m id d =
-    get-insert nat_cmp_total m id d id ∙ ap (λ b. cond b (Some d) (get m id)) ((eq_by_cmp_equiv nat_cmp_total).refl id)
+pub get-put : (m : FinMap nat_cmp Details) (id : ℕ) (details : Details) → get (insert m id details) id ≡ Some details
+get-put m id details =
+    get-insert nat_cmp_total m id details id
+    ∙ ap (λ b. cond b (Some details) (get m id)) ((eq_by_cmp_equiv nat_cmp_total).refl id)
 
 -- an id that was put where there was none, and was taken out again
 module _ {A : Type 0} where

@@ -40,15 +40,15 @@ id_at ds i item copy none lt is same =
     (All-get_or (λ e. IsSome e.id) (shared_details ds) i (f item) (omega (arith, lt, length-map ds f)) all))
 
 -- the only refusal of details that have an id
-pub memory_alone : {T : Type 0} (r : Result T Error) (e : Error) (d : Details) →
-    IsSome d.id → r ≡ Err e → ((r ≡ Err MissingId) ↔ (d.id ≡ None)) → (e ≡ MissingId) ⊎ (e ≡ Memory) →
+pub memory_alone : {T : Type 0} (r : Result T Error) (e : Error) (details : Details) →
+    IsSome details.id → r ≡ Err e → ((r ≡ Err MissingId) ↔ (details.id ≡ None)) → (e ≡ MissingId) ⊎ (e ≡ Memory) →
     e ≡ Memory
-memory_alone r e d some is missing (inl none) =
+memory_alone r e details some is missing (inl none) =
     absurd (no_id (subst (λ (o : Option ℕ). IsSome o) (missing.0 (is ∙ ap Err none)) some))
   where
     no_id : IsSome {T = ℕ} None → ⊥
     no_id e = cc
-memory_alone r e d some is missing (inr memory) = memory
+memory_alone r e details some is missing (inr memory) = memory
 
 -- ---- lists of details
 

@@ -74,19 +74,19 @@ pub regroup_node : (begin inner end others more : List ℕ) →
     (begin ++ (inner ++ (end ++ others))) ++ more ≡ begin ++ (inner ++ (end ++ (others ++ more)))
 regroup_node begin inner end others more = simp append_assoc
 
-regroup_tour : (inner others rest : List Event) (e : Event) →
-    inner ++ (e ∷ (others ++ rest)) ≡ (inner ++ (e ∷ others)) ++ rest
-regroup_tour inner others rest e = simp append_assoc
+regroup_tour : (inner others rest : List Event) (event : Event) →
+    inner ++ (event ∷ (others ++ rest)) ≡ (inner ++ (event ∷ others)) ++ rest
+regroup_tour inner others rest event = simp append_assoc
 
 pub regroup_opened : (outer before begin more : List ℕ) →
     (outer ++ (before ++ begin)) ++ more ≡ outer ++ (before ++ (begin ++ more))
 regroup_opened outer before begin more = simp append_assoc
 
-regroup_word : (outer before rest : List Event) (e : Event) →
-    outer ++ (before ++ (e ∷ rest)) ≡ (outer ++ (before ++ (e ∷ []))) ++ rest
-regroup_word outer before rest e = simp append_assoc
+regroup_word : (outer before rest : List Event) (event : Event) →
+    outer ++ (before ++ (event ∷ rest)) ≡ (outer ++ (before ++ (event ∷ []))) ++ rest
+regroup_word outer before rest event = simp append_assoc
 
-append_nil : (w : List Event) → w ++ [] ≡ w
+append_nil : (word : List Event) → word ++ [] ≡ word
 append_nil [] = refl
 append_nil (e ∷ w) = ap (λ (x : List Event). e ∷ x) (append_nil w)
 
@@ -180,12 +180,13 @@ module _ (form : Form) where
       }
 
   -- with any surplus of steps, a forest's bytes give its tour, and what follows them what it gives
-  forest_events : (f : Forest) →
-      IsForest form f →
+  forest_events : (forest : Forest) →
+      IsForest form forest →
       (n : ℕ) (more : List ℕ) →
-      events_from form (length (tour f) + n) (spelling form f ++ more) ≡ tour f ++ events_from form n more
-  forest_events empty h n more = ap (λ (k : ℕ). events_from form k more) (omega arith)
-  forest_events (node s children others) h n more =
+      events_from form (length (tour forest) + n) (spelling form forest ++ more)
+      ≡ tour forest ++ events_from form n more
+  forest_events empty written n more = ap (λ (k : ℕ). events_from form k more) (omega arith)
+  forest_events (node s children others) written n more =
       let begin = begin_bytes form s.id s.start s.text (length (spelling form children)) in
       let later = length (tour others) + n in
       let fuel : length (tour (node s children others)) + n ≡ suc (length (tour children) + suc later) =
@@ -193,13 +194,14 @@ module _ (form : Form) where
       let behind = spelling form others ++ more in
       let inner = spelling form children ++ (end_bytes s.stop ++ behind) in
       ap (λ (k : ℕ). events_from form k (spelling form (node s children others) ++ more)) fuel
-      ∙ (opens s.id (length (spelling form children)) s.start s.text inner _ h.0.id_high h.0.start h.0.text_size
+      ∙ (opens s.id (length (spelling form children)) s.start s.text inner _ written.0.id_high written.0.start
+      written.0.text_size
       (regroup_node begin (spelling form children) (end_bytes s.stop) (spelling form others) more)).step
       (length (tour children) + suc later)
       ∙ ap (λ (w : List Event). Open s.id s.text s.start ∷ w)
-      (forest_events children h.1 (suc later) (end_bytes s.stop ++ behind)
-      ∙ ap (λ (w : List Event). tour children ++ w) ((closes s.stop behind _ h.0.stop refl).step later
-      ∙ ap (λ (w : List Event). Close s.stop ∷ w) (forest_events others h.2 n more))
+      (forest_events children written.1 (suc later) (end_bytes s.stop ++ behind)
+      ∙ ap (λ (w : List Event). tour children ++ w) ((closes s.stop behind _ written.0.stop refl).step later
+      ∙ ap (λ (w : List Event). Close s.stop ∷ w) (forest_events others written.2 n more))
       ∙ regroup_tour (tour children) (tour others) (events_from form n more) (Close s.stop))
 
   opening_events : (latest : ℤ) (opened : List Opened) →
@@ -207,8 +209,8 @@ module _ (form : Form) where
       (n : ℕ) (more : List ℕ) →
       events_from form (length (opening_word opened) + n) (opening_bytes form opened ++ more)
       ≡ opening_word opened ++ events_from form n more
-  opening_events latest [] h n more = ap (λ (k : ℕ). events_from form k more) (omega arith)
-  opening_events latest (o ∷ outer) h n more =
+  opening_events latest [] started n more = ap (λ (k : ℕ). events_from form k more) (omega arith)
+  opening_events latest (o ∷ outer) started n more =
       let begin = begin_bytes form o.id o.start o.text o.size in
       let event = Open o.id o.text o.start in
       let later = length (tour o.before) + suc n in
@@ -221,11 +223,11 @@ module _ (form : Form) where
       ap (λ (k : ℕ). events_from form k (opening_bytes form (o ∷ outer) ++ more)) fuel
       ∙ ap (events_from form (length (opening_word outer) + later))
       (regroup_opened (opening_bytes form outer) (spelling form o.before) begin more)
-      ∙ opening_events latest outer h.4 later (spelling form o.before ++ (begin ++ more))
+      ∙ opening_events latest outer started.4 later (spelling form o.before ++ (begin ++ more))
       ∙ ap (λ (w : List Event). opening_word outer ++ w)
-      (forest_events o.before h.0.before (suc n) (begin ++ more)
+      (forest_events o.before started.0.before (suc n) (begin ++ more)
       ∙ ap (λ (w : List Event). tour o.before ++ w)
-      ((opens o.id o.size o.start o.text more _ h.0.id_high h.0.start h.0.text_size refl).step n))
+      ((opens o.id o.size o.start o.text more _ started.0.id_high started.0.start started.0.text_size refl).step n))
       ∙ regroup_word (opening_word outer) (tour o.before) (events_from form n more) event
 
   no_bytes : (n : ℕ) → events_from form n [] ≡ []
@@ -233,7 +235,7 @@ module _ (form : Form) where
   no_bytes zero = refl
   no_bytes (suc n) = refl
 
-  short : (w : List Event) → length w ≤ word_size form w
+  short : (word : List Event) → length word ≤ word_size form word
   short [] = omega arith
   short (Open id text start ∷ w) = omega (arith, short w)
   short (Close stop ∷ w) = omega (arith, short w)

@@ -9,7 +9,7 @@ use Rattle.puffin_data.specs.declared.error.Error.TheVariants.{MissingId, Memory
 use Rattle.puffin_threads.specs.Details.{Details, lacks_id, AllHaveIds}
 
 -- where none lacks its id, all have one
-pub none_lacks : (ds : List Details) → list_any lacks_id ds ≡ false → AllHaveIds ds
+pub none_lacks : (details : List Details) → list_any lacks_id details ≡ false → AllHaveIds details
 none_lacks [] h = All-nil (λ d. IsSome d.id)
 none_lacks (d ∷ ds) h = by_id d.id refl h (none_lacks ds) where
   by_id : (o : Option ℕ) →
@@ -19,7 +19,7 @@ none_lacks (d ∷ ds) h = by_id d.id refl h (none_lacks ds) where
   by_id (Some i) e k later = All-cons (λ d. IsSome d.id) d ds (rw e refl) (later k)
 
 -- where all have one, none lacks it
-pub all_have : (ds : List Details) → AllHaveIds ds → list_any lacks_id ds ≡ false
+pub all_have : (details : List Details) → AllHaveIds details → list_any lacks_id details ≡ false
 all_have [] all = refl
 all_have (d ∷ ds) all =
     by_id d.id (All-head (λ d. IsSome d.id) d ds all) (all_have ds (All-tail (λ d. IsSome d.id) d ds all)) where

@@ -16,7 +16,8 @@ use Rattle.puffin_threads.specs.Thread.Events.{events_in}
 use Rattle.puffin_threads.specs.Thread.Calls.{Thread, time_of}
 use Rattle.puffin_threads.specs.inner.FirstStart.{first_open}
 use Rattle.puffin_threads.proofs.FirstStarts.{opened_first}
-use Rattle.puffin_threads.proofs.ThreadStates.{begun_in, copy_in, holds_in, stays_supplied, offset_in, open_fits, same_thread, scopes_fit}
+use Rattle.puffin_threads.proofs.BegunStates.{begun_in, offset_in}
+use Rattle.puffin_threads.proofs.ThreadStates.{copy_in, holds_in, stays_supplied, open_fits, same_thread, scopes_fit}
 use Rattle.puffin_threads.proofs.RecordedScopes.{begins_held}
 use Rattle.puffin_threads.proofs.thread_profiler.thread_state.ThreadState.begin_scope.Goals as goal
 

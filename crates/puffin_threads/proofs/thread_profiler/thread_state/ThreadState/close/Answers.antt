@@ -3,7 +3,8 @@ use Rattle.std.specs.Int.{int_max}
 use Rattle.std.proofs.lemmas.Bool.Decides.{nat_tests}
 use Rattle.std.proofs.lemmas.Int.{ints, to_z-of_z, clamps}
 use Rattle.puffin_threads.specs.Thread.Calls.{Thread, after_end}
-use Rattle.puffin_threads.proofs.ThreadStates.{ended_in, ended_thread, none_supplied, place_in, some_open}
+use Rattle.puffin_threads.proofs.EndedStates.{ended_in, ended_thread, place_in, some_open}
+use Rattle.puffin_threads.proofs.ThreadStates.{none_supplied}
 use Rattle.puffin_threads.specs.declared.thread_profiler.supply.Supply.{Supply}
 use Rattle.puffin_threads.specs.inner.Supplied.{IsSupplied}
 use Rattle.puffin_threads.proofs.thread_profiler.thread_state.ThreadState.close.Goals as goal

@@ -5,7 +5,8 @@ use Rattle.std.specs.Option.{option_or}
 use Rattle.puffin_data.specs.declared.data.info.StreamInfo.{StreamInfo}
 use Rattle.puffin_threads.specs.inner.FirstStart.{first_open}
 use Rattle.puffin_threads.proofs.FirstStarts.{or_none}
-use Rattle.puffin_threads.proofs.ThreadStates.{first_in, cleared_in, none_in, none_innermost, none_open_in, same_thread, stays_supplied}
+use Rattle.puffin_threads.proofs.EndedStates.{first_in}
+use Rattle.puffin_threads.proofs.ThreadStates.{cleared_in, none_in, none_innermost, none_open_in, same_thread, stays_supplied}
 use Rattle.puffin_threads.proofs.thread_profiler.thread_state.ThreadState.discard.Goals as goal
 
 pub invariant_of-self : goal.invariant_of-self

@@ -2,7 +2,7 @@ use Rattle.std.proofs.Common.{rules, ◌≡◌, ℤ, ◌≤ℤ◌, w64, FitsSign
 use Rattle.std.specs.Int.{int_max}
 use Rattle.std.proofs.lemmas.Int.{ints, to_z-of_z, clamps}
 use Rattle.puffin_threads.specs.Thread.Calls.{Thread, after_end}
-use Rattle.puffin_threads.proofs.ThreadStates.{ended_in, ended_thread, place_in, some_open}
+use Rattle.puffin_threads.proofs.EndedStates.{ended_in, ended_thread, place_in, some_open}
 use Rattle.puffin_threads.proofs.thread_profiler.thread_state.ThreadState.finish.Goals as goal
 
 pub end_within-requires-clause-inside : goal.end_within-requires-clause-inside

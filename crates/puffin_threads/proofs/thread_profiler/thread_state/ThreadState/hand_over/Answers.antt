@@ -12,7 +12,8 @@ use Rattle.std.specs.Option.{option_or}
 use Rattle.puffin_data.specs.declared.data.info.StreamInfo.{StreamInfo}
 use Rattle.puffin_threads.proofs.FirstStarts.{or_none}
 use Rattle.puffin_threads.specs.Thread.Events.{events_in}
-use Rattle.puffin_threads.proofs.ThreadStates.{report_in, first_in, told_first, completed_in, cleared_in, none_in, none_innermost, none_open_in, same_thread, stays_supplied}
+use Rattle.puffin_threads.proofs.EndedStates.{report_in, first_in, told_first, completed_in}
+use Rattle.puffin_threads.proofs.ThreadStates.{cleared_in, none_in, none_innermost, none_open_in, same_thread, stays_supplied}
 use Rattle.puffin_threads.proofs.thread_profiler.thread_state.ThreadState.hand_over.Goals as goal
 
 -- what was answered to a report is the same of equal parts
