@@ -31,8 +31,8 @@ pub record Writes {A : Type 0} (layout : A → List ℕ) (fits : A → Type 0) (
 pub all_one : {A : Type 0} (fits : A → Type 0) (xs : List A) (x : A) →
     AllByRecursion fits xs → fits x →
     AllByRecursion fits (xs ++ x ∷ [])
-all_one fits [] x h f = (f, tt)
-all_one fits (y ∷ xs) x h f = (h.0, all_one fits xs x h.1 f)
+all_one fits [] x all_so f = (f, tt)
+all_one fits (y ∷ xs) x all_so f = (all_so.0, all_one fits xs x all_so.1 f)
 
 flat_one : {A : Type 0} (layout : A → List ℕ) (xs : List A) (x : A) →
     flat_map layout (xs ++ x ∷ []) ≡ flat_map layout xs ++ layout x
@@ -51,15 +51,15 @@ pub one_more :
     {A : Type 0} (layout : A → List ℕ) (fits : A → Type 0) (before now next : List ℕ) (rest all : List A) (x : A) →
     Writes layout fits before now (x ∷ rest) all → next ≡ now ++ layout x → fits x →
     Writes layout fits before next rest all
-one_more layout fits before now next rest all x h put fit = record {
-  done = h.done ++ x ∷ [];
-  whole = simp append_assoc h.whole;
+one_more layout fits before now next rest all x so_far put fit = record {
+  done = so_far.done ++ x ∷ [];
+  whole = simp append_assoc so_far.whole;
   written =
       put
-      ∙ (ap (λ (l : List ℕ). l ++ layout x) h.written
-      ∙ (append_assoc before (flat_map layout h.done) (layout x)
-      ∙ ap (λ (l : List ℕ). before ++ l) (back layout h.done x)));
-  fit = all_one fits h.done x h.fit fit;
+      ∙ (ap (λ (l : List ℕ). l ++ layout x) so_far.written
+      ∙ (append_assoc before (flat_map layout so_far.done) (layout x)
+      ∙ ap (λ (l : List ℕ). before ++ l) (back layout so_far.done x)));
+  fit = all_one fits so_far.done x so_far.fit fit;
 }
   where
     back : {A : Type 0} (layout : A → List ℕ) (xs : List A) (x : A) →
@@ -70,16 +70,16 @@ one_more layout fits before now next rest all x h put fit = record {
 pub all_written : {A : Type 0} (layout : A → List ℕ) (fits : A → Type 0) (before now : List ℕ) (all : List A) →
     Writes layout fits before now [] all →
     (now ≡ before ++ flat_map layout all) × AllByRecursion fits all
-all_written {A = A} layout fits before now all h =
-    let e : h.done ≡ all = simp append-nil at h.whole in
+all_written {A = A} layout fits before now all so_far =
+    let e : so_far.done ≡ all = simp append-nil at so_far.whole in
     let P : List A → Type 0 = λ (xs : List A). (now ≡ before ++ flat_map layout xs) × AllByRecursion fits xs in
-    subst P e (h.written, h.fit)
+    subst P e (so_far.written, so_far.fit)
 
 -- the same with the rest in another form
 pub next_of : {A : Type 0} (layout : A → List ℕ) (fits : A → Type 0) (before now : List ℕ) (rest other all : List A) →
     rest ≡ other → Writes layout fits before now rest all →
     Writes layout fits before now other all
-next_of layout fits before now rest other all e h = subst (λ (xs : _). Writes layout fits before now xs all) e h
+next_of layout fits before now rest other all e so_far = subst (λ (xs : _). Writes layout fits before now xs all) e so_far
 
 -- what is left of a slice from a place on
 pub at_index : {X Y : Type 0} (f : X → Y) (xs : List X) (i : ℕ) (x : X) →

@@ -11,32 +11,34 @@ use Rattle.puffin_frames.specs.Packet.Structs.{IsThreadKey, AreCounts, AreStream
 use Rattle.puffin_frames.proofs.Listed.{and-first, and-second, and-both}
 
 -- streams in order are sorted, in each form
-pub sorted_in : (packed : Form) (es : List (ThreadKey × StreamFacts)) →
-    are_ordered packed es ≡ true →
-    is_sorted key_cmp es ≡ true
-sorted_in Short es e = e
-sorted_in Long es e = and-first _ _ e
+pub sorted_in : (packed : Form) (pairs : List (ThreadKey × StreamFacts)) →
+    are_ordered packed pairs ≡ true →
+    is_sorted key_cmp pairs ≡ true
+sorted_in Short pairs e = e
+sorted_in Long pairs e = and-first _ _ e
 
-pub ordered_in : (packed : Form) (es : List (ThreadKey × StreamFacts)) →
-    packed ≡ form_of_all es → is_sorted key_cmp es ≡ true →
-    are_ordered packed es ≡ true
-ordered_in Short es is e = e
-ordered_in Long es is e = and-both _ _ e (long_is (some_long es) is)
+pub ordered_in : (packed : Form) (pairs : List (ThreadKey × StreamFacts)) →
+    packed ≡ form_of_all pairs → is_sorted key_cmp pairs ≡ true →
+    are_ordered packed pairs ≡ true
+ordered_in Short pairs is e = e
+ordered_in Long pairs is e = and-both _ _ e (long_is (some_long pairs) is)
   where
     long_is : (b : Bool) → Long ≡ form_of_flag b → b ≡ true
     long_is true h = refl
     long_is false h = absurd cc
 
-none_long : (es : List (ThreadKey × StreamFacts)) →
-    AllByRecursion (λ (e : ThreadKey × StreamFacts). IsThreadKey e.0 × AreStreamFacts Short e.1) es →
-    some_long es ≡ false
+none_long : (pairs : List (ThreadKey × StreamFacts)) →
+    AllByRecursion (λ (e : ThreadKey × StreamFacts). IsThreadKey e.0 × AreStreamFacts Short e.1) pairs →
+    some_long pairs ≡ false
 none_long [] all = refl
 none_long (e ∷ es) all = ap (λ (f : Form). is_long f || some_long es) all.0.1.0 ∙ none_long es all.1
 
 -- what is stored in packets of a form has that form
-pub form_stored : (packed : Form) (es : List (ThreadKey × StreamFacts)) → AreStreams packed es → packed ≡ form_of_all es
-form_stored Short es fit = ap form_of_flag (sym (none_long es fit.0.1))
-form_stored Long es fit = ap form_of_flag (sym (and-second _ _ fit.1))
+pub form_stored : (packed : Form) (pairs : List (ThreadKey × StreamFacts)) →
+    AreStreams packed pairs →
+    packed ≡ form_of_all pairs
+form_stored Short pairs fit = ap form_of_flag (sym (none_long pairs fit.0.1))
+form_stored Long pairs fit = ap form_of_flag (sym (and-second _ _ fit.1))
 
 -- and the other way round
 pub stored_in : (packed : Form) (es : List (ThreadKey × StreamFacts)) →
@@ -45,9 +47,9 @@ pub stored_in : (packed : Form) (es : List (ThreadKey × StreamFacts)) →
 stored_in Long [] is all = tt
 stored_in Long (e ∷ es) is all = ((all.0.0, (tt, all.0.1)), each_long es all.1)
   where
-    each_long : (es : List (ThreadKey × StreamFacts)) →
-        AllByRecursion (λ (e : ThreadKey × StreamFacts). IsThreadKey e.0 × AreCounts e.1) es →
-        AllByRecursion (λ (e : ThreadKey × StreamFacts). IsThreadKey e.0 × AreStreamFacts Long e.1) es
+    each_long : (pairs : List (ThreadKey × StreamFacts)) →
+        AllByRecursion (λ (e : ThreadKey × StreamFacts). IsThreadKey e.0 × AreCounts e.1) pairs →
+        AllByRecursion (λ (e : ThreadKey × StreamFacts). IsThreadKey e.0 × AreStreamFacts Long e.1) pairs
     each_long [] all = tt
     each_long (e ∷ es) all = ((all.0.0, (tt, all.0.1)), each_long es all.1)
 stored_in Short es is all = each_short es (short_is (some_long es) is) all
@@ -68,9 +70,10 @@ stored_in Short es is all = each_short es (short_is (some_long es) is) all
     or-second true b h = absurd cc
     or-second false b h = h
 
-    each_short : (es : List (ThreadKey × StreamFacts)) →
-        some_long es ≡ false → AllByRecursion (λ (e : ThreadKey × StreamFacts). IsThreadKey e.0 × AreCounts e.1) es →
-        AllByRecursion (λ (e : ThreadKey × StreamFacts). IsThreadKey e.0 × AreStreamFacts Short e.1) es
+    each_short : (pairs : List (ThreadKey × StreamFacts)) →
+        some_long pairs ≡ false →
+        AllByRecursion (λ (e : ThreadKey × StreamFacts). IsThreadKey e.0 × AreCounts e.1) pairs →
+        AllByRecursion (λ (e : ThreadKey × StreamFacts). IsThreadKey e.0 × AreStreamFacts Short e.1) pairs
     each_short [] none all = tt
     each_short (e ∷ es) none all =
         ((all.0.0, (form_short e.1.form (or-first _ _ none), all.0.1)), each_short es (or-second _ _ none) all.1)

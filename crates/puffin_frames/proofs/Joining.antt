@@ -42,12 +42,12 @@ pub one_more : (meta more : FrameMeta) (x : StreamFacts) (rest all : List Stream
     more.range_ns.0 ≡ int_min meta.range_ns.0 x.range_ns.0 → more.range_ns.1 ≡ int_max meta.range_ns.1 x.range_ns.1 →
     (more.num_bytes < 2 ^ 64) × (more.num_scopes < 2 ^ 64) →
     ComesTo more rest index all
-one_more meta more x rest all index h ei eb es e0 e1 fits = record {
-  frame_index = ei ∙ h.frame_index;
-  num_bytes = ap (λ n. bytes_from n rest) eb ∙ h.num_bytes;
-  num_scopes = ap (λ n. scopes_from n rest) es ∙ h.num_scopes;
-  start = ap (λ z. start_from z rest) e0 ∙ h.start;
-  stop = ap (λ z. stop_from z rest) e1 ∙ h.stop;
+one_more meta more x rest all index comes ei eb es e0 e1 fits = record {
+  frame_index = ei ∙ comes.frame_index;
+  num_bytes = ap (λ n. bytes_from n rest) eb ∙ comes.num_bytes;
+  num_scopes = ap (λ n. scopes_from n rest) es ∙ comes.num_scopes;
+  start = ap (λ z. start_from z rest) e0 ∙ comes.start;
+  stop = ap (λ z. stop_from z rest) e1 ∙ comes.stop;
   fit = fits;
 }
 
@@ -56,32 +56,32 @@ pub too_large : (meta : FrameMeta) (x same : StreamFacts) (rest all : List Strea
     ComesTo meta (x ∷ rest) index all → same ≡ x →
     (2 ^ 64 ≤ meta.num_bytes + length same.bytes) ⊎ (2 ^ 64 ≤ meta.num_scopes + same.num_scopes) → TotalsFit all →
     ⊥
-too_large meta x same rest all index h is over fits =
+too_large meta x same rest all index comes is over fits =
     let bytes = bytes_above (meta.num_bytes + length x.bytes) rest in
     let scopes = scopes_above (meta.num_scopes + x.num_scopes) rest in
     let same_bytes = ap (λ r. length r.bytes) is in
     let same_scopes = ap (λ r. r.num_scopes) is in
     elim over [
-      | inl more ↦ omega (arith, bytes, same_bytes, h.num_bytes, fits.bytes)
-      | inr more ↦ omega (arith, scopes, same_scopes, h.num_scopes, fits.scopes)
+      | inl more ↦ omega (arith, bytes, same_bytes, comes.num_bytes, fits.bytes)
+      | inr more ↦ omega (arith, scopes, same_scopes, comes.num_scopes, fits.scopes)
     ]
 
 pub come : (meta : FrameMeta) (all : List StreamFacts) (index : ℕ) → ComesTo meta [] index all → meta ≡ meta_of index all
-come meta all index h = λ i. record {
-  frame_index = h.frame_index i;
-  range_ns = (h.start i, h.stop i);
-  num_bytes = h.num_bytes i;
-  num_scopes = h.num_scopes i;
+come meta all index comes = λ i. record {
+  frame_index = comes.frame_index i;
+  range_ns = (comes.start i, comes.stop i);
+  num_bytes = comes.num_bytes i;
+  num_scopes = comes.num_scopes i;
 }
 
 pub totals_fit : (meta : FrameMeta) (all : List StreamFacts) (index : ℕ) → ComesTo meta [] index all → TotalsFit all
-totals_fit meta all index h = record {
-  bytes = omega (arith, h.num_bytes, h.fit.0);
-  scopes = omega (arith, h.num_scopes, h.fit.1);
+totals_fit meta all index comes = record {
+  bytes = omega (arith, comes.num_bytes, comes.fit.0);
+  scopes = omega (arith, comes.num_scopes, comes.fit.1);
 }
 
 -- what a loop over the rest leaves to be joined
 pub at_next : (meta : FrameMeta) (rest next : List StreamFacts) (all : List StreamFacts) (index : ℕ) →
     ComesTo meta rest index all → rest ≡ next →
     ComesTo meta next index all
-at_next meta rest next all index h e = subst (λ (infos : List StreamFacts). ComesTo meta infos index all) e h
+at_next meta rest next all index comes e = subst (λ (infos : List StreamFacts). ComesTo meta infos index all) e comes

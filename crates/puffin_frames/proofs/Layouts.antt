@@ -43,7 +43,7 @@ module _ {A : Type 0} (es : List (ThreadInfo × Arc StreamInfo A)) where
 
 -- ---- frames
 
-held_so : (h : Held) → IsHolding (held_as h)
+held_so : (held : Held) → IsHolding (held_as held)
 held_so (Own u) = u.read_again
 held_so (Shared u) = (arc_value u).read_again
 held_so (Packed p) = tt

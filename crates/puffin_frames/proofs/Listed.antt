@@ -47,54 +47,57 @@ is_less Equal e = absurd cc
 is_less Greater e = absurd cc
 
 module _ {A : Type 0} where
-  listed-below : (x : ThreadInfo) (es : List (ThreadInfo × Arc StreamInfo A)) →
-      AllByRecursion (λ y. thread_cmp x y ≡ Less) (keys_of es) →
-      below_all key_cmp (key_of x) (pairs_of es) ≡ true
-  listed-below x [] h = refl
-  listed-below x (e ∷ es) h =
-      and-both (is_lt (thread_cmp x e.0)) (below_all key_cmp (key_of x) (pairs_of es)) (ap is_lt h.0)
-      (listed-below x es h.1)
+  listed-below : (x : ThreadInfo) (entries : List (ThreadInfo × Arc StreamInfo A)) →
+      AllByRecursion (λ y. thread_cmp x y ≡ Less) (keys_of entries) →
+      below_all key_cmp (key_of x) (pairs_of entries) ≡ true
+  listed-below x [] all_so = refl
+  listed-below x (e ∷ es) all_so =
+      and-both (is_lt (thread_cmp x e.0)) (below_all key_cmp (key_of x) (pairs_of es)) (ap is_lt all_so.0)
+      (listed-below x es all_so.1)
 
   -- entries in the order of their threads are listed in order
-  pub listed-sorted : (es : List (ThreadInfo × Arc StreamInfo A)) →
-      IsStrictlySortedBy thread_cmp (keys_of es) →
-      is_sorted key_cmp (pairs_of es) ≡ true
+  pub listed-sorted : (entries : List (ThreadInfo × Arc StreamInfo A)) →
+      IsStrictlySortedBy thread_cmp (keys_of entries) →
+      is_sorted key_cmp (pairs_of entries) ≡ true
   listed-sorted [] sorted = refl
   listed-sorted (e ∷ es) sorted =
       and-both (below_all key_cmp (key_of e.0) (pairs_of es)) (is_sorted key_cmp (pairs_of es))
       (listed-below e.0 es (sorted_head thread_cmp e.0 _ sorted))
       (listed-sorted es (sorted_tail thread_cmp e.0 _ sorted))
 
-  pub listed-push : (es : List (ThreadInfo × Arc StreamInfo A)) (k : ThreadInfo) (a : Arc StreamInfo A) →
-      pairs_of (es ++ (k, a) ∷ []) ≡ pairs_of es ++ (key_of k, facts_of (arc_value a)) ∷ []
-  listed-push [] k a = refl
-  listed-push (e ∷ es) k a =
-      ap (λ (l : List (ThreadKey × StreamFacts)). (key_of e.0, facts_of (arc_value e.1)) ∷ l) (listed-push es k a)
+  pub listed-push : (entries : List (ThreadInfo × Arc StreamInfo A)) (thread : ThreadInfo) (a : Arc StreamInfo A) →
+      pairs_of (entries ++ (thread, a) ∷ []) ≡ pairs_of entries ++ (key_of thread, facts_of (arc_value a)) ∷ []
+  listed-push [] thread a = refl
+  listed-push (e ∷ es) thread a =
+      ap (λ (l : List (ThreadKey × StreamFacts)). (key_of e.0, facts_of (arc_value e.1)) ∷ l) (listed-push es thread a)
 
-below_at : (x k : ThreadKey) (r : StreamFacts) (es rest : List (ThreadKey × StreamFacts)) →
-    below_all key_cmp x (es ++ (k, r) ∷ rest) ≡ true →
-    key_cmp x k ≡ Less
-below_at x k r [] rest h = is_less _ (and-first _ _ h)
-below_at x k r (e ∷ es) rest h = below_at x k r es rest (and-second _ _ h)
+below_at : (x thread : ThreadKey) (info : StreamFacts) (pairs rest : List (ThreadKey × StreamFacts)) →
+    below_all key_cmp x (pairs ++ (thread, info) ∷ rest) ≡ true →
+    key_cmp x thread ≡ Less
+below_at x thread info [] rest h = is_less _ (and-first _ _ h)
+below_at x thread info (e ∷ es) rest h = below_at x thread info es rest (and-second _ _ h)
 
-below_middle : (x k : ThreadKey) (r : StreamFacts) (es : List (ThreadKey × StreamFacts)) →
-    below_all key_cmp x es ≡ true → key_cmp x k ≡ Less →
-    below_all key_cmp x (es ++ (k, r) ∷ []) ≡ true
-below_middle x k r [] h lt = and-both _ _ (ap is_lt lt) refl
-below_middle x k r (e ∷ es) h lt = and-both _ _ (and-first _ _ h) (below_middle x k r es (and-second _ _ h) lt)
+below_middle : (x thread : ThreadKey) (info : StreamFacts) (pairs : List (ThreadKey × StreamFacts)) →
+    below_all key_cmp x pairs ≡ true → key_cmp x thread ≡ Less →
+    below_all key_cmp x (pairs ++ (thread, info) ∷ []) ≡ true
+below_middle x thread info [] h lt = and-both _ _ (ap is_lt lt) refl
+below_middle x thread info (e ∷ es) h lt =
+    and-both _ _ (and-first _ _ h) (below_middle x thread info es (and-second _ _ h) lt)
 
 module _ {A : Type 0} where
   -- a thread above all others goes to the end
-  pub insert-last : (es : List (ThreadInfo × Arc StreamInfo A)) (k : ThreadInfo) (v : Arc StreamInfo A) (r : StreamFacts)
+  pub insert-last :
+      (entries : List (ThreadInfo × Arc StreamInfo A)) (thread : ThreadInfo) (v : Arc StreamInfo A) (info : StreamFacts)
       (rest : List (ThreadKey × StreamFacts)) →
-      is_sorted key_cmp (pairs_of es ++ (key_of k, r) ∷ rest) ≡ true →
-      insert_entry thread_cmp es k v ≡ es ++ (k, v) ∷ []
-  insert-last [] k v r rest sorted = refl
-  insert-last (e ∷ es) k v r rest sorted =
-      let below : thread_cmp e.0 k ≡ Less = below_at (key_of e.0) (key_of k) r (pairs_of es) rest (and-first _ _ sorted) in
-      let above : thread_cmp k e.0 ≡ Greater = thread_cmp_total.antisymm k e.0 ∙ ap ordering_reverse below in
-      ap (λ o. match_ordering o ((k, v) ∷ e ∷ es) ((e.0, v) ∷ es) (e ∷ insert_entry thread_cmp es k v)) above
-      ∙ ap (λ l. e ∷ l) (insert-last es k v r rest (and-second _ _ sorted))
+      is_sorted key_cmp (pairs_of entries ++ (key_of thread, info) ∷ rest) ≡ true →
+      insert_entry thread_cmp entries thread v ≡ entries ++ (thread, v) ∷ []
+  insert-last [] thread v info rest sorted = refl
+  insert-last (e ∷ es) thread v info rest sorted =
+      let below : thread_cmp e.0 thread ≡ Less =
+      below_at (key_of e.0) (key_of thread) info (pairs_of es) rest (and-first _ _ sorted) in
+      let above : thread_cmp thread e.0 ≡ Greater = thread_cmp_total.antisymm thread e.0 ∙ ap ordering_reverse below in
+      ap (λ o. match_ordering o ((thread, v) ∷ e ∷ es) ((e.0, v) ∷ es) (e ∷ insert_entry thread_cmp es thread v)) above
+      ∙ ap (λ l. e ∷ l) (insert-last es thread v info rest (and-second _ _ sorted))
 
 -- ---- maps from lists in order
 
@@ -124,15 +127,15 @@ module _ {K X : Type 0} {R : K → K → Ordering} (total : IsTotalOrder R) (not
       (entries-from_sorted R es (holds _ sorted) ∙ sym (entries-sorted_list es sorted))
 
 -- the streams of a map are those of its list
-pub streams-listed : {A : Type 0} (es : List (ThreadInfo × Arc StreamInfo A)) →
-    is_sorted key_cmp (pairs_of es) ≡ true →
-    from_sorted {R = key_cmp} (pairs_of es) ≡ shared_streams es
-streams-listed es sorted = from_entries-sorted_list key_cmp_total (no_entries key_cmp) (pairs_of es) sorted
+pub streams-listed : {A : Type 0} (entries : List (ThreadInfo × Arc StreamInfo A)) →
+    is_sorted key_cmp (pairs_of entries) ≡ true →
+    from_sorted {R = key_cmp} (pairs_of entries) ≡ shared_streams entries
+streams-listed entries sorted = from_entries-sorted_list key_cmp_total (no_entries key_cmp) (pairs_of entries) sorted
 
-pub entries-listed : {A : Type 0} (es : List (ThreadInfo × Arc StreamInfo A)) →
-    is_sorted key_cmp (pairs_of es) ≡ true →
-    entries (shared_streams es) ≡ pairs_of es
-entries-listed es sorted = entries-sorted_list key_cmp_total (no_entries key_cmp) (pairs_of es) sorted
+pub entries-listed : {A : Type 0} (shared : List (ThreadInfo × Arc StreamInfo A)) →
+    is_sorted key_cmp (pairs_of shared) ≡ true →
+    entries (shared_streams shared) ≡ pairs_of shared
+entries-listed shared sorted = entries-sorted_list key_cmp_total (no_entries key_cmp) (pairs_of shared) sorted
 
 -- ---- one more thread
 
@@ -150,20 +153,20 @@ last_split {X} (y ∷ z ∷ ys) x e =
     let rest = last_split (z ∷ ys) x later in
     (y ∷ rest.0, ap (λ (l : List X). y ∷ l) rest.1)
 
-sorted-push : (front : List (ThreadKey × StreamFacts)) (last k : ThreadKey) (s r : StreamFacts) →
-    is_sorted key_cmp (front ++ (last, s) ∷ []) ≡ true → key_cmp last k ≡ Less →
-    is_sorted key_cmp ((front ++ (last, s) ∷ []) ++ (k, r) ∷ []) ≡ true
-sorted-push [] last k s r sorted lt = and-both _ _ (and-both _ _ (ap is_lt lt) refl) refl
-sorted-push (e ∷ front) last k s r sorted lt =
+sorted-push : (front : List (ThreadKey × StreamFacts)) (last thread : ThreadKey) (s info : StreamFacts) →
+    is_sorted key_cmp (front ++ (last, s) ∷ []) ≡ true → key_cmp last thread ≡ Less →
+    is_sorted key_cmp ((front ++ (last, s) ∷ []) ++ (thread, info) ∷ []) ≡ true
+sorted-push [] last thread s info sorted lt = and-both _ _ (and-both _ _ (ap is_lt lt) refl) refl
+sorted-push (e ∷ front) last thread s info sorted lt =
     let below : key_cmp e.0 last ≡ Less = below_at e.0 last s front [] (and-first _ _ sorted) in
-    and-both _ _ (below_middle e.0 k r (front ++ (last, s) ∷ []) (and-first _ _ sorted)
-    (key_cmp_total.trans e.0 last k below lt)) (sorted-push front last k s r (and-second _ _ sorted) lt)
+    and-both _ _ (below_middle e.0 thread info (front ++ (last, s) ∷ []) (and-first _ _ sorted)
+    (key_cmp_total.trans e.0 last thread below lt)) (sorted-push front last thread s info (and-second _ _ sorted) lt)
 
-is_above : (front rest : List (ThreadKey × StreamFacts)) (last k : ThreadKey) (s r : StreamFacts) →
-    is_sorted key_cmp ((front ++ (last, s) ∷ []) ++ (k, r) ∷ rest) ≡ true →
-    key_cmp last k ≡ Less
-is_above [] rest last k s r sorted = is_less _ (and-first _ _ (and-first _ _ sorted))
-is_above (e ∷ front) rest last k s r sorted = is_above front rest last k s r (and-second _ _ sorted)
+is_above : (front rest : List (ThreadKey × StreamFacts)) (last thread : ThreadKey) (s info : StreamFacts) →
+    is_sorted key_cmp ((front ++ (last, s) ∷ []) ++ (thread, info) ∷ rest) ≡ true →
+    key_cmp last thread ≡ Less
+is_above [] rest last thread s info sorted = is_less _ (and-first _ _ (and-first _ _ sorted))
+is_above (e ∷ front) rest last thread s info sorted = is_above front rest last thread s info (and-second _ _ sorted)
 
 not_so : (b : Bool) → (b ≡ true → ⊥) → b ≡ false
 not_so true h = absurd (h refl)
@@ -171,38 +174,41 @@ not_so false h = refl
 
 module _ {A : Type 0} where
   -- the last entry of a map, as the last of its list
-  listed-last : (es : List (ThreadInfo × Arc StreamInfo A)) (last : ThreadInfo) (v : Arc StreamInfo A) →
-      slice_get es (length es - 1) ≡ Some (last, v) →
-      (front : List (ThreadKey × StreamFacts)) × (pairs_of es ≡ front ++ (key_of last, facts_of (arc_value v)) ∷ [])
-  listed-last es last v e =
-      let split = last_split es (last, v) e in
+  listed-last : (entries : List (ThreadInfo × Arc StreamInfo A)) (last : ThreadInfo) (v : Arc StreamInfo A) →
+      slice_get entries (length entries - 1) ≡ Some (last, v) →
+      (front : List (ThreadKey × StreamFacts))
+      × (pairs_of entries ≡ front ++ (key_of last, facts_of (arc_value v)) ∷ [])
+  listed-last entries last v e =
+      let split = last_split entries (last, v) e in
       (pairs_of split.0, ap pairs_of split.1 ∙ listed-push split.0 last v)
 
   -- a thread above the last one comes last
-  pub rises_after : (es : List (ThreadInfo × Arc StreamInfo A)) (last : ThreadInfo) (v : Arc StreamInfo A) (k : ThreadInfo)
-      (r : StreamFacts) →
-      is_sorted key_cmp (pairs_of es) ≡ true → slice_get es (length es - 1) ≡ Some (last, v) →
-      is_lt (thread_cmp last k) ≡ true →
-      is_sorted key_cmp (pairs_of es ++ (key_of k, r) ∷ []) ≡ true
-  rises_after es last v k r sorted at lt =
-      let split = listed-last es last v at in
+  pub rises_after :
+      (entries : List (ThreadInfo × Arc StreamInfo A)) (last : ThreadInfo) (v : Arc StreamInfo A) (thread : ThreadInfo)
+      (info : StreamFacts) →
+      is_sorted key_cmp (pairs_of entries) ≡ true → slice_get entries (length entries - 1) ≡ Some (last, v) →
+      is_lt (thread_cmp last thread) ≡ true →
+      is_sorted key_cmp (pairs_of entries ++ (key_of thread, info) ∷ []) ≡ true
+  rises_after entries last v thread info sorted at lt =
+      let split = listed-last entries last v at in
       let P : List (ThreadKey × StreamFacts) → Type 0 =
       λ (l : List (ThreadKey × StreamFacts)). is_sorted key_cmp l ≡ true →
-      is_sorted key_cmp (l ++ (key_of k, r) ∷ []) ≡ true in
-      subst P (sym split.1) (λ h. sorted-push split.0 (key_of last) (key_of k) (facts_of (arc_value v)) r h
+      is_sorted key_cmp (l ++ (key_of thread, info) ∷ []) ≡ true in
+      subst P (sym split.1) (λ h. sorted-push split.0 (key_of last) (key_of thread) (facts_of (arc_value v)) info h
       (is_less _ lt)) sorted
 
   -- and another one doesn't
-  pub falls_after : (es : List (ThreadInfo × Arc StreamInfo A)) (last : ThreadInfo) (v : Arc StreamInfo A) (k : ThreadInfo)
-      (r : StreamFacts) (rest : List (ThreadKey × StreamFacts)) →
-      slice_get es (length es - 1) ≡ Some (last, v) → is_lt (thread_cmp last k) ≡ false →
-      is_sorted key_cmp (pairs_of es ++ (key_of k, r) ∷ rest) ≡ false
-  falls_after es last v k r rest at not =
-      let split = listed-last es last v at in
+  pub falls_after :
+      (entries : List (ThreadInfo × Arc StreamInfo A)) (last : ThreadInfo) (v : Arc StreamInfo A) (thread : ThreadInfo)
+      (info : StreamFacts) (rest : List (ThreadKey × StreamFacts)) →
+      slice_get entries (length entries - 1) ≡ Some (last, v) → is_lt (thread_cmp last thread) ≡ false →
+      is_sorted key_cmp (pairs_of entries ++ (key_of thread, info) ∷ rest) ≡ false
+  falls_after entries last v thread info rest at not =
+      let split = listed-last entries last v at in
       not_so _ (λ h.
-      let lt : key_cmp (key_of last) (key_of k) ≡ Less =
-      is_above split.0 rest (key_of last) (key_of k) (facts_of (arc_value v)) r
-      (subst (λ (l : List (ThreadKey × StreamFacts)). is_sorted key_cmp (l ++ (key_of k, r) ∷ rest) ≡ true) split.1
+      let lt : key_cmp (key_of last) (key_of thread) ≡ Less =
+      is_above split.0 rest (key_of last) (key_of thread) (facts_of (arc_value v)) info
+      (subst (λ (l : List (ThreadKey × StreamFacts)). is_sorted key_cmp (l ++ (key_of thread, info) ∷ rest) ≡ true) split.1
       h) in
       two_ways (sym (ap is_lt lt) ∙ not))
     where
@@ -210,24 +216,25 @@ module _ {A : Type 0} where
       two_ways e = absurd cc
 
 -- a copy of the next stream goes to the end of the copies
-pub copy_more : {A B : Type 0} (es fs : List (ThreadInfo × Arc StreamInfo A)) (k copy : ThreadInfo) (a : Arc StreamInfo B)
-    (b : Arc StreamInfo A) (left rest all : List (ThreadInfo × Arc StreamInfo B)) →
-    IsStrictlySortedBy thread_cmp (keys_of all) → pairs_of es ++ pairs_of left ≡ pairs_of all → left ≡ (k, a) ∷ rest →
-    key_of copy ≡ key_of k → arc_value b ≡ arc_value a → fs ≡ insert_entry thread_cmp es copy b →
-    pairs_of fs ++ pairs_of rest ≡ pairs_of all
-copy_more es fs k copy a b left rest all sorted whole next same value put =
+pub copy_more : {A B : Type 0} (entries after : List (ThreadInfo × Arc StreamInfo A)) (thread copy : ThreadInfo)
+    (a : Arc StreamInfo B) (b : Arc StreamInfo A) (left rest all : List (ThreadInfo × Arc StreamInfo B)) →
+    IsStrictlySortedBy thread_cmp (keys_of all) → pairs_of entries ++ pairs_of left ≡ pairs_of all →
+    left ≡ (thread, a) ∷ rest → key_of copy ≡ key_of thread → arc_value b ≡ arc_value a →
+    after ≡ insert_entry thread_cmp entries copy b →
+    pairs_of after ++ pairs_of rest ≡ pairs_of all
+copy_more entries after thread copy a b left rest all sorted whole next same value put =
     let one : (ThreadKey × StreamFacts) = (key_of copy, facts_of (arc_value b)) in
-    let there : pairs_of es ++ one ∷ pairs_of rest ≡ pairs_of all =
-    ap (λ (x : ThreadKey). pairs_of es ++ (x, facts_of (arc_value b)) ∷ pairs_of rest) same
-    ∙ (ap (λ (x : StreamInfo). pairs_of es ++ (key_of k, facts_of x) ∷ pairs_of rest) value
-    ∙ (ap (λ l. pairs_of es ++ pairs_of l) (sym next) ∙ whole)) in
+    let there : pairs_of entries ++ one ∷ pairs_of rest ≡ pairs_of all =
+    ap (λ (x : ThreadKey). pairs_of entries ++ (x, facts_of (arc_value b)) ∷ pairs_of rest) same
+    ∙ (ap (λ (x : StreamInfo). pairs_of entries ++ (key_of thread, facts_of x) ∷ pairs_of rest) value
+    ∙ (ap (λ l. pairs_of entries ++ pairs_of l) (sym next) ∙ whole)) in
     let order =
     subst (λ (l : List (ThreadKey × StreamFacts)). is_sorted key_cmp l ≡ true) (sym there)
     (listed-sorted all sorted) in
-    let last = insert-last es copy b (facts_of (arc_value b)) (pairs_of rest) order in
-    let grown : pairs_of fs ≡ pairs_of es ++ one ∷ [] = ap pairs_of (put ∙ last) ∙ listed-push es copy b in
+    let last = insert-last entries copy b (facts_of (arc_value b)) (pairs_of rest) order in
+    let grown : pairs_of after ≡ pairs_of entries ++ one ∷ [] = ap pairs_of (put ∙ last) ∙ listed-push entries copy b in
     ap (λ (l : List (ThreadKey × StreamFacts)). l ++ pairs_of rest) grown
-    ∙ (regrouped (pairs_of es) one (pairs_of rest) ∙ there)
+    ∙ (regrouped (pairs_of entries) one (pairs_of rest) ∙ there)
   where
     regrouped : (xs : List (ThreadKey × StreamFacts)) (x : ThreadKey × StreamFacts) (ys : List (ThreadKey × StreamFacts)) →
         (xs ++ x ∷ []) ++ ys ≡ xs ++ x ∷ ys

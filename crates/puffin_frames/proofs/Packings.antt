@@ -35,10 +35,11 @@ use Rattle.puffin_frames.proofs.PartsTaken.{same_ok}
 use Rattle.puffin_frames.proofs.FormsOfAll.{sorted_in, form_stored}
 
 -- what a frame says goes by its meta and its packing
-pub fields_same : (m n : FrameMeta) (p q : Packing) (ds : List Details) →
-    m ≡ n → p ≡ q →
-    fields_from m p ds ≡ fields_from n q ds
-fields_same m n p q ds metas packings = ap (λ x. fields_from x p ds) metas ∙ ap (λ x. fields_from n x ds) packings
+pub fields_same : (meta n : FrameMeta) (packing q : Packing) (details : List Details) →
+    meta ≡ n → packing ≡ q →
+    fields_from meta packing details ≡ fields_from n q details
+fields_same meta n packing q details metas packings =
+    ap (λ x. fields_from x packing details) metas ∙ ap (λ x. fields_from n x details) packings
 
 -- a frame whose way to be held is replaced by an equal one is the same frame
 pub with_held :
@@ -59,17 +60,20 @@ with_held frame h ordered fits same e =
     })
     same
 
-packing-keeps : (p : Option Packing) (u : Option Streams) → Agree p u → streams_in (packing p u) ≡ either_content p u
-packing-keeps None None h = absurd h
-packing-keeps (Some p) None h = refl
-packing-keeps None (Some m) h = h
-packing-keeps (Some p) (Some m) h = h
+packing-keeps : (packed : Option Packing) (streams : Option Streams) →
+    Agree packed streams →
+    streams_in (packing packed streams) ≡ either_content packed streams
+packing-keeps None None agree = absurd agree
+packing-keeps (Some p) None agree = refl
+packing-keeps None (Some m) agree = agree
+packing-keeps (Some p) (Some m) agree = agree
 
-pub pack-keeps : (h : Holding) → IsHolding h → holding_streams (as_packed h) ≡ holding_streams h
-pack-keeps h agree = packing-keeps h.packed h.unpacked agree
+pub pack-keeps : (holding : Holding) → IsHolding holding → holding_streams (as_packed holding) ≡ holding_streams holding
+pack-keeps holding agree = packing-keeps holding.packed holding.unpacked agree
 
-unpacking-keeps : (p : Option Packing) (u : Option Streams) → either_content p (either_content p u) ≡ either_content p u
-unpacking-keeps p (Some m) = refl
+unpacking-keeps : (packing : Option Packing) (streams : Option Streams) →
+    either_content packing (either_content packing streams) ≡ either_content packing streams
+unpacking-keeps packing (Some m) = refl
 unpacking-keeps None None = refl
 unpacking-keeps (Some p) None = kept (Some p) (streams_in p) refl
   where
@@ -77,8 +81,8 @@ unpacking-keeps (Some p) None = kept (Some p) (streams_in p) refl
     kept q None e = e
     kept q (Some m) e = refl
 
-pub unpack-keeps : (h : Holding) → holding_streams (as_unpacked h) ≡ holding_streams h
-unpack-keeps h = unpacking-keeps h.packed h.unpacked
+pub unpack-keeps : (holding : Holding) → holding_streams (as_unpacked holding) ≡ holding_streams holding
+unpack-keeps holding = unpacking-keeps holding.packed holding.unpacked
 
 -- ---- packed bytes and the streams whose layout they are
 
@@ -93,19 +97,23 @@ uncompressed Uncompressed e = refl
 uncompressed Lz4 e = absurd cc
 uncompressed Zstd e = absurd cc
 
-streams_taken : (p : Packing) (streams : Streams) → IsBytes p.bytes → streams_in p ≡ Some streams → HoldsStreams p streams
-streams_taken p streams is e =
-    let g = cond_option (is_uncompressed p.kind) (option_map from_sorted (whole (streams_at p.form) p.bytes)) streams e in
-    let o = streams_from (whole (streams_at p.form) p.bytes) streams g.1 in
+streams_taken : (packing : Packing) (streams : Streams) →
+    IsBytes packing.bytes → streams_in packing ≡ Some streams →
+    HoldsStreams packing streams
+streams_taken packing streams are_bytes e =
+    let g =
+    cond_option (is_uncompressed packing.kind)
+    (option_map from_sorted (whole (streams_at packing.form) packing.bytes)) streams e in
+    let o = streams_from (whole (streams_at packing.form) packing.bytes) streams g.1 in
     let w =
-    whole_taken (AreStreams p.form) (streams_layout p.form) (streams_at p.form)
-    (streams_reader p.form) p.bytes o.0 is o.1 in
+    whole_taken (AreStreams packing.form) (streams_layout packing.form) (streams_at packing.form)
+    (streams_reader packing.form) packing.bytes o.0 are_bytes o.1 in
     let back : entries streams ≡ o.0 =
-    ap entries (sym o.2) ∙ entries-from_sorted key_cmp o.0 (holds _ (sorted_in p.form o.0 w.0.1)) in (
-      uncompressed p.kind g.0,
-      subst (λ (es : List (ThreadKey × StreamFacts)). AreStreams p.form es) (sym back) w.0,
+    ap entries (sym o.2) ∙ entries-from_sorted key_cmp o.0 (holds _ (sorted_in packing.form o.0 w.0.1)) in (
+      uncompressed packing.kind g.0,
+      subst (λ (es : List (ThreadKey × StreamFacts)). AreStreams packing.form es) (sym back) w.0,
       w.1
-          ∙ ap (streams_layout p.form) (sym back),
+          ∙ ap (streams_layout packing.form) (sym back),
     )
   where
     cond_option : (b : Bool) (o : Option Streams) (streams : Streams) →
@@ -121,15 +129,17 @@ same_packing p streams h =
     ∙ ap (λ (bytes : List ℕ). record { form = p.form; kind = Uncompressed; bytes = bytes }) h.2
     ∙ ap (λ (f : Form). record { form = f; kind = Uncompressed; bytes = streams_layout f (entries streams) }) form
 
-streams_given : (p : Packing) (streams : Streams) → HoldsStreams p streams → streams_in p ≡ Some streams
-streams_given p streams h =
-    let fit = subst (λ (f : Form). AreStreams f (entries streams)) (form_stored p.form (entries streams) h.1) h.1 in
-    ap streams_in (same_packing p streams h) ∙ packed_again streams fit
+streams_given : (packing : Packing) (streams : Streams) → HoldsStreams packing streams → streams_in packing ≡ Some streams
+streams_given packing streams holds_them =
+    let fit =
+    subst (λ (f : Form). AreStreams f (entries streams))
+    (form_stored packing.form (entries streams) holds_them.1) holds_them.1 in
+    ap streams_in (same_packing packing streams holds_them) ∙ packed_again streams fit
 
-pub holds_streams : (p : Packing) (streams : Streams) →
-    IsBytes p.bytes →
-    (streams_in p ≡ Some streams) ↔ HoldsStreams p streams
-holds_streams p streams is = (streams_taken p streams is, streams_given p streams)
+pub holds_streams : (packing : Packing) (streams : Streams) →
+    IsBytes packing.bytes →
+    (streams_in packing ≡ Some streams) ↔ HoldsStreams packing streams
+holds_streams packing streams are_bytes = (streams_taken packing streams are_bytes, streams_given packing streams)
 
 -- ---- what unpacking gives
 
@@ -141,12 +151,14 @@ unpacked_so true kind (Some x) streams e = ap Some (same_ok x streams e)
 unpacked_so false kind o streams e = absurd cc
 
 -- what was unpacked is read again, packed as it is
-pub unpacked-again : (p : Packing) (streams : Streams) → IsBytes p.bytes → unpacking p ≡ Ok streams → AreReadAgain streams
-unpacked-again p streams is e =
+pub unpacked-again : (packing : Packing) (streams : Streams) →
+    IsBytes packing.bytes → unpacking packing ≡ Ok streams →
+    AreReadAgain streams
+unpacked-again packing streams are_bytes e =
     let taken =
-    unpacked_so (is_uncompressed p.kind) (to_byte p.kind)
-    (option_map from_sorted (whole (streams_at p.form) p.bytes)) streams e in
-    ap streams_in (sym (same_packing p streams (streams_taken p streams is taken))) ∙ taken
+    unpacked_so (is_uncompressed packing.kind) (to_byte packing.kind)
+    (option_map from_sorted (whole (streams_at packing.form) packing.bytes)) streams e in
+    ap streams_in (sym (same_packing packing streams (streams_taken packing streams are_bytes taken))) ∙ taken
 
 bad_so : (b : Bool) (kind : ℕ) (o : Option Streams) (streams : Streams) →
     cond b (or_bad o) (Err (file.Compressed kind)) ≡ Err file.BadStreams → cond b o None ≡ Some streams →
@@ -162,7 +174,9 @@ one_answer true o cause streams e = ap or_bad (sym e)
 one_answer false o cause streams e = absurd cc
 
 -- a frame that is held unpacked has the streams in its packet
-unpacks : (p : Option Packing) (u : Option Streams) → Agree p u → unpacked_of p u ≡ unpacking (packing p u)
+unpacks : (packed : Option Packing) (streams : Option Streams) →
+    Agree packed streams →
+    unpacked_of packed streams ≡ unpacking (packing packed streams)
 unpacks None None agree = absurd agree
 unpacks (Some p) None agree = refl
 unpacks None (Some streams) agree = ap or_bad (sym agree)
@@ -170,13 +184,13 @@ unpacks (Some p) (Some streams) agree =
     one_answer (is_uncompressed p.kind) (option_map from_sorted (whole (streams_at p.form) p.bytes))
     (file.Compressed (to_byte p.kind)) streams agree
 
-pub unpacks_packing : (h : Holding) → IsHolding h → unpacked_from h ≡ unpacking (packing_of h)
-unpacks_packing h agree = unpacks h.packed h.unpacked agree
+pub unpacks_packing : (holding : Holding) → IsHolding holding → unpacked_from holding ≡ unpacking (packing_of holding)
+unpacks_packing holding agree = unpacks holding.packed holding.unpacked agree
 
 -- the streams that are handed out are those whose layout the packed bytes are
-layout_of : (h : Held) (streams : Streams) →
-    unpacked_from (held_as h) ≡ Ok streams →
-    IfSome (held_as h).packed (λ p. HoldsStreams p streams)
+layout_of : (held : Held) (streams : Streams) →
+    unpacked_from (held_as held) ≡ Ok streams →
+    IfSome (held_as held).packed (λ p. HoldsStreams p streams)
 layout_of (Own u) streams e = tt
 layout_of (Shared u) streams e = tt
 layout_of (Packed p) streams e =
@@ -185,15 +199,15 @@ layout_of (Packed p) streams e =
 layout_of (Both b) streams e =
     streams_taken (packed_as b.packed) streams b.packed.are_bytes (b.same ∙ ap Some (same_ok _ streams e))
 
-pub unpacked_layout : {X : Type 0} (view : X → Streams) (h : Held) (r : Result X FileError) →
-    DecidedInMemory view r (unpacked_from (held_as h)) →
-    IfOk r (λ x. IfSome (held_as h).packed (λ p. HoldsStreams p (view x)))
-unpacked_layout view h (Ok x) d = layout_of h (view x) d
-unpacked_layout view h (Err e) d = tt
+pub unpacked_layout : {X : Type 0} (view : X → Streams) (held : Held) (r : Result X FileError) →
+    DecidedInMemory view r (unpacked_from (held_as held)) →
+    IfOk r (λ x. IfSome (held_as held).packed (λ p. HoldsStreams p (view x)))
+unpacked_layout view held (Ok x) decided = layout_of held (view x) decided
+unpacked_layout view held (Err e) decided = tt
 
-bad_of : (h : Held) →
-    unpacked_from (held_as h) ≡ Err file.BadStreams →
-    IfSome (held_as h).packed (λ p. (streams : Streams) → HoldsStreams p streams → ⊥)
+bad_of : (held : Held) →
+    unpacked_from (held_as held) ≡ Err file.BadStreams →
+    IfSome (held_as held).packed (λ p. (streams : Streams) → HoldsStreams p streams → ⊥)
 bad_of (Own u) e = tt
 bad_of (Shared u) e = tt
 bad_of (Packed p) e = λ streams held.
@@ -201,8 +215,8 @@ bad_of (Packed p) e = λ streams held.
     bad_so (is_uncompressed p.kind) (to_byte p.kind) o streams e (streams_given (packed_as p) streams held)
 bad_of (Both b) e = absurd cc
 
-pub unpacked_no_layout : {X : Type 0} (view : X → Streams) (h : Held) (r : Result X FileError) →
-    DecidedInMemory view r (unpacked_from (held_as h)) → r ≡ Err file.BadStreams →
-    IfSome (held_as h).packed (λ p. (streams : Streams) → HoldsStreams p streams → ⊥)
-unpacked_no_layout view h r d e =
-    bad_of h (subst (λ (x : Result _ FileError). DecidedInMemory view x (unpacked_from (held_as h))) e d)
+pub unpacked_no_layout : {X : Type 0} (view : X → Streams) (held : Held) (r : Result X FileError) →
+    DecidedInMemory view r (unpacked_from (held_as held)) → r ≡ Err file.BadStreams →
+    IfSome (held_as held).packed (λ p. (streams : Streams) → HoldsStreams p streams → ⊥)
+unpacked_no_layout view held r decided e =
+    bad_of held (subst (λ (x : Result _ FileError). DecidedInMemory view x (unpacked_from (held_as held))) e decided)

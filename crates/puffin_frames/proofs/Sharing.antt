@@ -38,17 +38,17 @@ insert_last {cmp = cmp} total (e ∷ es) k v rest sorted =
     ap (λ r. match_ordering r ((k, v) ∷ e ∷ es) ((e.0, v) ∷ es) (e ∷ insert_entry cmp es k v)) above
     ∙ ap (λ l. e ∷ l) (insert_last total es k v rest (sorted_tail cmp e.0 _ sorted))
 
-keys_of-unshared : {A : Type 0} (es : List (ThreadInfo × Arc StreamInfo A)) (k : ThreadInfo) (info : StreamInfo)
+keys_of-unshared : {A : Type 0} (entries : List (ThreadInfo × Arc StreamInfo A)) (thread : ThreadInfo) (info : StreamInfo)
     (rest : List (ThreadInfo × StreamInfo)) →
-    keys_of (without_sharing es ++ (k, info) ∷ rest) ≡ keys_of es ++ k ∷ keys_of rest
-keys_of-unshared [] k info rest = refl
-keys_of-unshared (e ∷ es) k info rest = ap (λ l. e.0 ∷ l) (keys_of-unshared es k info rest)
+    keys_of (without_sharing entries ++ (thread, info) ∷ rest) ≡ keys_of entries ++ thread ∷ keys_of rest
+keys_of-unshared [] thread info rest = refl
+keys_of-unshared (e ∷ es) thread info rest = ap (λ l. e.0 ∷ l) (keys_of-unshared es thread info rest)
 
-unshared-last : {A : Type 0} (es : List (ThreadInfo × Arc StreamInfo A)) (k : ThreadInfo) (arc : Arc StreamInfo A)
+unshared-last : {A : Type 0} (entries : List (ThreadInfo × Arc StreamInfo A)) (thread : ThreadInfo) (arc : Arc StreamInfo A)
     (rest : List (ThreadInfo × StreamInfo)) →
-    without_sharing (es ++ (k, arc) ∷ []) ++ rest ≡ without_sharing es ++ (k, arc_value arc) ∷ rest
-unshared-last [] k arc rest = refl
-unshared-last (e ∷ es) k arc rest = ap (λ l. (e.0, arc_value e.1) ∷ l) (unshared-last es k arc rest)
+    without_sharing (entries ++ (thread, arc) ∷ []) ++ rest ≡ without_sharing entries ++ (thread, arc_value arc) ∷ rest
+unshared-last [] thread arc rest = refl
+unshared-last (e ∷ es) thread arc rest = ap (λ l. (e.0, arc_value e.1) ∷ l) (unshared-last es thread arc rest)
 
 -- what is shared so far, with what is left, is what there was, in order
 pub record SharesInOrder {A : Type 0} (es : List (ThreadInfo × Arc StreamInfo A))
@@ -57,28 +57,29 @@ pub record SharesInOrder {A : Type 0} (es : List (ThreadInfo × Arc StreamInfo A
   pub sorted : IsStrictlySortedBy thread_cmp (keys_of all)
   pub fit : AllByRecursion (λ (e : ThreadKey × StreamFacts). IsThreadKey e.0 × AreCounts e.1) (pairs_of es)
 
-pub one_more : {A : Type 0} (es fs : List (ThreadInfo × Arc StreamInfo A)) (k : ThreadInfo) (info : StreamInfo)
+pub one_more : {A : Type 0} (entries after : List (ThreadInfo × Arc StreamInfo A)) (k : ThreadInfo) (info : StreamInfo)
     (arc : Arc StreamInfo A) (left rest all : List (ThreadInfo × StreamInfo)) →
-    SharesInOrder es left all → left ≡ (k, info) ∷ rest → arc_value arc ≡ info → fs ≡ insert_entry thread_cmp es k arc →
-    IsThreadKey (key_of k) → AreCounts (facts_of info) →
-    SharesInOrder fs rest all
-one_more es fs k info arc left rest all h next same put thread counts =
-    let whole : without_sharing es ++ (k, info) ∷ rest ≡ all = ap (λ l. without_sharing es ++ l) (sym next) ∙ h.whole in
+    SharesInOrder entries left all → left ≡ (k, info) ∷ rest → arc_value arc ≡ info →
+    after ≡ insert_entry thread_cmp entries k arc → IsThreadKey (key_of k) → AreCounts (facts_of info) →
+    SharesInOrder after rest all
+one_more entries after k info arc left rest all so_far next same put thread counts =
+    let whole : without_sharing entries ++ (k, info) ∷ rest ≡ all =
+    ap (λ l. without_sharing entries ++ l) (sym next) ∙ so_far.whole in
     let sorted =
     subst (λ (ks : List ThreadInfo). IsStrictlySortedBy thread_cmp ks)
-    (ap keys_of (sym whole) ∙ keys_of-unshared es k info rest) h.sorted in
-    let last = insert_last thread_cmp_total es k arc (keys_of rest) sorted in
+    (ap keys_of (sym whole) ∙ keys_of-unshared entries k info rest) so_far.sorted in
+    let last = insert_last thread_cmp_total entries k arc (keys_of rest) sorted in
     record {
       whole =
           ap (λ l. without_sharing l ++ rest) (put ∙ last)
-          ∙ unshared-last es k arc rest
-          ∙ ap (λ x. without_sharing es ++ (k, x) ∷ rest) same
+          ∙ unshared-last entries k arc rest
+          ∙ ap (λ x. without_sharing entries ++ (k, x) ∷ rest) same
           ∙ whole;
-      sorted = h.sorted;
+      sorted = so_far.sorted;
       fit =
           subst (λ (xs : List (ThreadKey × StreamFacts)). AllByRecursion Fits xs)
-          (sym (ap pairs_of (put ∙ last) ∙ listed-push es k arc))
-          (all_one Fits (pairs_of es) (key_of k, facts_of (arc_value arc)) h.fit
+          (sym (ap pairs_of (put ∙ last) ∙ listed-push entries k arc))
+          (all_one Fits (pairs_of entries) (key_of k, facts_of (arc_value arc)) so_far.fit
           (thread, subst (λ (x : StreamInfo). AreCounts (facts_of x)) (sym same) counts));
     }
   where

@@ -28,17 +28,18 @@ use Rattle.puffin_threads.specs.Details.Collection.{ids_seen, by_ids}
 use Rattle.puffin_frames.proofs.Listed.{and-both, entries-sorted_list, no_entries}
 
 pub beginning_more : (old new : Option (List ℕ)) (a b : List ℕ) → WritesBeginning old new a → WritesBeginning old new (a ++ b)
-beginning_more old new a b h = (h.0, h.1 ++ b, ap (λ (t : List ℕ). t ++ b) h.2 ∙ append_assoc h.0 h.1 b, h.3)
+beginning_more old new a b begins =
+    (begins.0, begins.1 ++ b, ap (λ (t : List ℕ). t ++ b) begins.2 ∙ append_assoc begins.0 begins.1 b, begins.3)
 
 pub beginning_after : (old mid new : Option (List ℕ)) (a b : List ℕ) →
     Appends old mid a → WritesBeginning mid new b →
     WritesBeginning old new (a ++ b)
-beginning_after old mid new a b first h = (
-  a ++ h.0,
-  h.1,
-  ap (λ (t : List ℕ). a ++ t) h.2
-      ∙ sym (append_assoc a h.0 h.1),
-  Appends-trans old mid new a h.0 first h.3,
+beginning_after old mid new a b first begins = (
+  a ++ begins.0,
+  begins.1,
+  ap (λ (t : List ℕ). a ++ t) begins.2
+      ∙ sym (append_assoc a begins.0 begins.1),
+  Appends-trans old mid new a begins.0 first begins.3,
 )
 
 pub begun_if : {X P Q : Type 0} (r : Result X FileError) → (P → Q) → OnErr r P → IfErr r (λ e. e ≡ file.Io → Q)
@@ -87,11 +88,12 @@ sum_short a b c d e f g h i j =
       length-append d e,
     )
 
-pub meta_short : (m : FrameMeta) → length (meta_layout m) < 2 ^ 32
-meta_short m =
-    sum_short (number m.frame_index) (signed m.range_ns.0) (signed m.range_ns.1) (number m.num_bytes) (number m.num_scopes)
-    (number_short m.frame_index) (number_short (zigzag m.range_ns.0)) (number_short (zigzag m.range_ns.1))
-    (number_short m.num_bytes) (number_short m.num_scopes)
+pub meta_short : (meta : FrameMeta) → length (meta_layout meta) < 2 ^ 32
+meta_short meta =
+    sum_short (number meta.frame_index) (signed meta.range_ns.0) (signed meta.range_ns.1) (number meta.num_bytes)
+    (number meta.num_scopes)
+    (number_short meta.frame_index) (number_short (zigzag meta.range_ns.0)) (number_short (zigzag meta.range_ns.1))
+    (number_short meta.num_bytes) (number_short meta.num_scopes)
 
 -- ---- a range that a frame may have
 
@@ -108,9 +110,9 @@ ids_sorted (e ∷ es) sorted =
     ids_below : {A : Type 0} (x : ℕ) (es : List (ℕ × Arc ScopeDetails A)) →
         AllByRecursion (λ y. nat_cmp x y ≡ Less) (keys_of es) →
         below_all nat_cmp x (ids_seen es) ≡ true
-    ids_below x [] h = refl
-    ids_below x (e ∷ es) h =
-        and-both (is_lt (nat_cmp x e.0)) (below_all nat_cmp x (ids_seen es)) (ap is_lt h.0) (ids_below x es h.1)
+    ids_below x [] all_so = refl
+    ids_below x (e ∷ es) all_so =
+        and-both (is_lt (nat_cmp x e.0)) (below_all nat_cmp x (ids_seen es)) (ap is_lt all_so.0) (ids_below x es all_so.1)
 
 values_seen : {A : Type 0} (es : List (ℕ × Arc ScopeDetails A)) → map (λ e. e.1) (ids_seen es) ≡ shared_details (values_of es)
 values_seen [] = refl

@@ -27,7 +27,8 @@ pub record Begins (state next : Inside) (id : ℕ) (text : List ℕ) (at : ℤ) 
   pub id_high : id < 2 ^ 32
   pub stored : length text ≤ stored_limit state.info.stream.form
   pub text_bytes : All (λ b. b < 256) text
-  pub bytes : next.info.stream.bytes ≡ state.info.stream.bytes ++ begin_bytes state.info.stream.form id at text state.innermost
+  pub bytes :
+      next.info.stream.bytes ≡ state.info.stream.bytes ++ begin_bytes state.info.stream.form id at text state.innermost
   pub offset_is : offset + 8 ≡ length next.info.stream.bytes
   pub num_open : next.num_open ≡ state.num_open + 1
   pub innermost : next.innermost ≡ offset
@@ -38,6 +39,7 @@ pub record Begins (state next : Inside) (id : ℕ) (text : List ℕ) (at : ℤ) 
   pub supplied : IsSupplied next.supply next.info.stream
   pub spare : spare_name next ≡ Some (string_bytes next.name)
 
+-- the offset at which the size of the new scope stands
 pub offset_in : (state : Inside) (id : ℕ) (text : List ℕ) (at : ℤ) (offset : ℕ) →
     IsThreadState state →
     (next : List ℕ) →
@@ -54,6 +56,7 @@ offset_in state id text at offset valid next e is =
       size_held state.info.stream.form state.info.stream.bytes state.latest (holds_in state valid),
     )
 
+-- the bytes then hold the scopes of one event more
 pub begun_goes : (state next : Inside) (id : ℕ) (text : List ℕ) (at : ℤ) (offset : ℕ) →
     IsThreadState state → Begins state next id text at offset →
     Goes state.info.stream.form state.info.stream.bytes next.info.stream.bytes at (Open id text at)
@@ -65,6 +68,7 @@ begun_goes state next id text at offset valid begins =
     (omega (arith, ints)) begins.fits begins.id_low begins.id_high begins.stored begins.text_bytes valid.innermost
     begins.bytes
 
+-- the state is as valid as before
 pub begun_in : (state next : Inside) (id : ℕ) (text : List ℕ) (at : ℤ) (offset : ℕ) →
     IsThreadState state → Begins state next id text at offset →
     IsThreadState next

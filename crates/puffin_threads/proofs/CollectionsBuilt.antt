@@ -31,21 +31,22 @@ same_id : (i id : ℕ) → nat_eq i id ≡ true → i ≡ id
 same_id i id e = nat_cmp-IsAntisymmetric i id ((Equal-is (nat_cmp i id)).0 (sym (unsigned_ties i id) ∙ e))
 
 -- what is there stays, and what isn't comes
-kept_at : (b : Bool) (kept details : Details) (o : Option Details) →
-    (b ≡ true → o ≡ Some kept) →
-    o ≡ option_or o (cond b (Some details) None)
-kept_at true kept details o there = there refl ∙ ap (λ (p : Option Details). option_or p (Some details)) (sym (there refl))
-kept_at false kept details o there = sym (or_none o)
+kept_at : (b : Bool) (kept details : Details) (found : Option Details) →
+    (b ≡ true → found ≡ Some kept) →
+    found ≡ option_or found (cond b (Some details) None)
+kept_at true kept details found there =
+    there refl ∙ ap (λ (p : Option Details). option_or p (Some details)) (sym (there refl))
+kept_at false kept details found there = sym (or_none found)
 
-fresh_at : (b : Bool) (details : Details) (o : Option Details) →
-    (b ≡ true → o ≡ None) →
-    cond b (Some details) o ≡ option_or o (cond b (Some details) None)
-fresh_at true details o none = sym (ap (λ (p : Option Details). option_or p (Some details)) (none refl))
-fresh_at false details o none = sym (or_none o)
+fresh_at : (b : Bool) (details : Details) (found : Option Details) →
+    (b ≡ true → found ≡ None) →
+    cond b (Some details) found ≡ option_or found (cond b (Some details) None)
+fresh_at true details found none = sym (ap (λ (p : Option Details). option_or p (Some details)) (none refl))
+fresh_at false details found none = sym (or_none found)
 
-put_at : (collection : Collection) (details : Details) (i id : ℕ) (o : Option Details) →
-    get collection.by_id i ≡ o →
-    get (kept_or o collection.by_id i details) id
+put_at : (collection : Collection) (details : Details) (i id : ℕ) (found : Option Details) →
+    get collection.by_id i ≡ found →
+    get (kept_or found collection.by_id i details) id
     ≡ option_or (get collection.by_id id) (cond (nat_eq i id) (Some details) None)
 put_at collection details i id (Some kept) is =
     kept_at (nat_eq i id) kept details (get collection.by_id id)
@@ -65,12 +66,12 @@ one_by_id collection details (Some i) id = put_at collection details i id (get c
 first_from : (details : List Details) (collection : Collection) (id : ℕ) →
     get (with_all_details collection details).by_id id ≡ option_or (get collection.by_id id) (first_with_id id details)
 first_from [] collection id = sym (or_none (get collection.by_id id))
-first_from (d ∷ ds) collection id =
-    let b = option_eq nat_eq d.id (Some id) in
-    first_from ds (with_details collection d) id
-    ∙ ap (λ o. option_or o (first_with_id id ds)) (one_by_id collection d d.id id)
-    ∙ or_assoc (get collection.by_id id) (cond b (Some d) None) (first_with_id id ds)
-    ∙ ap (option_or (get collection.by_id id)) (sym (or_test b d (first_with_id id ds)))
+first_from (one ∷ others) collection id =
+    let b = option_eq nat_eq one.id (Some id) in
+    first_from others (with_details collection one) id
+    ∙ ap (λ o. option_or o (first_with_id id others)) (one_by_id collection one one.id id)
+    ∙ or_assoc (get collection.by_id id) (cond b (Some one) None) (first_with_id id others)
+    ∙ ap (option_or (get collection.by_id id)) (sym (or_test b one (first_with_id id others)))
 
 pub first_in : (details : List Details) (id : ℕ) →
     get (with_all_details no_details details).by_id id ≡ first_with_id id details
@@ -96,9 +97,10 @@ last_from : (details : List Details) (collection : Collection) (name : List ℕ)
     get (with_all_details collection details).by_name name
     ≡ option_or (last_id_of name details) (get collection.by_name name)
 last_from [] collection name = refl
-last_from (d ∷ ds) collection name =
-    last_from ds (with_details collection d) name ∙ ap (option_or (last_id_of name ds)) (one_by_name collection d d.id name)
-    ∙ sym (or_assoc (last_id_of name ds) (id_under name d) (get collection.by_name name))
+last_from (one ∷ others) collection name =
+    last_from others (with_details collection one) name
+    ∙ ap (option_or (last_id_of name others)) (one_by_name collection one one.id name)
+    ∙ sym (or_assoc (last_id_of name others) (id_under name one) (get collection.by_name name))
 
 pub last_in : (details : List Details) (name : List ℕ) →
     get (with_all_details no_details details).by_name name ≡ last_id_of name details

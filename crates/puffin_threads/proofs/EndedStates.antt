@@ -23,6 +23,7 @@ use Rattle.puffin_threads.proofs.FirstStarts.{closed_first, or_again, closed_in_
 use Rattle.puffin_threads.proofs.RecordedScopes.{start_held, Goes, length-open_offsets, size_held, ends_held, place_held, around_held, closed_held, offsets_closed}
 use Rattle.puffin_threads.proofs.ThreadStates.{same_thread, word_of, places_of, holds_in, places_in, first_more, in_own_form, some_more, stays_supplied}
 
+-- where the thread has an open scope, the state counts one
 pub some_open : (state : Inside) (thread : Thread) →
     IsThreadState state → thread_in state ≡ thread → 0 < open_after 0 thread.word →
     0 < state.num_open
@@ -30,9 +31,9 @@ some_open state thread valid e some = omega (arith, valid.num_open, ap (λ (x : 
 
 -- a thread with these bytes in this form and this latest time
 abbrev with_bytes : Inside → Form → List ℕ → ℤ → Thread
-with_bytes r form bytes at = record (thread_in r) {
+with_bytes state form bytes at = record (thread_in state) {
   form = form;
-  first_start = option_or r.first_start (first_open (events_in form bytes));
+  first_start = option_or state.first_start (first_open (events_in form bytes));
   latest = at;
   word = events_in form bytes;
 }
@@ -54,6 +55,7 @@ pub record Ends (state next : Inside) (at : ℤ) : Type 0 where
   pub supplied : IsSupplied next.supply state.info.stream
   pub spare : (name : List ℕ) → spare_name next ≡ Some name → name ≡ string_bytes next.name
 
+-- the first offset is the one that is kept as the innermost
 places_more : (state : Inside) →
     IsThreadState state → 0 < state.num_open →
     places_of state ≡ state.innermost ∷ drop 1 (places_of state)
@@ -61,6 +63,7 @@ places_more state valid more =
     let places = places_of state in
     first_more places (omega (arith, places_in state valid, more)) ∙ ap (λ (n : ℕ). n ∷ drop 1 places) (sym valid.innermost)
 
+-- the size of the innermost scope stands within the bytes
 pub place_in : (state : Inside) →
     IsThreadState state → 0 < state.num_open →
     state.innermost + 8 ≤ length state.info.stream.bytes
@@ -68,6 +71,7 @@ place_in state valid more =
     place_held state.info.stream.form state.info.stream.bytes state.latest state.innermost _ (holds_in state valid)
     (places_more state valid more)
 
+-- the bytes then hold the scopes of one event more
 pub ended_goes : (state : Inside) (bytes : List ℕ) (at : ℤ) →
     IsThreadState state → state.latest ≤ℤ at → FitsSigned w64 at → 0 < state.num_open →
     bytes ≡ ended_bytes state.info.stream.bytes state.innermost at →
@@ -77,6 +81,7 @@ ended_goes state bytes at valid later fits more e =
     (holds_in state valid) later fits
     (places_more state valid more) e
 
+-- the state is as valid as before
 pub ended_in : (state next : Inside) (at : ℤ) → IsThreadState state → Ends state next at → IsThreadState next
 ended_in state next at valid ends =
     let form = state.info.stream.form in
@@ -151,8 +156,9 @@ ended_thread state form bytes at now valid same fits time more e =
     ∙ ap (λ (t : ℤ). word_of state ++ (Close t ∷ [])) time in
     same_thread _ _ refl same (closed_first state.first_start _ _ _ word) time word refl
 
--- all scopes are closed
+-- ---- all scopes are closed
 
+-- the first start, from the stream's bytes
 pub first_in : (state : Inside) →
     IsThreadState state →
     option_or state.first_start (start_in state.info.stream.bytes) ≡ (thread_in state).first_start
@@ -160,6 +166,7 @@ first_in state valid =
     ap (option_or state.first_start) (start_held state.info.stream.form state.info.stream.bytes state.latest
     (holds_in state valid))
 
+-- it stays the same once it is kept apart from the bytes
 pub told_first : (state : Inside) →
     IsThreadState state →
     option_or (option_or state.first_start (start_in state.info.stream.bytes)) (first_open (word_of state))
@@ -168,6 +175,7 @@ told_first state valid =
     let word = word_of state in
     ap (λ (x : Option ℤ). option_or x (first_open word)) (first_in state valid) ∙ or_again state.first_start (first_open word)
 
+-- once all scopes have ended, the completed info is a record of the thread's word
 pub report_in : (state : Inside) (info : StreamInfo) →
     IsThreadState state → open_after 0 (word_of state) ≡ 0 → info ≡ completed_info state.info state.latest →
     IsReportOf (thread_in state) (facts_of info)
@@ -197,6 +205,7 @@ report_in state info valid none is =
       };
     })
 
+-- and the state with that info is as valid as before
 pub completed_in : (state : Inside) (info : StreamInfo) (first : Option ℤ) →
     IsThreadState state → info ≡ completed_info state.info state.latest →
     IsThreadState (record state { info = info; first_start = first })

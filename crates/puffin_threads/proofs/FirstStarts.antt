@@ -14,7 +14,9 @@ use Rattle.puffin_threads.specs.inner.FirstStart.{first_open, start_in, range_un
 use Rattle.puffin_threads.specs.inner.StoredThread.{AreOpenBy, IsInOrder}
 use Rattle.puffin_threads.proofs.lemmas.Events.{start_there, append_none, regroup_node, regroup_opened}
 
-pub or_none : (o : Option ℤ) → option_or o None ≡ o
+-- laws of the first of several starts
+
+pub or_none : (start : Option ℤ) → option_or start None ≡ start
 or_none None = refl
 or_none (Some t) = refl
 
@@ -38,47 +40,52 @@ first_open-append [] v = refl
 first_open-append (Open id text start ∷ u) v = refl
 first_open-append (Close stop ∷ u) v = first_open-append u v
 
+-- a word in which no scope opens has no start, which counts as the greatest number
 none_opened : (word : List Event) → first_open word ≡ None → least_open word ≡ pos (2 ^ 63 - 1)
 none_opened [] e = refl
-none_opened (Open id text start ∷ w) e = cc
-none_opened (Close stop ∷ w) e = none_opened w e
+none_opened (Open id text start ∷ word) e = cc
+none_opened (Close stop ∷ word) e = none_opened word e
 
 module _ (form : Form) where
+  -- the start at the front of a forest's bytes is the first one of its tour
   forest_start : (forest : Forest) →
       IsForest form forest →
       (more : List ℕ) →
       start_in (spelling form forest ++ more) ≡ option_or (first_open (tour forest)) (start_in more)
   forest_start empty written more = refl
-  forest_start (node s children others) written more =
-      start_there form s.id (length (spelling form children)) s.start s.text _ _ written.0.start
-      (regroup_node (begin_bytes form s.id s.start s.text (length (spelling form children))) (spelling form children)
-      (end_bytes s.stop) (spelling form others) more)
+  forest_start (node span children others) written more =
+      start_there form span.id (length (spelling form children)) span.start span.text _ _ written.0.start
+      (regroup_node (begin_bytes form span.id span.start span.text (length (spelling form children))) (spelling form children)
+      (end_bytes span.stop) (spelling form others) more)
 
+  -- the same of the bytes of open scopes
   opening_start : (latest : ℤ) (opened : List Opened) →
       AreOpenBy form latest opened →
       (more : List ℕ) →
       start_in (opening_bytes form opened ++ more) ≡ option_or (first_open (opening_word opened)) (start_in more)
   opening_start latest [] started more = refl
-  opening_start latest (o ∷ outer) started more =
-      let begin = begin_bytes form o.id o.start o.text o.size in
-      ap start_in (regroup_opened (opening_bytes form outer) (spelling form o.before) begin more)
-      ∙ opening_start latest outer started.4 (spelling form o.before ++ (begin ++ more))
+  opening_start latest (scope ∷ outer) started more =
+      let begin = begin_bytes form scope.id scope.start scope.text scope.size in
+      ap start_in (regroup_opened (opening_bytes form outer) (spelling form scope.before) begin more)
+      ∙ opening_start latest outer started.4 (spelling form scope.before ++ (begin ++ more))
       ∙ ap (option_or (first_open (opening_word outer)))
-      (forest_start o.before started.0.before (begin ++ more)
-      ∙ ap (option_or (first_open (tour o.before))) (start_there form o.id o.size o.start o.text more _ started.0.start refl))
-      ∙ sym (some_or (first_open (opening_word outer)) (first_open (tour o.before)) o.start (start_in more))
+      (forest_start scope.before started.0.before (begin ++ more)
+      ∙ ap (option_or (first_open (tour scope.before)))
+      (start_there form scope.id scope.size scope.start scope.text more _ started.0.start refl))
+      ∙ sym (some_or (first_open (opening_word outer)) (first_open (tour scope.before)) scope.start (start_in more))
       ∙ ap (λ (x : Option ℤ). option_or x (start_in more))
-      (sym (first_open-append (opening_word outer) (tour o.before ++ (Open o.id o.text o.start ∷ []))
+      (sym (first_open-append (opening_word outer) (tour scope.before ++ (Open scope.id scope.text scope.start ∷ []))
       ∙ ap (option_or (first_open (opening_word outer)))
-      (first_open-append (tour o.before) (Open o.id o.text o.start ∷ []))))
+      (first_open-append (tour scope.before) (Open scope.id scope.text scope.start ∷ []))))
 
+  -- and of open scopes followed by closed ones
   pub open_start : (latest : ℤ) (opened : List Opened) (closed : Forest) →
       AreOpenBy form latest opened → IsForest form closed →
       start_in (open_spelling form opened closed) ≡ first_open (open_word opened closed)
-  open_start latest opened closed ho hc =
-      opening_start latest opened ho (spelling form closed)
+  open_start latest opened closed started written =
+      opening_start latest opened started (spelling form closed)
       ∙ ap (option_or (first_open (opening_word opened)))
-      (ap start_in (sym (append_none (spelling form closed))) ∙ forest_start closed hc []
+      (ap start_in (sym (append_none (spelling form closed))) ∙ forest_start closed written []
       ∙ or_none (first_open (tour closed)))
       ∙ sym (first_open-append (opening_word opened) (tour closed))
 
@@ -96,11 +103,12 @@ kept_least start latest at early later = omega (arith, ints, clamps)
 raised : (stop latest at : ℤ) → stop ≤ℤ latest → latest ≤ℤ at → int_max stop at ≡ at
 raised stop latest at early later = omega (arith, ints, clamps)
 
+-- the first start stays the least one when a scope opens
 opened_least : (word : List Event) (latest at : ℤ) (id : ℕ) (text : List ℕ) →
     latest ≤ℤ at → FitsSigned w64 at →
-    (o : Option ℤ) →
-    first_open word ≡ o → IfSome o (λ start. (least_open word ≡ start) × (start ≤ℤ latest)) →
-    IfSome (option_or o (Some at)) (λ start. (least_open (word ++ (Open id text at ∷ [])) ≡ start) × (start ≤ℤ at))
+    (found : Option ℤ) →
+    first_open word ≡ found → IfSome found (λ start. (least_open word ≡ start) × (start ≤ℤ latest)) →
+    IfSome (option_or found (Some at)) (λ start. (least_open (word ++ (Open id text at ∷ [])) ≡ start) × (start ≤ℤ at))
 opened_least word latest at id text later fits None e h = (
   least_open-opened word id text at fits ∙ ap (λ (t : ℤ). int_min t at) (none_opened word e)
       ∙ below at fits,
@@ -124,11 +132,12 @@ opened_in_order word latest at id text later fits more in_order = record {
   last = λ none _. absurd (more none);
 }
 
+-- and when one closes
 closed_least : (word : List Event) (latest at : ℤ) →
     latest ≤ℤ at →
-    (o : Option ℤ) →
-    IfSome o (λ start. (least_open word ≡ start) × (start ≤ℤ latest)) →
-    IfSome o (λ start. (least_open (word ++ (Close at ∷ [])) ≡ start) × (start ≤ℤ at))
+    (found : Option ℤ) →
+    IfSome found (λ start. (least_open word ≡ start) × (start ≤ℤ latest)) →
+    IfSome found (λ start. (least_open (word ++ (Close at ∷ [])) ≡ start) × (start ≤ℤ at))
 closed_least word latest at later None h = tt
 closed_least word latest at later (Some start) h = (least_open-kept word at ∙ h.0, let low = h.1 in omega (arith, ints))
 
@@ -169,6 +178,6 @@ pub ended_range : (forest : Forest) (latest : ℤ) (range : ℤ × ℤ) →
     (tour forest ≡ [] → range ≡ (least_open [], greatest_close [])) →
     range_until (first_open (tour forest)) latest range ≡ (least_open (tour forest), greatest_close (tour forest))
 ended_range empty latest range in_order none e = e refl
-ended_range (node s c o) latest range in_order none e =
+ended_range (node span children others) latest range in_order none e =
     let stop = in_order.last none (λ is. cc is) in
     λ i. (sym in_order.least.0 i, sym stop i)

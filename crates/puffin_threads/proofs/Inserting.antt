@@ -16,45 +16,46 @@ use Rattle.puffin_threads.proofs.lemmas.EntriesSeen.{get-seen, insert-seen, writ
 use Rattle.std.proofs.lemmas.Option.{same_Some, none-some}
 
 module _ {A : Type 0} where
-  pub get-by_ids : (es : List (ℕ × Arc ScopeDetails A)) (q : ℕ) →
-      get (by_ids es) q ≡ option_map (λ d. details_of (arc_value d)) (lookup (is_at (nat_cmp q)) es)
-  get-by_ids es q = get-seen (λ k. k) (λ d. details_of (arc_value d)) nat_cmp nat_cmp_total es q
+  pub get-by_ids : (entries : List (ℕ × Arc ScopeDetails A)) (q : ℕ) →
+      get (by_ids entries) q ≡ option_map (λ d. details_of (arc_value d)) (lookup (is_at (nat_cmp q)) entries)
+  get-by_ids entries q = get-seen (λ k. k) (λ d. details_of (arc_value d)) nat_cmp nat_cmp_total entries q
 
-  pub by_ids-insert : (es : List (ℕ × Arc ScopeDetails A)) (k : ℕ) (d : Arc ScopeDetails A) →
-      by_ids (insert_entry nat_cmp es k d) ≡ insert (by_ids es) k (details_of (arc_value d))
-  by_ids-insert es k d =
-      insert-seen (λ k. k) (λ d. details_of (arc_value d)) nat_cmp nat_cmp_total nat_cmp-IsAntisymmetric es k d
+  pub by_ids-insert : (entries : List (ℕ × Arc ScopeDetails A)) (k : ℕ) (details : Arc ScopeDetails A) →
+      by_ids (insert_entry nat_cmp entries k details) ≡ insert (by_ids entries) k (details_of (arc_value details))
+  by_ids-insert entries k details =
+      insert-seen (λ k. k) (λ details. details_of (arc_value details)) nat_cmp nat_cmp_total nat_cmp-IsAntisymmetric
+      entries k details
 
-  pub get-by_names : (es : List (String A × ℕ)) (q : List ℕ) →
-      get (by_names es) q ≡ lookup (is_at (λ k. bytes_cmp q (string_bytes k))) es
-  get-by_names es q =
-      get-seen (λ k. string_bytes k) (λ n. n) bytes_cmp nat_list_cmp_total es q
-      ∙ same (lookup (is_at (λ k. bytes_cmp q (string_bytes k))) es)
+  pub get-by_names : (entries : List (String A × ℕ)) (q : List ℕ) →
+      get (by_names entries) q ≡ lookup (is_at (λ k. bytes_cmp q (string_bytes k))) entries
+  get-by_names entries q =
+      get-seen (λ k. string_bytes k) (λ n. n) bytes_cmp nat_list_cmp_total entries q
+      ∙ same (lookup (is_at (λ k. bytes_cmp q (string_bytes k))) entries)
     where
       same : (o : Option ℕ) → option_map (λ n. n) o ≡ o
       same None = refl
       same (Some n) = refl
 
-  pub by_names-insert : (es : List (String A × ℕ)) (k : String A) (n : ℕ) →
-      by_names (insert_entry (λ a b. bytes_cmp (string_bytes a) (string_bytes b)) es k n)
-      ≡ insert (by_names es) (string_bytes k) n
-  by_names-insert es k n =
+  pub by_names-insert : (entries : List (String A × ℕ)) (k : String A) (n : ℕ) →
+      by_names (insert_entry (λ a b. bytes_cmp (string_bytes a) (string_bytes b)) entries k n)
+      ≡ insert (by_names entries) (string_bytes k) n
+  by_names-insert entries k n =
       insert-seen (λ k. string_bytes k) (λ n. n) bytes_cmp nat_list_cmp_total
-      (slice_cmp-IsAntisymmetric nat_cmp-IsAntisymmetric) es k n
+      (slice_cmp-IsAntisymmetric nat_cmp-IsAntisymmetric) entries k n
 
-  pub by_names-write : (es : List (String A × ℕ)) (name : List ℕ) (old n : ℕ) →
-      lookup (is_at (λ k. bytes_cmp name (string_bytes k))) es ≡ Some old →
-      by_names (set_value (is_at (λ k. bytes_cmp name (string_bytes k))) es n) ≡ insert (by_names es) name n
-  by_names-write es name old n found =
+  pub by_names-write : (entries : List (String A × ℕ)) (name : List ℕ) (old n : ℕ) →
+      lookup (is_at (λ k. bytes_cmp name (string_bytes k))) entries ≡ Some old →
+      by_names (set_value (is_at (λ k. bytes_cmp name (string_bytes k))) entries n) ≡ insert (by_names entries) name n
+  by_names-write entries name old n found =
       write-seen (λ k. string_bytes k) (λ n. n) bytes_cmp nat_list_cmp_total
-      (slice_cmp-IsAntisymmetric nat_cmp-IsAntisymmetric) es name old n found
+      (slice_cmp-IsAntisymmetric nat_cmp-IsAntisymmetric) entries name old n found
 
   -- an id that is taken out again, where there was none
-  undone_test : (b : Bool) (q k : ℕ) (d : Arc ScopeDetails A) (o : Option (Arc ScopeDetails A)) →
+  undone_test : (b : Bool) (q k : ℕ) (details : Arc ScopeDetails A) (o : Option (Arc ScopeDetails A)) →
       (b ≡ true → o ≡ None) →
-      cond b None (cond b (Some d) o) ≡ o
-  undone_test true q k d o none = sym (none refl)
-  undone_test false q k d o none = refl
+      cond b None (cond b (Some details) o) ≡ o
+  undone_test true q k details o none = sym (none refl)
+  undone_test false q k details o none = refl
 
 -- ---- details under their own ids
 
@@ -66,22 +67,22 @@ own_at : (b : Bool) (q id : ℕ) (details x : Details) (o : Option Details) →
     x.id ≡ Some q
 own_at true q id details x o same is later found =
     ap (λ (y : Details). y.id) (sym (same_Some details x found)) ∙ is ∙ ap Some (sym (same refl))
-own_at false q id details x o same is later found = later found
+own_at false q id details x there_is same is later found = later found
 
-pub own_ids_put : (m : FinMap nat_cmp Details) (id : ℕ) (details : Details) →
-    ((q : ℕ) (x : Details) → get m q ≡ Some x → x.id ≡ Some q) →
+pub own_ids_put : (by_id : FinMap nat_cmp Details) (id : ℕ) (details : Details) →
+    ((q : ℕ) (x : Details) → get by_id q ≡ Some x → x.id ≡ Some q) →
     details.id ≡ Some id →
     (q : ℕ) (x : Details) →
-    get (insert m id details) q ≡ Some x →
+    get (insert by_id id details) q ≡ Some x →
     x.id ≡ Some q
-own_ids_put m id details own is q x found =
-    own_at (eq_by_cmp nat_cmp q id) q id details x (get m q) (same_ids q id) is (own q x)
-    (sym (get-insert nat_cmp_total m id details q) ∙ found)
+own_ids_put by_id id details own is q x found =
+    own_at (eq_by_cmp nat_cmp q id) q id details x (get by_id q) (same_ids q id) is (own q x)
+    (sym (get-insert nat_cmp_total by_id id details q) ∙ found)
 
-own_or : (o : Option Details) (collection : Collection) (details : Details) (id : ℕ) →
+own_or : (found : Option Details) (collection : Collection) (details : Details) (id : ℕ) →
     details.id ≡ Some id → KeepsOwnIds collection →
     (q : ℕ) (x : Details) →
-    get (kept_or o collection.by_id id details) q ≡ Some x →
+    get (kept_or found collection.by_id id details) q ≡ Some x →
     x.id ≡ Some q
 own_or (Some kept) collection details id is own q x found = own q x found
 own_or None collection details id is own q x found = own_ids_put collection.by_id id details own is q x found
@@ -124,22 +125,22 @@ pub kept_is : (collection : Collection) (details : Details) (id : ℕ) (kept : D
     kept_for collection details ≡ Some kept
 kept_is collection details id kept is there = ap (option_and_then (λ id. get collection.by_id id)) is ∙ there
 
-pub get-put : (m : FinMap nat_cmp Details) (id : ℕ) (details : Details) → get (insert m id details) id ≡ Some details
-get-put m id details =
-    get-insert nat_cmp_total m id details id
-    ∙ ap (λ b. cond b (Some details) (get m id)) ((eq_by_cmp_equiv nat_cmp_total).refl id)
+pub get-put : (by_id : FinMap nat_cmp Details) (id : ℕ) (details : Details) → get (insert by_id id details) id ≡ Some details
+get-put by_id id details =
+    get-insert nat_cmp_total by_id id details id
+    ∙ ap (λ b. cond b (Some details) (get by_id id)) ((eq_by_cmp_equiv nat_cmp_total).refl id)
 
 -- an id that was put where there was none, and was taken out again
 module _ {A : Type 0} where
-  pub undone : (before put after : BTreeMap ℕ (Arc ScopeDetails A)) (id : ℕ) (d : Arc ScopeDetails A) →
-      tree.get nat_cmp before id ≡ None → tree.Updates nat_cmp before put id (Some d) →
+  pub undone : (before put after : BTreeMap ℕ (Arc ScopeDetails A)) (id : ℕ) (details : Arc ScopeDetails A) →
+      tree.get nat_cmp before id ≡ None → tree.Updates nat_cmp before put id (Some details) →
       tree.Updates nat_cmp put after id None →
       by_ids after.entries ≡ by_ids before.entries
-  undone before put after id d none puts takes =
+  undone before put after id details none puts takes =
       same_map nat_cmp_total nat_cmp-IsAntisymmetric (by_ids after.entries) (by_ids before.entries)
       (λ q. get-by_ids after.entries q
       ∙ ap (option_map (λ x. details_of (arc_value x)))
       (takes.0 q ∙ ap (cond (is_at (nat_cmp id) q) None) (puts.0 q)
-      ∙ undone_test (is_at (nat_cmp id) q) q id d (tree.get nat_cmp before q)
+      ∙ undone_test (is_at (nat_cmp id) q) q id details (tree.get nat_cmp before q)
       (λ same. ap (tree.get nat_cmp before) (sym (same_ids id q same)) ∙ none))
       ∙ sym (get-by_ids before.entries q))

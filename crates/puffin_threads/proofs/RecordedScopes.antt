@@ -29,8 +29,13 @@ num_ended-append (Close stop ∷ u) v = omega (arith, num_ended-append u v)
 
 num_ended-tour : (forest : Forest) → num_ended (tour forest) ≡ scope_count forest
 num_ended-tour empty = refl
-num_ended-tour (node s c o) =
-    omega (arith, num_ended-append (tour c) (Close s.stop ∷ tour o), num_ended-tour c, num_ended-tour o)
+num_ended-tour (node span children others) =
+    omega (
+      arith,
+      num_ended-append (tour children) (Close span.stop ∷ tour others),
+      num_ended-tour children,
+      num_ended-tour others,
+    )
 
 module _ (form : Form) where
   -- what bytes hold, with the open scopes and the closed ones named
@@ -134,9 +139,9 @@ module _ (form : Form) where
   offsets_sum : (n : ℕ) (places : List ℕ) (word : List Event) →
       (fold (opened_after form) (n, places) word).0 ≡ n + word_size form word
   offsets_sum n places [] = omega arith
-  offsets_sum n places (Open id text start ∷ w) =
-      omega (arith, offsets_sum (n + head_size form text) ((n + size_offset form text) ∷ places) w)
-  offsets_sum n places (Close stop ∷ w) = omega (arith, offsets_sum (n + 9) (drop 1 places) w)
+  offsets_sum n places (Open id text start ∷ word) =
+      omega (arith, offsets_sum (n + head_size form text) ((n + size_offset form text) ∷ places) word)
+  offsets_sum n places (Close stop ∷ word) = omega (arith, offsets_sum (n + 9) (drop 1 places) word)
 
   pub offsets_opened : (word : List Event) (id : ℕ) (text : List ℕ) (start : ℤ) →
       open_offsets form (word ++ (Open id text start ∷ []))
@@ -157,11 +162,11 @@ module _ (form : Form) where
   offsets_count : (n : ℕ) (places : List ℕ) (word : List Event) →
       length (fold (opened_after form) (n, places) word).1 ≡ open_after (length places) word
   offsets_count n places [] = refl
-  offsets_count n places (Open id text start ∷ w) =
-      offsets_count (n + head_size form text) ((n + size_offset form text) ∷ places) w
-      ∙ ap (λ (k : ℕ). open_after k w) (omega arith)
-  offsets_count n places (Close stop ∷ w) =
-      offsets_count (n + 9) (drop 1 places) w ∙ ap (λ (k : ℕ). open_after k w) (length-drop 1 places)
+  offsets_count n places (Open id text start ∷ word) =
+      offsets_count (n + head_size form text) ((n + size_offset form text) ∷ places) word
+      ∙ ap (λ (k : ℕ). open_after k word) (omega arith)
+  offsets_count n places (Close stop ∷ word) =
+      offsets_count (n + 9) (drop 1 places) word ∙ ap (λ (k : ℕ). open_after k word) (length-drop 1 places)
 
   -- each open scope has an offset
   pub length-open_offsets : (word : List Event) → length (open_offsets form word) ≡ open_after 0 word

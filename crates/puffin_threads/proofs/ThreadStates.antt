@@ -22,6 +22,7 @@ use Rattle.puffin_threads.proofs.FirstStarts.{none_in_order}
 use Rattle.puffin_threads.proofs.HeldScopes.{held}
 use Rattle.puffin_threads.proofs.RecordedScopes.{begun_held, length-open_offsets, size_held, nothing_held}
 
+-- threads with equal fields are equal
 pub same_thread : (a b : Thread) →
     a.name ≡ b.name → a.form ≡ b.form → a.first_start ≡ b.first_start → a.latest ≡ b.latest → a.word ≡ b.word →
     a.details ≡ b.details →
@@ -36,6 +37,7 @@ word_of state = events_in state.info.stream.form state.info.stream.bytes
 abbrev pub places_of : Inside → List ℕ
 places_of state = open_offsets state.info.stream.form (word_of state)
 
+-- the bytes of a valid state hold the scopes of its word
 pub holds_in : (state : Inside) →
     IsThreadState state →
     HoldsScopes state.info.stream.form state.info.stream.bytes state.latest
@@ -54,6 +56,7 @@ closed_in state valid =
       length-open_offsets state.info.stream.form (word_of state),
     )
 
+-- the first of the open scopes' offsets, if there are any
 none_first : (places : List ℕ) → length places ≡ 0 → slice_get places 0 ≡ None
 none_first [] e = refl
 none_first (place ∷ places) e = absurd (omega arith)
@@ -74,6 +77,7 @@ first_more (place ∷ places) more = refl
 pub places_in : (state : Inside) → IsThreadState state → length (places_of state) ≡ state.num_open
 places_in state valid = length-open_offsets state.info.stream.form (word_of state) ∙ sym valid.num_open
 
+-- what `innermost` returns: nothing while no scope is open, and otherwise the first offset
 pub innermost_none : (state : Inside) →
     IsThreadState state → state.num_open ≡ 0 →
     None ≡ slice_get (places_of state) 0
@@ -90,13 +94,14 @@ is_zero n h = grind arith
 is_more : (n k : ℕ) → n ≡ k + 1 → (n == 0) ≡ false
 is_more n k h = grind arith
 
+-- an event takes a byte at least, so a stream is empty exactly if its word is
 empty_test : (form : Form) (word : List Event) (n : ℕ) → n ≡ word_size form word → (n == 0) ≡ (length word == 0)
 empty_test form [] n e = is_zero n (sym e)
-empty_test form (Open id text start ∷ w) n e =
-    is_more n (20 + text_room form text + word_size form w) (omega arith)
-    ∙ sym (is_more (length (Open id text start ∷ w)) (length w) (omega arith))
-empty_test form (Close stop ∷ w) n e =
-    is_more n (8 + word_size form w) (omega arith) ∙ sym (is_more (length (Close stop ∷ w)) (length w) (omega arith))
+empty_test form (Open id text start ∷ word) n e =
+    is_more n (20 + text_room form text + word_size form word) (omega arith)
+    ∙ sym (is_more (length (Open id text start ∷ word)) (length word) (omega arith))
+empty_test form (Close stop ∷ word) n e =
+    is_more n (8 + word_size form word) (omega arith) ∙ sym (is_more (length (Close stop ∷ word)) (length word) (omega arith))
 
 pub empty_in : (state : Inside) →
     IsThreadState state →
@@ -113,8 +118,6 @@ none_open_in state valid e = valid.num_open ∙ e
 pub none_innermost : (state : Inside) → IsThreadState state → state.num_open ≡ 0 → state.innermost ≡ 0
 none_innermost state valid none = valid.innermost ∙ none_placed _ (places_in state valid ∙ none)
 
--- without scopes
-
 counted_none : (info : StreamInfo) (word : List Event) → IsHonest info empty → word ≡ [] → IsCounted info word
 counted_none info word honest e = record {
   num_scopes = honest.counts.num_scopes ∙ ap num_begun (sym e);
@@ -125,6 +128,7 @@ counted_none info word honest e = record {
 pub none_in : (info : StreamInfo) → IsHonest info empty → events_in info.stream.form info.stream.bytes ≡ []
 none_in info honest = ap (events_in info.stream.form) honest.stream.whole ∙ events_of_none info.stream.form
 
+-- a state without scopes is valid
 pub cleared_in : (state : Inside) →
     pos 0 ≤ℤ state.latest → IsHonest state.info empty → state.num_open ≡ 0 → state.innermost ≡ 0 →
     IsSupplied state.supply state.info.stream →
@@ -158,9 +162,10 @@ in_own_form state next same valid = subst (λ (form : Form). IsThreadStateIn for
 -- the number of scopes that have begun is that of a stream that fits
 begun_size : (form : Form) (word : List Event) → 22 * num_begun word ≤ word_size form word
 begun_size form [] = omega arith
-begun_size form (Open id text start ∷ w) = omega (arith, begun_size form w, room_least form text)
-begun_size form (Close stop ∷ w) = omega (arith, begun_size form w)
+begun_size form (Open id text start ∷ word) = omega (arith, begun_size form word, room_least form text)
+begun_size form (Close stop ∷ word) = omega (arith, begun_size form word)
 
+-- an open scope takes 22 bytes at least, so the numbers of scopes fit as the number of bytes does
 pub scopes_fit : (state : Inside) → IsThreadState state → 22 * state.info.num_scopes ≤ length state.info.stream.bytes
 scopes_fit state valid =
     omega (

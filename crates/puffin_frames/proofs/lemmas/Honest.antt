@@ -35,49 +35,53 @@ none_honest = record {
 pub none_is_honest : AreHonest empty
 none_is_honest i r found = let none = get-empty {X = StreamFacts} key_cmp i in absurd cc
 
-joined_honest : (o : Option StreamFacts) (r : StreamFacts) (f : Forest) →
-    (AreUnlike (unwrap_or o no_scopes) r → ⊥) → AreHonestFacts r f →
+joined_honest : (o : Option StreamFacts) (info : StreamFacts) (f : Forest) →
+    (AreUnlike (unwrap_or o no_scopes) info → ⊥) → AreHonestFacts info f →
     ((x : StreamFacts) → o ≡ Some x → IsHonestSomehow x) →
-    IsHonestSomehow (joined_facts (unwrap_or o no_scopes) r)
-joined_honest None r f like h before =
-    merely (append forest.empty f, honest_joined no_scopes r forest.empty f like none_honest h)
-joined_honest (Some x) r f like h before = ∥∥₁_map (before x refl) (λ p. (append p.0 f, honest_joined x r p.0 f like p.1 h))
+    IsHonestSomehow (joined_facts (unwrap_or o no_scopes) info)
+joined_honest None info f like honest before =
+    merely (append forest.empty f, honest_joined no_scopes info forest.empty f like none_honest honest)
+joined_honest (Some x) info forest like honest before =
+    ∥∥₁_map (before x refl) (λ p. (append p.0 forest, honest_joined x info p.0 forest like p.1 honest))
 
 at_test : (b : Bool) (j x : StreamFacts) (o : Option StreamFacts) →
     IsHonestSomehow j → (o ≡ Some x → IsHonestSomehow x) → cond b (Some j) o ≡ Some x →
     IsHonestSomehow x
-at_test true j x o h before found = let same : j ≡ x = cc in subst IsHonestSomehow same h
-at_test false j x o h before found = before found
+at_test true j x o honest before found = let same : j ≡ x = cc in subst IsHonestSomehow same honest
+at_test false j x o honest before found = before found
 
-pub honest-report : (streams : Streams) (i : ThreadKey) (r : StreamFacts) (f : Forest) →
-    (AreUnlike (stream_under streams i) r → ⊥) → AreHonest streams → AreHonestFacts r f →
-    AreHonest (reported_to streams i r)
-honest-report streams i r f like honest h q x found =
-    let more = joined_facts (unwrap_or (get streams i) no_scopes) r in
-    at_test (has_same_key q i) more x (get streams q) (joined_honest (get streams i) r f like h (λ y. honest i y))
-    (honest q x) (sym (get-insert key_cmp_total streams i more q) ∙ found)
+pub honest-report : (streams : Streams) (thread : ThreadKey) (info : StreamFacts) (forest : Forest) →
+    (AreUnlike (stream_under streams thread) info → ⊥) → AreHonest streams → AreHonestFacts info forest →
+    AreHonest (reported_to streams thread info)
+honest-report streams thread info forest like honest is_honest q x found =
+    let more = joined_facts (unwrap_or (get streams thread) no_scopes) info in
+    at_test (has_same_key q thread) more x (get streams q)
+    (joined_honest (get streams thread) info forest like is_honest (λ y. honest thread y))
+    (honest q x) (sym (get-insert key_cmp_total streams thread more q) ∙ found)
 
 -- ---- what holds at each info holds of each stream
-none_at : (x : ThreadKey) (es : List (ThreadKey × StreamFacts)) → T (below_all key_cmp x es) → find key_cmp x es ≡ None
+none_at : (x : ThreadKey) (pairs : List (ThreadKey × StreamFacts)) →
+    T (below_all key_cmp x pairs) →
+    find key_cmp x pairs ≡ None
 none_at x [] below = refl
 none_at x (e ∷ es) below =
     ap (λ o. cond (is_eq o) (Some e.1) (find key_cmp x es)) (less (key_cmp x e.0) (first _ _ below))
     ∙ none_at x es (second (is_lt (key_cmp x e.0)) _ below)
 
 past_first : (o : Ordering) (q : ThreadKey) (x : StreamFacts) (e : ThreadKey × StreamFacts)
-    (es : List (ThreadKey × StreamFacts)) →
-    key_cmp q e.0 ≡ o → T (below_all key_cmp e.0 es) → find key_cmp q es ≡ Some x →
-    cond (is_eq o) (Some e.1) (find key_cmp q es) ≡ Some x
-past_first Less q x e es is below found = found
-past_first Equal q x e es is below found =
-    let none = ap (λ k. find key_cmp k es) (key_cmp-one q e.0 is) ∙ none_at e.0 es below in
+    (pairs : List (ThreadKey × StreamFacts)) →
+    key_cmp q e.0 ≡ o → T (below_all key_cmp e.0 pairs) → find key_cmp q pairs ≡ Some x →
+    cond (is_eq o) (Some e.1) (find key_cmp q pairs) ≡ Some x
+past_first Less q x e pairs is below found = found
+past_first Equal q x e pairs is below found =
+    let none = ap (λ k. find key_cmp k pairs) (key_cmp-one q e.0 is) ∙ none_at e.0 pairs below in
     absurd cc
-past_first Greater q x e es is below found = found
+past_first Greater q x e pairs is below found = found
 
-all_from_each : (P : StreamFacts → Type 0) (es : List (ThreadKey × StreamFacts)) →
-    T (is_sorted key_cmp es) →
-    ((q : ThreadKey) (x : StreamFacts) → find key_cmp q es ≡ Some x → P x) →
-    AllByRecursion P (map (λ e. e.1) es)
+all_from_each : (P : StreamFacts → Type 0) (pairs : List (ThreadKey × StreamFacts)) →
+    T (is_sorted key_cmp pairs) →
+    ((q : ThreadKey) (x : StreamFacts) → find key_cmp q pairs ≡ Some x → P x) →
+    AllByRecursion P (map (λ e. e.1) pairs)
 all_from_each P [] sorted each = tt
 all_from_each P (e ∷ es) sorted each = (
   each e.0 e.1 (ap (λ o. cond (is_eq o) (Some e.1) (find key_cmp e.0 es)) (tied_itself key_cmp_total e.0)),
@@ -121,22 +125,23 @@ ordered streams honest some =
     (λ q x found. honest q x (get-entries streams q ∙ found))) some
 
 -- ---- no scope
-none_at_test : (b : Bool) (e : ThreadKey × StreamFacts) (r : StreamFacts) (o : Option StreamFacts) →
-    e.1.num_scopes ≡ 0 → (o ≡ Some r → r.num_scopes ≡ 0) → cond b (Some e.1) o ≡ Some r →
-    r.num_scopes ≡ 0
-none_at_test true e r o nothing later found = let same : e.1 ≡ r = cc in sym (ap (λ x. x.num_scopes) same) ∙ nothing
-none_at_test false e r o nothing later found = later found
+none_at_test : (b : Bool) (e : ThreadKey × StreamFacts) (info : StreamFacts) (o : Option StreamFacts) →
+    e.1.num_scopes ≡ 0 → (o ≡ Some info → info.num_scopes ≡ 0) → cond b (Some e.1) o ≡ Some info →
+    info.num_scopes ≡ 0
+none_at_test true e info o nothing later found = let same : e.1 ≡ info = cc in sym (ap (λ x. x.num_scopes) same) ∙ nothing
+none_at_test false e info o nothing later found = later found
 
-none_of : (es : List (ThreadKey × StreamFacts)) (i : ThreadKey) (r : StreamFacts) →
-    total_scopes (map (λ e. e.1) es) ≡ 0 → find key_cmp i es ≡ Some r →
-    r.num_scopes ≡ 0
-none_of [] i r nothing found = absurd cc
-none_of (e ∷ es) i r nothing found =
+none_of : (pairs : List (ThreadKey × StreamFacts)) (thread : ThreadKey) (info : StreamFacts) →
+    total_scopes (map (λ e. e.1) pairs) ≡ 0 → find key_cmp thread pairs ≡ Some info →
+    info.num_scopes ≡ 0
+none_of [] thread info nothing found = absurd cc
+none_of (e ∷ es) thread info nothing found =
     let sum = total_scopes-one e.1 (map (λ f. f.1) es) in
-    none_at_test (is_eq (key_cmp i e.0)) e r (find key_cmp i es)
-    (omega (arith, sum, nothing)) (none_of es i r (omega (arith, sum, nothing))) found
+    none_at_test (is_eq (key_cmp thread e.0)) e info (find key_cmp thread es)
+    (omega (arith, sum, nothing)) (none_of es thread info (omega (arith, sum, nothing))) found
 
-pub no_scopes_there : (streams : Streams) (i : ThreadKey) (r : StreamFacts) →
-    total_scopes (values streams) ≡ 0 → get streams i ≡ Some r →
-    r.num_scopes ≡ 0
-no_scopes_there streams i r nothing found = none_of (entries streams) i r nothing (sym (get-entries streams i) ∙ found)
+pub no_scopes_there : (streams : Streams) (thread : ThreadKey) (info : StreamFacts) →
+    total_scopes (values streams) ≡ 0 → get streams thread ≡ Some info →
+    info.num_scopes ≡ 0
+no_scopes_there streams thread info nothing found =
+    none_of (entries streams) thread info nothing (sym (get-entries streams thread) ∙ found)

@@ -37,76 +37,76 @@ none_laid_out =
     subst (λ (es : List (ThreadKey × StreamFacts)). AreItems Fits es) (sym none) (omega arith, tt)
 
 -- an entry in its place among others
-by_place : (o : Ordering) (i : ThreadKey) (r : StreamFacts) (e : ThreadKey × StreamFacts)
-    (es later : List (ThreadKey × StreamFacts)) →
-    IsThreadKey i → AreCounts r → Fits e → AllByRecursion Fits es → AllByRecursion Fits later →
-    AllByRecursion Fits (by_order o ((i, r) ∷ e ∷ es) ((e.0, r) ∷ es) (e ∷ later))
-by_place Less i r e es later thread counts one rest all = ((thread, counts), (one, rest))
-by_place Equal i r e es later thread counts one rest all = ((one.0, counts), rest)
-by_place Greater i r e es later thread counts one rest all = (one, all)
+by_place : (o : Ordering) (i : ThreadKey) (info : StreamFacts) (e : ThreadKey × StreamFacts)
+    (pairs later : List (ThreadKey × StreamFacts)) →
+    IsThreadKey i → AreCounts info → Fits e → AllByRecursion Fits pairs → AllByRecursion Fits later →
+    AllByRecursion Fits (by_order o ((i, info) ∷ e ∷ pairs) ((e.0, info) ∷ pairs) (e ∷ later))
+by_place Less i info e pairs later thread counts one rest all = ((thread, counts), (one, rest))
+by_place Equal key info e pairs later thread counts one rest all = ((one.0, counts), rest)
+by_place Greater key info e pairs later thread counts one rest all = (one, all)
 
-all_put : (i : ThreadKey) (r : StreamFacts) (es : List (ThreadKey × StreamFacts)) →
-    IsThreadKey i → AreCounts r → AllByRecursion Fits es →
-    AllByRecursion Fits (put key_cmp i r es)
-all_put i r [] thread counts all = ((thread, counts), tt)
-all_put i r (e ∷ es) thread counts all =
-    by_place (key_cmp i e.0) i r e es (put key_cmp i r es) thread counts all.0 all.1
-    (all_put i r es thread counts all.1)
+all_put : (i : ThreadKey) (info : StreamFacts) (pairs : List (ThreadKey × StreamFacts)) →
+    IsThreadKey i → AreCounts info → AllByRecursion Fits pairs →
+    AllByRecursion Fits (put key_cmp i info pairs)
+all_put i info [] thread counts all = ((thread, counts), tt)
+all_put key info (e ∷ es) thread counts all =
+    by_place (key_cmp key e.0) key info e es (put key_cmp key info es) thread counts all.0 all.1
+    (all_put key info es thread counts all.1)
 
 -- a thread that is there
-by_test : (o : Ordering) (i : ThreadKey) (x : StreamFacts) (e : ThreadKey × StreamFacts)
-    (es : List (ThreadKey × StreamFacts)) →
-    key_cmp i e.0 ≡ o → Fits e → (find key_cmp i es ≡ Some x → IsThreadKey i) →
-    cond (is_eq o) (Some e.1) (find key_cmp i es) ≡ Some x →
-    IsThreadKey i
-by_test Less i x e es is one later found = later found
-by_test Equal i x e es is one later found = subst IsThreadKey (sym (key_cmp-one i e.0 is)) one.0
-by_test Greater i x e es is one later found = later found
+by_test : (o : Ordering) (thread : ThreadKey) (x : StreamFacts) (e : ThreadKey × StreamFacts)
+    (pairs : List (ThreadKey × StreamFacts)) →
+    key_cmp thread e.0 ≡ o → Fits e → (find key_cmp thread pairs ≡ Some x → IsThreadKey thread) →
+    cond (is_eq o) (Some e.1) (find key_cmp thread pairs) ≡ Some x →
+    IsThreadKey thread
+by_test Less thread x e pairs is one later found = later found
+by_test Equal thread x e pairs is one later found = subst IsThreadKey (sym (key_cmp-one thread e.0 is)) one.0
+by_test Greater thread x e pairs is one later found = later found
 
-thread_there : (i : ThreadKey) (x : StreamFacts) (es : List (ThreadKey × StreamFacts)) →
-    find key_cmp i es ≡ Some x → AllByRecursion Fits es →
-    IsThreadKey i
-thread_there i x [] found all = absurd cc
-thread_there i x (e ∷ es) found all =
-    by_test (key_cmp i e.0) i x e es refl all.0 (λ later. thread_there i x es later all.1) found
+thread_there : (thread : ThreadKey) (x : StreamFacts) (pairs : List (ThreadKey × StreamFacts)) →
+    find key_cmp thread pairs ≡ Some x → AllByRecursion Fits pairs →
+    IsThreadKey thread
+thread_there thread x [] found all = absurd cc
+thread_there thread x (e ∷ es) found all =
+    by_test (key_cmp thread e.0) thread x e es refl all.0 (λ later. thread_there thread x es later all.1) found
 
-inserted : (m : Streams) (i : ThreadKey) (r : StreamFacts) →
-    length (entries (insert m i r)) < 2 ^ 64 → IsThreadKey i → AreCounts r → HaveLayout m →
-    HaveLayout (insert m i r)
-inserted m i r short thread counts h = (
+inserted : (streams : Streams) (i : ThreadKey) (info : StreamFacts) →
+    length (entries (insert streams i info)) < 2 ^ 64 → IsThreadKey i → AreCounts info → HaveLayout streams →
+    HaveLayout (insert streams i info)
+inserted streams i info short thread counts laid_out = (
   short,
   subst (λ (es : List (ThreadKey × StreamFacts)). AllByRecursion Fits es)
-      (sym (entries-insert key_cmp_total m i r)) (all_put i r (entries m) thread counts h.1),
+      (sym (entries-insert key_cmp_total streams i info)) (all_put i info (entries streams) thread counts laid_out.1),
 )
 
 module _ {A : Type 0} where
-  short_as : (fs : List (ThreadInfo × Arc StreamInfo A)) →
-      IsStrictlySortedBy thread_cmp (keys_of fs) → length fs < 2 ^ 64 →
-      length (entries (shared_streams fs)) < 2 ^ 64
-  short_as fs sorted short = rw (entries-listed fs (listed-sorted fs sorted)) (simp length-map short)
+  short_as : (after : List (ThreadInfo × Arc StreamInfo A)) →
+      IsStrictlySortedBy thread_cmp (keys_of after) → length after < 2 ^ 64 →
+      length (entries (shared_streams after)) < 2 ^ 64
+  short_as after sorted short = rw (entries-listed after (listed-sorted after sorted)) (simp length-map short)
 
-  length_seen : (es : List (ThreadInfo × Arc StreamInfo A)) →
-      IsStrictlySortedBy thread_cmp (keys_of es) →
-      length (entries (shared_streams es)) ≡ length es
-  length_seen es sorted = ap length (entries-listed es (listed-sorted es sorted)) ∙ simp length-map
+  length_seen : (shared : List (ThreadInfo × Arc StreamInfo A)) →
+      IsStrictlySortedBy thread_cmp (keys_of shared) →
+      length (entries (shared_streams shared)) ≡ length shared
+  length_seen shared sorted = ap length (entries-listed shared (listed-sorted shared sorted)) ∙ simp length-map
 
   -- a stream that grows under a thread that is there
   pub layout_over : (es : List (ThreadInfo × Arc StreamInfo A)) (k : ThreadInfo) (old w : Arc StreamInfo A)
-      (fs : List (ThreadInfo × Arc StreamInfo A)) →
-      WritesAt es k old w fs → AreCounts (facts_of (arc_value w)) → HaveLayout (shared_streams es) →
-      HaveLayout (shared_streams fs)
-  layout_over es k old w fs h counts before =
-      let put = written es k old w fs h in
+      (after : List (ThreadInfo × Arc StreamInfo A)) →
+      WritesAt es k old w after → AreCounts (facts_of (arc_value w)) → HaveLayout (shared_streams es) →
+      HaveLayout (shared_streams after)
+  layout_over es k old w after write counts before =
+      let put = written es k old w after write in
       let thread =
       thread_there (key_of k) (facts_of (arc_value old)) (entries (shared_streams es))
-      (sym (get-entries (shared_streams es) (key_of k)) ∙ there es k old w fs h) before.1 in
-      let sorted : IsStrictlySortedBy thread_cmp (keys_of fs) =
+      (sym (get-entries (shared_streams es) (key_of k)) ∙ there es k old w after write) before.1 in
+      let sorted : IsStrictlySortedBy thread_cmp (keys_of after) =
       subst (λ (ks : List ThreadInfo). IsStrictlySortedBy thread_cmp ks)
-      (sym (ap keys_of h.after ∙ keys-set_value (is_at (thread_cmp k)) es w)) h.sorted in
-      let same = ap length h.after ∙ length-set_value (is_at (thread_cmp k)) es w in
+      (sym (ap keys_of write.after ∙ keys-set_value (is_at (thread_cmp k)) es w)) write.sorted in
+      let same = ap length write.after ∙ length-set_value (is_at (thread_cmp k)) es w in
       let short : length (entries (insert (shared_streams es) (key_of k) (facts_of (arc_value w)))) < 2 ^ 64 =
       subst (λ (m : Streams). length (entries m) < 2 ^ 64) put
-      (omega (arith, length_seen es h.sorted, length_seen fs sorted, same, before.0)) in
+      (omega (arith, length_seen es write.sorted, length_seen after sorted, same, before.0)) in
       subst HaveLayout (sym put) (inserted (shared_streams es) (key_of k) (facts_of (arc_value w)) short thread counts before)
 
   -- the first stream of a thread

@@ -32,9 +32,9 @@ less Equal p = absurd p
 less Greater p = absurd p
 
 -- a key below all others isn't among them
-none_below : (x y : ThreadKey) (es : List (ThreadKey × StreamFacts)) →
-    key_cmp x y ≡ Less → T (below_all key_cmp y es) →
-    find key_cmp x es ≡ None
+none_below : (x y : ThreadKey) (pairs : List (ThreadKey × StreamFacts)) →
+    key_cmp x y ≡ Less → T (below_all key_cmp y pairs) →
+    find key_cmp x pairs ≡ None
 none_below x y [] lt below = refl
 none_below x y (e ∷ es) lt below =
     ap (λ o. cond (is_eq o) (Some e.1) (find key_cmp x es))
@@ -50,50 +50,56 @@ pub record IsMeasure {N : Type 0} (all : List StreamFacts → N) (one : StreamFa
   pub assoc : (a b c : N) → op a (op b c) ≡ op (op a b) c
 
 module _ {N : Type 0} {all : List StreamFacts → N} {one : StreamFacts → N} {op : N → N → N} (m : IsMeasure all one op) where
-  at_order : (o : Ordering) (i : ThreadKey) (r : StreamFacts) (e : ThreadKey × StreamFacts)
-      (es : List (ThreadKey × StreamFacts)) →
-      key_cmp i e.0 ≡ o → T (below_all key_cmp e.0 es) →
-      all (map (λ f. f.1) (put key_cmp i (joined_facts (unwrap_or (find key_cmp i es) no_scopes) r) es))
-      ≡ op (all (map (λ f. f.1) es)) (one r) →
+  at_order : (o : Ordering) (thread : ThreadKey) (info : StreamFacts) (e : ThreadKey × StreamFacts)
+      (pairs : List (ThreadKey × StreamFacts)) →
+      key_cmp thread e.0 ≡ o → T (below_all key_cmp e.0 pairs) →
+      all (map (λ f. f.1) (put key_cmp thread
+      (joined_facts (unwrap_or (find key_cmp thread pairs) no_scopes) info) pairs))
+      ≡ op (all (map (λ f. f.1) pairs)) (one info) →
       all (map (λ f. f.1) (by_order o ((
-        i,
-        joined_facts (unwrap_or (cond (is_eq o) (Some e.1) (find key_cmp i es)) no_scopes) r,
-      ) ∷ (e ∷ es))
-      ((e.0, joined_facts (unwrap_or (cond (is_eq o) (Some e.1) (find key_cmp i es)) no_scopes) r) ∷ es)
-      (e ∷ put key_cmp i (joined_facts (unwrap_or (cond (is_eq o) (Some e.1) (find key_cmp i es)) no_scopes) r) es)))
-      ≡ op (all (e.1 ∷ map (λ f. f.1) es)) (one r)
-  at_order Less i r e es lt below later =
-      ap (λ o. all (joined_facts (unwrap_or o no_scopes) r ∷ (e.1 ∷ map (λ f. f.1) es))) (none_below i e.0 es lt below)
-      ∙ m.more (joined_facts no_scopes r) (e.1 ∷ map (λ f. f.1) es)
-      ∙ m.fresh r (e.1 ∷ map (λ f. f.1) es)
-  at_order Equal i r e es same below later =
-      m.more (joined_facts e.1 r) (map (λ f. f.1) es)
-      ∙ ap (λ n. op n (all (map (λ f. f.1) es))) (m.joins e.1 r)
-      ∙ m.swap (one e.1) (one r) (all (map (λ f. f.1) es))
-      ∙ ap (λ n. op n (one r)) (sym (m.more e.1 (map (λ f. f.1) es)))
-  at_order Greater i r e es above below later =
-      m.more e.1 (map (λ f. f.1) (put key_cmp i (joined_facts (unwrap_or (find key_cmp i es) no_scopes) r) es))
+        thread,
+        joined_facts (unwrap_or (cond (is_eq o) (Some e.1) (find key_cmp thread pairs)) no_scopes) info,
+      ) ∷ (e ∷ pairs))
+      ((e.0, joined_facts (unwrap_or (cond (is_eq o) (Some e.1) (find key_cmp thread pairs)) no_scopes) info) ∷ pairs)
+      (e ∷ put key_cmp thread (joined_facts
+      (unwrap_or (cond (is_eq o) (Some e.1) (find key_cmp thread pairs)) no_scopes) info) pairs)))
+      ≡ op (all (e.1 ∷ map (λ f. f.1) pairs)) (one info)
+  at_order Less thread info e pairs lt below later =
+      ap (λ o. all (joined_facts (unwrap_or o no_scopes) info ∷ (e.1 ∷ map (λ f. f.1) pairs)))
+      (none_below thread e.0 pairs lt below)
+      ∙ m.more (joined_facts no_scopes info) (e.1 ∷ map (λ f. f.1) pairs)
+      ∙ m.fresh info (e.1 ∷ map (λ f. f.1) pairs)
+  at_order Equal thread info e pairs same below later =
+      m.more (joined_facts e.1 info) (map (λ f. f.1) pairs)
+      ∙ ap (λ n. op n (all (map (λ f. f.1) pairs))) (m.joins e.1 info)
+      ∙ m.swap (one e.1) (one info) (all (map (λ f. f.1) pairs))
+      ∙ ap (λ n. op n (one info)) (sym (m.more e.1 (map (λ f. f.1) pairs)))
+  at_order Greater thread info e pairs above below later =
+      m.more e.1 (map (λ f. f.1) (put key_cmp thread
+      (joined_facts (unwrap_or (find key_cmp thread pairs) no_scopes) info) pairs))
       ∙ ap (op (one e.1)) later
-      ∙ m.assoc (one e.1) (all (map (λ f. f.1) es)) (one r)
-      ∙ ap (λ n. op n (one r)) (sym (m.more e.1 (map (λ f. f.1) es)))
+      ∙ m.assoc (one e.1) (all (map (λ f. f.1) pairs)) (one info)
+      ∙ ap (λ n. op n (one info)) (sym (m.more e.1 (map (λ f. f.1) pairs)))
 
-  in_entries : (i : ThreadKey) (r : StreamFacts) (es : List (ThreadKey × StreamFacts)) →
-      T (is_sorted key_cmp es) →
-      all (map (λ f. f.1) (put key_cmp i (joined_facts (unwrap_or (find key_cmp i es) no_scopes) r) es))
-      ≡ op (all (map (λ f. f.1) es)) (one r)
-  in_entries i r [] sorted = m.more (joined_facts no_scopes r) [] ∙ m.fresh r []
-  in_entries i r (e ∷ es) sorted =
-      at_order (key_cmp i e.0) i r e es refl (first _ _ sorted)
-      (in_entries i r es (second (below_all key_cmp e.0 es) _ sorted))
+  in_entries : (thread : ThreadKey) (info : StreamFacts) (pairs : List (ThreadKey × StreamFacts)) →
+      T (is_sorted key_cmp pairs) →
+      all (map (λ f. f.1) (put key_cmp thread
+      (joined_facts (unwrap_or (find key_cmp thread pairs) no_scopes) info) pairs))
+      ≡ op (all (map (λ f. f.1) pairs)) (one info)
+  in_entries thread info [] sorted = m.more (joined_facts no_scopes info) [] ∙ m.fresh info []
+  in_entries thread info (e ∷ es) sorted =
+      at_order (key_cmp thread e.0) thread info e es refl (first _ _ sorted)
+      (in_entries thread info es (second (below_all key_cmp e.0 es) _ sorted))
 
   -- the measure of what is there and is reported
-  pub after_report : (streams : Streams) (i : ThreadKey) (r : StreamFacts) →
-      all (values (reported_to streams i r)) ≡ op (all (values streams)) (one r)
-  after_report streams i r =
-      ap (λ es. all (map (λ f. f.1) es)) (entries-insert key_cmp_total streams i
-      (joined_facts (unwrap_or (get streams i) no_scopes) r)
-      ∙ ap (λ o. put key_cmp i (joined_facts (unwrap_or o no_scopes) r) (entries streams)) (get-entries streams i))
-      ∙ in_entries i r (entries streams) (entries_sorted streams)
+  pub after_report : (streams : Streams) (thread : ThreadKey) (info : StreamFacts) →
+      all (values (reported_to streams thread info)) ≡ op (all (values streams)) (one info)
+  after_report streams thread info =
+      ap (λ es. all (map (λ f. f.1) es)) (entries-insert key_cmp_total streams thread
+      (joined_facts (unwrap_or (get streams thread) no_scopes) info)
+      ∙ ap (λ o. put key_cmp thread (joined_facts (unwrap_or o no_scopes) info) (entries streams))
+      (get-entries streams thread))
+      ∙ in_entries thread info (entries streams) (entries_sorted streams)
 
 -- ---- the four measures
 bytes_from-add : (n : ℕ) (xs : List StreamFacts) → bytes_from n xs ≡ n + total_bytes xs
@@ -157,20 +163,21 @@ at_test_least : (b : Bool) (e : ThreadKey × StreamFacts) (o : Option StreamFact
 at_test_least true e o rest least = omega arith
 at_test_least false e o rest least = omega arith
 
-found_least : (i : ThreadKey) (es : List (ThreadKey × StreamFacts)) →
-    (unwrap_or (find key_cmp i es) no_scopes).num_scopes ≤ total_scopes (map (λ e. e.1) es)
-found_least i [] = omega arith
-found_least i (e ∷ es) =
+found_least : (thread : ThreadKey) (pairs : List (ThreadKey × StreamFacts)) →
+    (unwrap_or (find key_cmp thread pairs) no_scopes).num_scopes ≤ total_scopes (map (λ e. e.1) pairs)
+found_least thread [] = omega arith
+found_least thread (e ∷ es) =
     let sum = total_scopes-one e.1 (map (λ f. f.1) es) in
     let here =
-    at_test_least (is_eq (key_cmp i e.0)) e (find key_cmp i es) (total_scopes (map (λ f. f.1) es))
-    (found_least i es) in
+    at_test_least (is_eq (key_cmp thread e.0)) e (find key_cmp thread es) (total_scopes (map (λ f. f.1) es))
+    (found_least thread es) in
     omega (arith, sum, here)
 
-pub under_one : (streams : Streams) (i : ThreadKey) → (stream_under streams i).num_scopes ≤ total_scopes (values streams)
-under_one streams i =
-    let least = found_least i (entries streams) in
-    omega (arith, ap (λ o. (unwrap_or o no_scopes).num_scopes) (get-entries streams i), least)
+pub under_one : (streams : Streams) (thread : ThreadKey) →
+    (stream_under streams thread).num_scopes ≤ total_scopes (values streams)
+under_one streams thread =
+    let least = found_least thread (entries streams) in
+    omega (arith, ap (λ o. (unwrap_or o no_scopes).num_scopes) (get-entries streams thread), least)
 
 -- the streams of no thread
 pub no_values : values (empty {X = StreamFacts} {R = key_cmp}) ≡ []

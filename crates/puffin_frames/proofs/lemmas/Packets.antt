@@ -54,41 +54,44 @@ pub written : (form : Form) → IsWritten form (for_form form)
 written Short = record { kind = refl; details = refl; texts = refl }
 written Long = record { kind = refl; details = refl; texts = refl }
 
-streams_again : (p : PacketFields) (rest : List ℕ) →
-    IsPacked p →
-    streams_part_at (for_form p.form) (little_bytes 4 (length p.streams) ++ (to_byte p.kind ∷ (p.streams ++ rest)))
-    ≡ Ok ((p.kind, p.streams), rest)
-streams_again p rest h =
+streams_again : (fields : PacketFields) (rest : List ℕ) →
+    IsPacked fields →
+    streams_part_at (for_form fields.form)
+    (little_bytes 4 (length fields.streams) ++ (to_byte fields.kind ∷ (fields.streams ++ rest)))
+    ≡ Ok ((fields.kind, fields.streams), rest)
+streams_again fields rest fits =
     rw (
-      (written p.form).kind,
-      length_again (length p.streams) (to_byte p.kind ∷ (p.streams ++ rest)) h.short,
-      part_again 1 (to_byte p.kind ∷ []) (p.streams ++ rest) refl,
-      from_byte-reads_back p.kind,
-      part_again (length p.streams) p.streams rest refl,
+      (written fields.form).kind,
+      length_again (length fields.streams) (to_byte fields.kind ∷ (fields.streams ++ rest)) fits.short,
+      part_again 1 (to_byte fields.kind ∷ []) (fields.streams ++ rest) refl,
+      from_byte-reads_back fields.kind,
+      part_again (length fields.streams) fields.streams rest refl,
     ) refl
 
-details_again : (p : PacketFields) (rest : List ℕ) →
-    IsPacked p →
-    details_part_at (for_form p.form) (counted_part (details_layout p.details) ++ rest) ≡ Ok (p.details, rest)
-details_again p rest h =
+details_again : (fields : PacketFields) (rest : List ℕ) →
+    IsPacked fields →
+    details_part_at (for_form fields.form) (counted_part (details_layout fields.details) ++ rest)
+    ≡ Ok (fields.details, rest)
+details_again fields rest fits =
     rw (
-      (written p.form).details,
-      counted_again (details_layout p.details) rest h.details_short,
-      whole_again AreDetails details_layout details_at details_reader p.details h.details,
+      (written fields.form).details,
+      counted_again (details_layout fields.details) rest fits.details_short,
+      whole_again AreDetails details_layout details_at details_reader fields.details fits.details,
     ) refl
 
-parts_again : (p : PacketFields) (rest : List ℕ) →
-    IsPacked p →
-    packet_at (for_form p.form) (counted_part (meta_layout p.meta)
-    ++ (little_bytes 4 (length p.streams)
-    ++ (to_byte p.kind ∷ (p.streams ++ (counted_part (details_layout p.details) ++ rest))))) ≡ Ok (p, rest)
-parts_again p rest h =
-    let d = counted_part (details_layout p.details) ++ rest in
+parts_again : (fields : PacketFields) (rest : List ℕ) →
+    IsPacked fields →
+    packet_at (for_form fields.form) (counted_part (meta_layout fields.meta)
+    ++ (little_bytes 4 (length fields.streams)
+    ++ (to_byte fields.kind ∷ (fields.streams ++ (counted_part (details_layout fields.details) ++ rest)))))
+    ≡ Ok (fields, rest)
+parts_again fields rest fits =
+    let d = counted_part (details_layout fields.details) ++ rest in
     rw (
-      meta_again p (little_bytes 4 (length p.streams) ++ (to_byte p.kind ∷ (p.streams ++ d))) h,
-      streams_again p d h,
-      details_again p rest h,
-    ) (ap (λ (form : Form). Ok (record p { form = form }, rest)) (written p.form).texts)
+      meta_again fields (little_bytes 4 (length fields.streams) ++ (to_byte fields.kind ∷ (fields.streams ++ d))) fits,
+      streams_again fields d fits,
+      details_again fields rest fits,
+    ) (ap (λ (form : Form). Ok (record fields { form = form }, rest)) (written fields.form).texts)
 
 pub after_letters : (version : Version) (xs : List ℕ) →
     next_at (80 ∷ 70 ∷ 68 ∷ last_letter version ∷ xs) ≡ as_stored packed (packet_at version xs)
@@ -112,15 +115,17 @@ pub in_a_row : (m l s d rest : List ℕ) (letter kind : ℕ) →
     ≡ 80 ∷ 70 ∷ 68 ∷ letter ∷ (m ++ (l ++ (kind ∷ (s ++ (d ++ rest)))))
 in_a_row m l s d rest letter kind = simp append_assoc
 
-pub packet_again : (p : PacketFields) (rest : List ℕ) → IsPacked p → next_at (packet p ++ rest) ≡ Ok (Some (packed p), rest)
+pub packet_again : (fields : PacketFields) (rest : List ℕ) →
+    IsPacked fields →
+    next_at (packet fields ++ rest) ≡ Ok (Some (packed fields), rest)
 unfolding packet_head
-packet_again p rest h =
-    let m = counted_part (meta_layout p.meta) in
-    let l = little_bytes 4 (length p.streams) in
-    let d = counted_part (details_layout p.details) in
-    ap next_at (in_a_row m l p.streams d rest (last_letter (for_form p.form)) (to_byte p.kind))
-    ∙ (after_letters (for_form p.form) (m ++ (l ++ (to_byte p.kind ∷ (p.streams ++ (d ++ rest)))))
-    ∙ ap (as_stored packed) (parts_again p rest h))
+packet_again fields rest fits =
+    let m = counted_part (meta_layout fields.meta) in
+    let l = little_bytes 4 (length fields.streams) in
+    let d = counted_part (details_layout fields.details) in
+    ap next_at (in_a_row m l fields.streams d rest (last_letter (for_form fields.form)) (to_byte fields.kind))
+    ∙ (after_letters (for_form fields.form) (m ++ (l ++ (to_byte fields.kind ∷ (fields.streams ++ (d ++ rest)))))
+    ∙ ap (as_stored packed) (parts_again fields rest fits))
 
 said_is : (a b : PacketFields) → packed a ≡ packed b → a ≡ b
 said_is a b e = cc

@@ -29,9 +29,9 @@ module _ {K L X Y : Type 0} (f : K → L) (g : X → Y) where
   -- clones are seen alike
   pub seen_from_clone :
       (C : K → K → Type 0) (D : X → X → Type 0) → ((a b : K) → C a b → f b ≡ f a) → ((v w : X) → D v w → g w ≡ g v) →
-      (es fs : List (K × X)) →
-      AllZip (λ p q. C p.0 q.0 × D p.1 q.1) es fs →
-      seen fs ≡ seen es
+      (entries fs : List (K × X)) →
+      AllZip (λ p q. C p.0 q.0 × D p.1 q.1) entries fs →
+      seen fs ≡ seen entries
   seen_from_clone C D keys values [] [] a = refl
   seen_from_clone C D keys values [] (y ∷ ys) a = absurd a
   seen_from_clone C D keys values (x ∷ xs) [] a = absurd a
@@ -39,57 +39,59 @@ module _ {K L X Y : Type 0} (f : K → L) (g : X → Y) where
       λ i. (keys x.0 y.0 a.0.0 i, values x.1 y.1 a.0.1 i) ∷ seen_from_clone C D keys values xs ys a.1 i
 
   module _ (R : L → L → Ordering) where
-    at_order : (r : Ordering) (k : K) (v : X) (e : K × X) (es : List (K × X)) →
-        seen (insert_entry (λ a b. R (f a) (f b)) es k v) ≡ put R (f k) (g v) (seen es) →
-        seen (match_ordering r ((k, v) ∷ (e ∷ es)) ((e.0, v) ∷ es) (e ∷ insert_entry (λ a b. R (f a) (f b)) es k v))
-        ≡ by_order r ((f k, g v) ∷ ((f e.0, g e.1) ∷ seen es)) ((f e.0, g v) ∷ seen es)
-        ((f e.0, g e.1) ∷ put R (f k) (g v) (seen es))
-    at_order Less k v e es later = refl
-    at_order Equal k v e es later = refl
-    at_order Greater k v e es later = ap (λ fs. (f e.0, g e.1) ∷ fs) later
+    at_order : (r : Ordering) (k : K) (v : X) (e : K × X) (entries : List (K × X)) →
+        seen (insert_entry (λ a b. R (f a) (f b)) entries k v) ≡ put R (f k) (g v) (seen entries) →
+        seen (match_ordering r ((k, v) ∷ (e ∷ entries)) ((e.0, v) ∷ entries)
+        (e ∷ insert_entry (λ a b. R (f a) (f b)) entries k v))
+        ≡ by_order r ((f k, g v) ∷ ((f e.0, g e.1) ∷ seen entries)) ((f e.0, g v) ∷ seen entries)
+        ((f e.0, g e.1) ∷ put R (f k) (g v) (seen entries))
+    at_order Less k v e entries later = refl
+    at_order Equal k v e entries later = refl
+    at_order Greater k v e entries later = ap (λ fs. (f e.0, g e.1) ∷ fs) later
 
-    seen-insert : (es : List (K × X)) (k : K) (v : X) →
-        seen (insert_entry (λ a b. R (f a) (f b)) es k v) ≡ put R (f k) (g v) (seen es)
+    seen-insert : (entries : List (K × X)) (k : K) (v : X) →
+        seen (insert_entry (λ a b. R (f a) (f b)) entries k v) ≡ put R (f k) (g v) (seen entries)
     seen-insert [] k v = refl
     seen-insert (e ∷ es) k v = at_order (R (f k) (f e.0)) k v e es (seen-insert es k v)
 
-    find-seen : (es : List (K × X)) (q : L) → find R q (seen es) ≡ option_map g (lookup (is_at (λ k. R q (f k))) es)
+    find-seen : (entries : List (K × X)) (q : L) →
+        find R q (seen entries) ≡ option_map g (lookup (is_at (λ k. R q (f k))) entries)
     find-seen [] q = refl
     find-seen (e ∷ es) q = at_test (is_eq (R q (f e.0))) e es q (find-seen es q)
       where
-        at_test : (b : Bool) (e : K × X) (es : List (K × X)) (q : L) →
-            find R q (seen es) ≡ option_map g (lookup (is_at (λ k. R q (f k))) es) →
-            cond b (Some (g e.1)) (find R q (seen es))
-            ≡ option_map g (cond b (Some e.1) (lookup (is_at (λ k. R q (f k))) es))
-        at_test true e es q later = refl
-        at_test false e es q later = later
+        at_test : (b : Bool) (e : K × X) (entries : List (K × X)) (q : L) →
+            find R q (seen entries) ≡ option_map g (lookup (is_at (λ k. R q (f k))) entries) →
+            cond b (Some (g e.1)) (find R q (seen entries))
+            ≡ option_map g (cond b (Some e.1) (lookup (is_at (λ k. R q (f k))) entries))
+        at_test true e entries q later = refl
+        at_test false e entries q later = later
 
-    put_first : (k : K) (v : X) (es : List (K × X)) →
-        AllByRecursion (λ y. R (f k) (f y) ≡ Less) (keys_of es) →
-        put R (f k) (g v) (seen es) ≡ (f k, g v) ∷ seen es
+    put_first : (k : K) (v : X) (entries : List (K × X)) →
+        AllByRecursion (λ y. R (f k) (f y) ≡ Less) (keys_of entries) →
+        put R (f k) (g v) (seen entries) ≡ (f k, g v) ∷ seen entries
     put_first k v [] below = refl
     put_first k v (e ∷ es) below =
         ap (λ r. by_order r ((f k, g v) ∷ ((f e.0, g e.1) ∷ seen es)) ((f e.0, g v) ∷ seen es)
         ((f e.0, g e.1) ∷ put R (f k) (g v) (seen es))) below.0
 
     module _ (total : IsTotalOrder R) where
-      pub get-seen : (es : List (K × X)) (q : L) →
-          get (from_entries {R = R} (seen es)) q ≡ option_map g (lookup (is_at (λ k. R q (f k))) es)
-      get-seen es q = get-from_entries total (seen es) q ∙ find-seen es q
+      pub get-seen : (entries : List (K × X)) (q : L) →
+          get (from_entries {R = R} (seen entries)) q ≡ option_map g (lookup (is_at (λ k. R q (f k))) entries)
+      get-seen entries q = get-from_entries total (seen entries) q ∙ find-seen entries q
 
       -- an insertion among the entries is one into the map that they are seen as
       pub insert-seen : IsAntisymmetric R →
-          (es : List (K × X)) (k : K) (v : X) →
-          from_entries {R = R} (seen (insert_entry (λ a b. R (f a) (f b)) es k v))
-          ≡ insert (from_entries (seen es)) (f k) (g v)
-      insert-seen one es k v =
-          same_map total one (from_entries (seen (insert_entry (λ a b. R (f a) (f b)) es k v)))
-          (insert (from_entries (seen es)) (f k) (g v))
-          (λ q. get-from_entries total (seen (insert_entry (λ a b. R (f a) (f b)) es k v)) q
-          ∙ ap (find R q) (seen-insert es k v)
-          ∙ find-put R total q (f k) (g v) (seen es)
-          ∙ sym (get-insert total (from_entries (seen es)) (f k) (g v) q
-          ∙ ap (cond (eq_by_cmp R q (f k)) (Some (g v))) (get-from_entries total (seen es) q)))
+          (entries : List (K × X)) (k : K) (v : X) →
+          from_entries {R = R} (seen (insert_entry (λ a b. R (f a) (f b)) entries k v))
+          ≡ insert (from_entries (seen entries)) (f k) (g v)
+      insert-seen one entries k v =
+          same_map total one (from_entries (seen (insert_entry (λ a b. R (f a) (f b)) entries k v)))
+          (insert (from_entries (seen entries)) (f k) (g v))
+          (λ q. get-from_entries total (seen (insert_entry (λ a b. R (f a) (f b)) entries k v)) q
+          ∙ ap (find R q) (seen-insert entries k v)
+          ∙ find-put R total q (f k) (g v) (seen entries)
+          ∙ sym (get-insert total (from_entries (seen entries)) (f k) (g v) q
+          ∙ ap (cond (eq_by_cmp R q (f k)) (Some (g v))) (get-from_entries total (seen entries) q)))
 
       -- what is in order stays so
       pub entries-seen : (es : List (K × X)) →
@@ -122,11 +124,11 @@ module _ {K L X Y : Type 0} (f : K → L) (g : X → Y) where
           ∙ ap (λ x. is_eq (R n x)) (sym (tied_to one q n to_n) ∙ tied_to one q k to_k) ∙ differ)
 
       find-write : IsAntisymmetric R →
-          (es : List (K × X)) (n : L) (old w : X) →
-          lookup (is_at (λ k. R n (f k))) es ≡ Some old →
+          (entries : List (K × X)) (n : L) (old w : X) →
+          lookup (is_at (λ k. R n (f k))) entries ≡ Some old →
           (q : L) →
-          find R q (seen (set_value (is_at (λ k. R n (f k))) es w))
-          ≡ cond (is_eq (R q n)) (Some (g w)) (find R q (seen es))
+          find R q (seen (set_value (is_at (λ k. R n (f k))) entries w))
+          ≡ cond (is_eq (R q n)) (Some (g w)) (find R q (seen entries))
       find-write one [] n old w found q = absurd (none-some old found)
       find-write one (e ∷ es) n old w found q =
           at_test (is_eq (R n (f e.0))) refl found (λ there. find-write one es n old w there q)
@@ -148,13 +150,14 @@ module _ {K L X Y : Type 0} (f : K → L) (g : X → Y) where
               ∙ apart (is_eq (R q n)) (is_eq (R q (f e.0))) (g w) (g e.1) (find R q (seen es)) (both_tied one q n (f e.0) is)
 
       pub write-seen : IsAntisymmetric R →
-          (es : List (K × X)) (n : L) (old w : X) →
-          lookup (is_at (λ k. R n (f k))) es ≡ Some old →
-          from_entries {R = R} (seen (set_value (is_at (λ k. R n (f k))) es w))
-          ≡ insert (from_entries (seen es)) n (g w)
-      write-seen one es n old w found =
-          same_map total one (from_entries (seen (set_value (is_at (λ k. R n (f k))) es w)))
-          (insert (from_entries (seen es)) n (g w))
-          (λ q. get-from_entries total (seen (set_value (is_at (λ k. R n (f k))) es w)) q ∙ find-write one es n old w found q
-          ∙ sym (get-insert total (from_entries (seen es)) n (g w) q
-          ∙ ap (cond (eq_by_cmp R q n) (Some (g w))) (get-from_entries total (seen es) q)))
+          (entries : List (K × X)) (n : L) (old w : X) →
+          lookup (is_at (λ k. R n (f k))) entries ≡ Some old →
+          from_entries {R = R} (seen (set_value (is_at (λ k. R n (f k))) entries w))
+          ≡ insert (from_entries (seen entries)) n (g w)
+      write-seen one entries n old w found =
+          same_map total one (from_entries (seen (set_value (is_at (λ k. R n (f k))) entries w)))
+          (insert (from_entries (seen entries)) n (g w))
+          (λ q. get-from_entries total (seen (set_value (is_at (λ k. R n (f k))) entries w)) q
+          ∙ find-write one entries n old w found q
+          ∙ sym (get-insert total (from_entries (seen entries)) n (g w) q
+          ∙ ap (cond (eq_by_cmp R q n) (Some (g w))) (get-from_entries total (seen entries) q)))

@@ -32,6 +32,7 @@ follows : (n k m : ℕ) (text rest xs : List ℕ) → drop n xs ≡ text ++ rest
 follows n k m text rest xs e len sum =
     ap (λ (j : ℕ). drop j xs) (sym sum) ∙ sym (drop-drop k n xs) ∙ ap (drop k) e ∙ drop_at text rest k len
 
+-- what stands at a place of bytes: a byte, a number, a time
 there : (n a : ℕ) (rest xs : List ℕ) → drop n xs ≡ a ∷ rest → get_or xs n 0 ≡ a
 there n a rest xs e =
     ap (λ (j : ℕ). get_or xs j 0) (omega arith) ∙ sym (get_or-drop n xs 0 0) ∙ ap (λ (ys : List ℕ). get_or ys 0 0) e
@@ -99,6 +100,7 @@ module _ (form : Form) where
   record Fronts (region : List ℕ) (e : Event) (more : List ℕ) : Type 0 where
     step : (n : ℕ) → events_from form (suc n) region ≡ e ∷ events_from form n more
 
+  -- a scope's beginning is read as that event: each of its parts stands where it is looked for
   opens : (id size : ℕ) (start : ℤ) (text more region : List ℕ) →
       id < 2 ^ 32 → FitsSigned w64 start → length text ≤ stored_limit form →
       region ≡ begin_bytes form id start text size ++ more →
@@ -163,6 +165,7 @@ module _ (form : Form) where
       ) in
       unless (nat_lt (length region) 13) _ _ (grind (arith, long)) ∙ ap Some (time_there 5 start _ region fits d5)
 
+  -- a scope's end is read as that event
   closes : (stop : ℤ) (more region : List ℕ) →
       FitsSigned w64 stop → region ≡ end_bytes stop ++ more →
       Fronts region (Close stop) more
@@ -186,69 +189,73 @@ module _ (form : Form) where
       events_from form (length (tour forest) + n) (spelling form forest ++ more)
       ≡ tour forest ++ events_from form n more
   forest_events empty written n more = ap (λ (k : ℕ). events_from form k more) (omega arith)
-  forest_events (node s children others) written n more =
-      let begin = begin_bytes form s.id s.start s.text (length (spelling form children)) in
+  forest_events (node span children others) written n more =
+      let begin = begin_bytes form span.id span.start span.text (length (spelling form children)) in
       let later = length (tour others) + n in
-      let fuel : length (tour (node s children others)) + n ≡ suc (length (tour children) + suc later) =
-      omega (arith, length-append (tour children) (Close s.stop ∷ tour others)) in
+      let fuel : length (tour (node span children others)) + n ≡ suc (length (tour children) + suc later) =
+      omega (arith, length-append (tour children) (Close span.stop ∷ tour others)) in
       let behind = spelling form others ++ more in
-      let inner = spelling form children ++ (end_bytes s.stop ++ behind) in
-      ap (λ (k : ℕ). events_from form k (spelling form (node s children others) ++ more)) fuel
-      ∙ (opens s.id (length (spelling form children)) s.start s.text inner _ written.0.id_high written.0.start
+      let inner = spelling form children ++ (end_bytes span.stop ++ behind) in
+      ap (λ (k : ℕ). events_from form k (spelling form (node span children others) ++ more)) fuel
+      ∙ (opens span.id (length (spelling form children)) span.start span.text inner _ written.0.id_high written.0.start
       written.0.text_size
-      (regroup_node begin (spelling form children) (end_bytes s.stop) (spelling form others) more)).step
+      (regroup_node begin (spelling form children) (end_bytes span.stop) (spelling form others) more)).step
       (length (tour children) + suc later)
-      ∙ ap (λ (w : List Event). Open s.id s.text s.start ∷ w)
-      (forest_events children written.1 (suc later) (end_bytes s.stop ++ behind)
-      ∙ ap (λ (w : List Event). tour children ++ w) ((closes s.stop behind _ written.0.stop refl).step later
-      ∙ ap (λ (w : List Event). Close s.stop ∷ w) (forest_events others written.2 n more))
-      ∙ regroup_tour (tour children) (tour others) (events_from form n more) (Close s.stop))
+      ∙ ap (λ (w : List Event). Open span.id span.text span.start ∷ w)
+      (forest_events children written.1 (suc later) (end_bytes span.stop ++ behind)
+      ∙ ap (λ (w : List Event). tour children ++ w) ((closes span.stop behind _ written.0.stop refl).step later
+      ∙ ap (λ (w : List Event). Close span.stop ∷ w) (forest_events others written.2 n more))
+      ∙ regroup_tour (tour children) (tour others) (events_from form n more) (Close span.stop))
 
+  -- the same of the bytes of open scopes
   opening_events : (latest : ℤ) (opened : List Opened) →
       AreOpenBy form latest opened →
       (n : ℕ) (more : List ℕ) →
       events_from form (length (opening_word opened) + n) (opening_bytes form opened ++ more)
       ≡ opening_word opened ++ events_from form n more
   opening_events latest [] started n more = ap (λ (k : ℕ). events_from form k more) (omega arith)
-  opening_events latest (o ∷ outer) started n more =
-      let begin = begin_bytes form o.id o.start o.text o.size in
-      let event = Open o.id o.text o.start in
-      let later = length (tour o.before) + suc n in
-      let fuel : length (opening_word (o ∷ outer)) + n ≡ length (opening_word outer) + later =
+  opening_events latest (scope ∷ outer) started n more =
+      let begin = begin_bytes form scope.id scope.start scope.text scope.size in
+      let event = Open scope.id scope.text scope.start in
+      let later = length (tour scope.before) + suc n in
+      let fuel : length (opening_word (scope ∷ outer)) + n ≡ length (opening_word outer) + later =
       omega (
         arith,
-        length-append (opening_word outer) (tour o.before ++ (event ∷ [])),
-        length-append (tour o.before) (event ∷ []),
+        length-append (opening_word outer) (tour scope.before ++ (event ∷ [])),
+        length-append (tour scope.before) (event ∷ []),
       ) in
-      ap (λ (k : ℕ). events_from form k (opening_bytes form (o ∷ outer) ++ more)) fuel
+      ap (λ (k : ℕ). events_from form k (opening_bytes form (scope ∷ outer) ++ more)) fuel
       ∙ ap (events_from form (length (opening_word outer) + later))
-      (regroup_opened (opening_bytes form outer) (spelling form o.before) begin more)
-      ∙ opening_events latest outer started.4 later (spelling form o.before ++ (begin ++ more))
+      (regroup_opened (opening_bytes form outer) (spelling form scope.before) begin more)
+      ∙ opening_events latest outer started.4 later (spelling form scope.before ++ (begin ++ more))
       ∙ ap (λ (w : List Event). opening_word outer ++ w)
-      (forest_events o.before started.0.before (suc n) (begin ++ more)
-      ∙ ap (λ (w : List Event). tour o.before ++ w)
-      ((opens o.id o.size o.start o.text more _ started.0.id_high started.0.start started.0.text_size refl).step n))
-      ∙ regroup_word (opening_word outer) (tour o.before) (events_from form n more) event
+      (forest_events scope.before started.0.before (suc n) (begin ++ more)
+      ∙ ap (λ (w : List Event). tour scope.before ++ w)
+      ((opens scope.id scope.size scope.start scope.text more _ started.0.id_high started.0.start started.0.text_size
+      refl).step n))
+      ∙ regroup_word (opening_word outer) (tour scope.before) (events_from form n more) event
 
   no_bytes : (n : ℕ) → events_from form n [] ≡ []
   unfolding events_from
   no_bytes zero = refl
   no_bytes (suc n) = refl
 
+  -- an event takes a byte at least, so bytes have no more events than bytes
   short : (word : List Event) → length word ≤ word_size form word
   short [] = omega arith
-  short (Open id text start ∷ w) = omega (arith, short w)
-  short (Close stop ∷ w) = omega (arith, short w)
+  short (Open id text start ∷ word) = omega (arith, short word)
+  short (Close stop ∷ word) = omega (arith, short word)
 
   pub events_of_none : events_in form [] ≡ []
   unfolding events_in
   events_of_none = no_bytes 0
 
+  -- open scopes followed by closed ones spell their word
   pub events_open : (latest : ℤ) (opened : List Opened) (closed : Forest) →
       AreOpenBy form latest opened → IsForest form closed →
       events_in form (open_spelling form opened closed) ≡ open_word opened closed
   unfolding events_in
-  events_open latest opened closed ho hc =
+  events_open latest opened closed started written =
       let bytes = open_spelling form opened closed in
       let surplus = length bytes - length (open_word opened closed) in
       let fuel : length bytes ≡ length (opening_word opened) + (length (tour closed) + surplus) =
@@ -259,9 +266,9 @@ module _ (form : Form) where
         length-append (opening_word opened) (tour closed),
       ) in
       ap (λ (k : ℕ). events_from form k bytes) fuel
-      ∙ opening_events latest opened ho (length (tour closed) + surplus) (spelling form closed)
+      ∙ opening_events latest opened started (length (tour closed) + surplus) (spelling form closed)
       ∙ ap (λ (w : List Event). opening_word opened ++ w)
       (ap (events_from form (length (tour closed) + surplus)) (sym (append_none (spelling form closed)))
-      ∙ forest_events closed hc surplus []
+      ∙ forest_events closed written surplus []
       ∙ ap (λ (w : List Event). tour closed ++ w) (no_bytes surplus)
       ∙ append_nil (tour closed))

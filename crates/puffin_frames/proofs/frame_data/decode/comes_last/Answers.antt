@@ -1,3 +1,4 @@
+-- The last of the map's threads is above all others, so a thread above that one is above them all.
 use Rattle.std.proofs.Common.{ap, sym, ◌∙◌}
 use Rattle.std.specs.Ordering.{is_lt}
 use Rattle.puffin_frames.proofs.Listed.{rises_after, falls_after}

@@ -1,3 +1,4 @@
+-- The details that were skipped, with those that are left to skip, are all details of the reading.
 use Rattle.std.proofs.Common.{◌≡◌, ◌++◌, ◌∷◌, [], List, Option, Some, None, ℕ}
 use Rattle.puffin_data.specs.Value.Decoding.{times_at}
 use Rattle.puffin_data.proofs.lemmas.Loops.{one_more}

@@ -1,3 +1,4 @@
+-- The details that were read, with those that are left to read, are all details of the reading.
 use Rattle.std.proofs.Common.{◌≡◌, ◌++◌, ◌∷◌, [], ap, ◌∙◌}
 use Rattle.std.proofs.lemmas.List.{map_push}
 use Rattle.puffin_data.specs.Value.Decoding.{times_at}

@@ -1,3 +1,4 @@
+-- One more of the list's details is written.
 use Rattle.std.specs.Arc.{arc_value}
 use Rattle.puffin_threads.specs.Details.{details_of}
 use Rattle.puffin_frames.specs.Packet.Structs.{detail_layout, IsDetail}

@@ -1,3 +1,4 @@
+-- One more of the map's details is written, in ascending order of id.
 use Rattle.std.proofs.Common.{ap}
 use Rattle.std.proofs.lemmas.Map.Iter.{rest_more}
 use Rattle.puffin_frames.specs.Packet.Structs.{detail_layout, IsDetail}

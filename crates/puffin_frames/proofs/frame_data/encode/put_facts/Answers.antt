@@ -1,3 +1,4 @@
+-- Six pieces are appended one after the other; the numbers of a range are those of their types.
 use Rattle.std.proofs.Common.{rules, FitsSigned, w64}
 use Rattle.std.proofs.Math.Facts.{to_z-of_z}
 use Rattle.std.proofs.lemmas.Result.{on_ok_weaker}

@@ -1,3 +1,4 @@
+-- One more of the map's entries is written; at the end all have been, and they are sorted as a map's entries are.
 use Rattle.std.proofs.Common.{◌<◌, ◌^◌, length, ap, rules, arith}
 use Rattle.std.proofs.lemmas.List.{length-map}
 use Rattle.std.proofs.lemmas.Map.Iter.{rest_more}

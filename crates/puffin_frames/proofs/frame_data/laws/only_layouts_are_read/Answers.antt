@@ -1,3 +1,4 @@
+-- Each struct has a reader that gives back its layouts, and takes nothing else.
 use Rattle.puffin_data.proofs.lemmas.Readers.{reads_layouts}
 use Rattle.puffin_frames.specs.Packet.Structs.{meta_layout, IsMeta, meta_at, key_layout, IsThreadKey, key_at, facts_layout, AreStreamFacts, facts_at, streams_layout, AreStreams, streams_at, details_layout, AreDetails, details_at, legacy_layout, IsLegacy, legacy_at}
 use Rattle.puffin_frames.proofs.Structs.{meta_reader, thread_reader, facts_reader, streams_reader, details_reader, legacy_reader}

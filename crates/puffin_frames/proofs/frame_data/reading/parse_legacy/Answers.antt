@@ -1,3 +1,4 @@
+-- All of the bytes are the layout of a legacy frame, whose parts are those of the frame that is made.
 use Rattle.std.proofs.Common.{◌≡◌, Bool, cond, List, Ok, Err, refl, ap, sym, ◌∙◌, arith}
 use Rattle.puffin_data.specs.Honesty.{StreamFacts}
 use Rattle.puffin_data.specs.declared.data.form.Form.TheVariants.{Short}

@@ -1,3 +1,4 @@
+-- The bytes that were taken are fewer than four, or four zeros: both are read as the end.
 use Rattle.std.proofs.Common.{◌≡◌, ◌<◌, length, take, inl, inr, arith, length-take, take_all, subst, sym, ◌∙◌}
 use Rattle.std.specs.Io.KnownBytes.{Consumes}
 use Rattle.puffin_frames.proofs.PacketsRead.{short_end, zeros_end}

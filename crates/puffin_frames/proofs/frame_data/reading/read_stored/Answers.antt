@@ -1,3 +1,4 @@
+-- The header says which of the two readings is the one of what follows it.
 use Rattle.std.proofs.Common.{◌≡◌, Bool, cond, false, ℕ, Some, ap, sym, ◌∙◌}
 use Rattle.byteorder.specs.Endian.{little_number}
 use Rattle.puffin_data.proofs.lemmas.Devices.{same_reading}

@@ -1,3 +1,4 @@
+-- The length, the kind and the bytes are read one after the other: the first that fails is the fault of the part.
 use Rattle.std.proofs.Common.{ℕ, List, Result, Ok}
 use Rattle.std.proofs.lemmas.Result.{err_from_is_err_and}
 use Rattle.puffin_data.specs.declared.file_error.FileError.{FileError}

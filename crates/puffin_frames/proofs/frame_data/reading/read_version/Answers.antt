@@ -1,3 +1,4 @@
+-- The letter's version is the one whose packets are read.
 use Rattle.std.proofs.Common.{Option, ap, sym, ◌∙◌}
 use Rattle.puffin_data.proofs.lemmas.Devices.{same_reading}
 use Rattle.puffin_frames.specs.declared.frame_data.version.Version.{Version}

@@ -1,3 +1,4 @@
+-- One more entry is copied to the end of the copies.
 use Rattle.std.proofs.Common.{rules}
 use Rattle.std.specs.Map.{keys_of}
 use Rattle.std.specs.Map.Iter.{deref_pair}

@@ -1,3 +1,4 @@
+-- The details in a collection's map, in the order of their ids, are those of its stored entries.
 use Rattle.std.proofs.Common.{◌≡◌, List, ap, sym, subst, ◌∙◌}
 use Rattle.std.specs.FinMap.{values}
 use Rattle.std.specs.Map.{values_of}

@@ -1,3 +1,4 @@
+-- After a failure a prefix of the two pieces is written: one of the first, or the first and a prefix of the second.
 use Rattle.std.proofs.lemmas.Result.{err_from_is_err_and, on_err_weaker}
 use Rattle.puffin_frames.proofs.Writing.{beginning_more, beginning_after}
 use Rattle.puffin_frames.proofs.frame_data.writing.write_both.Goals as goal

@@ -1,3 +1,4 @@
+-- The packet is written as its front and its streams, and then the length of the details and the details.
 use Rattle.std.proofs.Common.{◌≡◌, length, rules}
 use Rattle.std.proofs.lemmas.Result.{err_from_is_err_and, on_ok_weaker}
 use Rattle.std.proofs.KnownBytes.{Appends-trans}

@@ -1,3 +1,4 @@
+-- An id is written over the one that is there, or inserted under a new name; both are insertions into the map that is seen.
 use Rattle.std.proofs.Common.{ap, sym, ◌∙◌, string_bytes}
 use Rattle.std.specs.Option.{option_copied_mut}
 use Rattle.std.specs.BTreeMap.{insert_entry}

@@ -1,3 +1,4 @@
+-- Sorted entries are those of the map that is made from them.
 use Rattle.std.proofs.Common.{string_bytes}
 use Rattle.std.specs.Ordering.{nat_cmp}
 use Rattle.std.specs.Cmp.{nat_cmp_total}

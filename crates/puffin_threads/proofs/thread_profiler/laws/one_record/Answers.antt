@@ -1,3 +1,4 @@
+-- Equal bytes spell one forest, and honest counts are that forest's measures.
 use Rattle.std.proofs.Common.{◌≡◌, length, sym, ap, subst, ◌∙◌, arith}
 use Rattle.puffin_data.specs.declared.data.form.Form.{Form}
 use Rattle.puffin_data.specs.Forest.{Forest}

@@ -1,3 +1,4 @@
+-- Packing changes how the streams are held, and nothing else of the frame.
 use Rattle.std.proofs.Common.{refl, sym, ap, ◌∙◌}
 use Rattle.std.proofs.lemmas.Result.{on_err_weaker}
 use Rattle.puffin_frames.specs.Frame.Holding.{packing_of}

@@ -1,3 +1,4 @@
+-- What is handed out are the streams of the frame's packing, and only how they are held changes.
 use Rattle.std.proofs.Common.{refl, ap, subst, ◌∙◌}
 use Rattle.std.specs.Arc.{arc_value}
 use Rattle.puffin_frames.specs.Frame.Contents.{streams_held, held_as, frame_details}

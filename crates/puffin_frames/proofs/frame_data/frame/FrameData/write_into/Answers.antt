@@ -1,3 +1,4 @@
+-- However the streams are held, the packet is that of the frame's fields.
 use Rattle.std.proofs.Common.{rules}
 use Rattle.puffin_frames.proofs.frame_data.frame.FrameData.write_into.Goals as goal
 

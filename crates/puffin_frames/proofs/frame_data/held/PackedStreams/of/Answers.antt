@@ -1,3 +1,4 @@
+-- The bytes are the layout of the map's entries, and are read as the same map.
 use Rattle.std.proofs.Common.{◌≡◌, Some, List, ap, sym, ◌∙◌}
 use Rattle.puffin_data.specs.declared.data.form.Form.{Form}
 use Rattle.puffin_frames.specs.declared.frame_data.kind.Kind.TheVariants.{Uncompressed}

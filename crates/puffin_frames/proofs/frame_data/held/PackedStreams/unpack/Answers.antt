@@ -1,3 +1,4 @@
+-- Bytes that are decoded as entries in order are the streams of the map that has them.
 use Rattle.std.proofs.Common.{◌≡◌, true, Some, Ok, sym, ap, ◌∙◌}
 use Rattle.std.specs.Option.{option_map}
 use Rattle.std.specs.FinMap.{from_sorted}

@@ -1,3 +1,4 @@
+-- A clone's maps have entries that are seen as those of the original.
 use Rattle.std.proofs.Common.{◌≡◌, ap, sym, ◌∙◌, string_bytes}
 use Rattle.std.specs.Ordering.{nat_cmp}
 use Rattle.std.specs.FinMap.{FinMap, get, from_entries}

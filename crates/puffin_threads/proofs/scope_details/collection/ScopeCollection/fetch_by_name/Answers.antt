@@ -1,3 +1,4 @@
+-- A look-up among the entries is one in the map that they are seen as.
 use Rattle.std.proofs.Common.{ap, sym, ◌∙◌}
 use Rattle.std.specs.FinMap.{get}
 use Rattle.puffin_threads.specs.Details.Collection.{Collection}

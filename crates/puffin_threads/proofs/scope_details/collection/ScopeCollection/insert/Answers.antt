@@ -1,3 +1,4 @@
+-- There are three ways through an insertion: the id is there, it is new, or it is new and is taken out again.
 use Rattle.std.proofs.Common.{◌≡◌, Some, None, option_map, option_copied, ap, sym, ◌∙◌}
 use Rattle.std.specs.Ordering.{nat_cmp}
 use Rattle.std.specs.FinMap.{FinMap, get, insert}

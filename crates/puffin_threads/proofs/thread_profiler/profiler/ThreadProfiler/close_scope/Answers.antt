@@ -1,3 +1,4 @@
+-- The offset is that of the innermost open scope, so there is one to end.
 use Rattle.std.proofs.Common.{ap, arith}
 use Rattle.std.proofs.lemmas.Option.{slice_get_within}
 use Rattle.puffin_data.specs.Forest.Words.{open_after}

@@ -1,3 +1,4 @@
+-- After the last scope has ended none is open, so what the thread holds may be handed over.
 use Rattle.std.proofs.Common.{◌∷◌, [], ap, arith, to_z, of_z, w64}
 use Rattle.std.proofs.lemmas.Option.{slice_get_within}
 use Rattle.puffin_data.specs.Forest.Tour.{Close}

@@ -1,3 +1,4 @@
+-- Where the stream is shorter than the supply says, there is room already.
 use Rattle.std.proofs.Common.{arith}
 use Rattle.puffin_threads.proofs.Readiness.{prepares_short, copy_stays}
 use Rattle.puffin_threads.proofs.thread_profiler.supply.Supply.prepare.Goals as goal

@@ -1,3 +1,4 @@
+-- Where the stream is shorter than the limit there is room already, and only a copy of the name was missing.
 use Rattle.std.proofs.Common.{arith}
 use Rattle.puffin_threads.proofs.Readiness.{prepares_short, copy_there}
 use Rattle.puffin_threads.proofs.thread_profiler.supply.Supply.renew.Goals as goal

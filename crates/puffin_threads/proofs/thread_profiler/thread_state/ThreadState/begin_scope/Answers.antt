@@ -1,3 +1,4 @@
+-- The beginning is appended to the bytes, in the room that was made ready, and is one more event of the word.
 use Rattle.std.proofs.Common.{rules, ◌≡◌, ◌≤◌, ◌<◌, ◌+◌, ◌*◌, ℕ, ℤ, pos, ◌≤ℤ◌, List, [], ◌∷◌, ◌++◌, length, Option, Some, w64, FitsSigned, to_z, of_z, refl, sym, ap, subst, ◌∙◌, arith}
 use Rattle.std.specs.Option.{option_or}
 use Rattle.std.specs.Int.{int_max}
@@ -35,11 +36,11 @@ overflow_add-self g c =
     c.begin_within-offset.ensures.begun in
     let offset : c.begin_within-offset.result + 8 ≡ length c.begin_within-offset.new.self.bytes =
     c.begin_within-offset.ensures.offset in
-    let n = scopes_fit c.self.inside c.self.invariant in
+    let all_fit = scopes_fit c.self.inside c.self.invariant in
     omega (
       arith,
       open_fits c.self.inside c.self.invariant,
-      n,
+      all_fit,
       ap length bytes,
       ap length more,
       length-append c.prepare.new.stream.bytes begin,
@@ -75,11 +76,11 @@ overflow_add-self-2 g c =
     c.begin_within-offset.ensures.begun in
     let offset : c.begin_within-offset.result + 8 ≡ length c.begin_within-offset.new.self.bytes =
     c.begin_within-offset.ensures.offset in
-    let n = scopes_fit c.self.inside c.self.invariant in
+    let all_fit = scopes_fit c.self.inside c.self.invariant in
     omega (
       arith,
       open_fits c.self.inside c.self.invariant,
-      n,
+      all_fit,
       ap length bytes,
       ap length more,
       length-append c.prepare.new.stream.bytes begin,

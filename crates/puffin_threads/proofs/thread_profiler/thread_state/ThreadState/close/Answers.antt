@@ -1,3 +1,5 @@
+-- The innermost scope's size and stop are written, and the end is one more event of the word. Where that was the last open scope, the
+-- copy of the name is taken.
 use Rattle.std.proofs.Common.{rules, ◌≡◌, ℤ, ◌≤ℤ◌, w64, FitsSigned, to_z, of_z, refl, sym, ap, subst, ◌∙◌, arith, option_map, string_bytes}
 use Rattle.std.specs.Int.{int_max}
 use Rattle.std.proofs.lemmas.Bool.Decides.{nat_tests}

@@ -1,3 +1,4 @@
+-- Once all scopes have ended, an empty stream is a valid state; the first start is kept apart from it.
 use Rattle.std.proofs.Common.{◌∙◌, ◌+◌, ap, length, arith}
 use Rattle.puffin_data.specs.Forest.Words.{open_after}
 use Rattle.puffin_threads.specs.Thread.Calls.{Thread}
@@ -11,16 +12,16 @@ use Rattle.puffin_threads.proofs.thread_profiler.thread_state.ThreadState.discar
 
 pub invariant_of-self : goal.invariant_of-self
 invariant_of-self g =
-    let h = g.self.invariant in
+    let valid = g.self.invariant in
     let none = ap (λ (t : Thread). open_after 0 t.word) g.self.view_is ∙ g.requires in
-    cleared_in _ h.latest g.clear.ensures.honest (none_open_in g.self.inside h none)
-    (none_innermost g.self.inside h (none_open_in g.self.inside h none))
+    cleared_in _ valid.latest g.clear.ensures.honest (none_open_in g.self.inside valid none)
+    (none_innermost g.self.inside valid (none_open_in g.self.inside valid none))
     (stays_supplied g.self.inside.supply g.self.inside.info.stream _
     (omega (
       arith,
       ap (λ (i : StreamInfo). length i.stream.bytes + i.stream.room) g.complete.ensures.info,
       g.clear.ensures.room,
-    )) h.supplied) h.spare
+    )) valid.supplied) valid.spare
 
 pub returns : goal.returns
 returns g =

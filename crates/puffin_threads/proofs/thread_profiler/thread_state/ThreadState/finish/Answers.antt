@@ -1,3 +1,4 @@
+-- The innermost scope's size and stop are written, and the end is one more event of the word.
 use Rattle.std.proofs.Common.{rules, ◌≡◌, ℤ, ◌≤ℤ◌, w64, FitsSigned, to_z, of_z, refl, sym, ap, subst, ◌∙◌, arith}
 use Rattle.std.specs.Int.{int_max}
 use Rattle.std.proofs.lemmas.Int.{ints, to_z-of_z, clamps}

@@ -1,3 +1,5 @@
+-- Once all scopes have ended, the completed info is an honest record of the thread's word. After a refusal the thread is as before, and
+-- after an accepted report its stream is empty.
 use Rattle.std.proofs.Common.{rules, ◌≡◌, ℤ, Option, List, w64, FitsSigned, ◌∙◌, ◌+◌, ap, sym, subst, length, arith, string_bytes}
 use Rattle.std.proofs.lemmas.Int.{to_z-of_z}
 use Rattle.std.proofs.lemmas.Result.{err_from_is_err_and}
@@ -31,8 +33,10 @@ report-requires g c =
     let set : c.complete.new.info ≡ completed_info c.self.inside.info c.self.inside.latest =
     c.complete.ensures.info ∙ ap (completed_info c.self.inside.info) (to_z-of_z w64 c.self.inside.latest fits) in
     let none = ap (λ (t : Thread). open_after 0 t.word) c.self.view_is ∙ c.requires.none_open in
-    let r = report_in c.self.inside c.complete.new.info c.self.invariant none set in
-    (r.forest, subst (λ (x : StreamFacts). AreHonestFacts x r.forest) (sym c.as_stream_into_ref.ensures) r.honest)
+    let report = report_in c.self.inside c.complete.new.info c.self.invariant none set in (
+      report.forest,
+      subst (λ (info : StreamFacts). AreHonestFacts info report.forest) (sym c.as_stream_into_ref.ensures) report.honest,
+    )
 
 pub returns-in_err-report-clause-err : goal.returns-in_err-report-clause-err
 returns-in_err-report-clause-err g c =
@@ -43,7 +47,7 @@ returns-in_err-report-clause-err g c =
     let told =
     subst (λ (t : Thread). IsReportOf t (facts_of c.complete.new.info)) c.self.view_is
     (report_in c.self.inside c.complete.new.info c.self.invariant none set) in
-    let p = err_from_is_err_and c.from_residual.result c.from_residual.ensures.1 in
+    let failed = err_from_is_err_and c.from_residual.result c.from_residual.ensures.1 in
     let first : c.complete.new.first ≡ c.args.self.now.first_start =
     c.complete.ensures.first
     ∙ first_in c.self.inside c.self.invariant
@@ -51,7 +55,7 @@ returns-in_err-report-clause-err g c =
     let same : (record { start = c.complete.new.first; name = string_bytes c.args.name })
     ≡ key_of_thread c.args.self.now =
     λ i. record { start = first i; name = c.requires.name i } in
-    rw (p.1, p.2) (
+    rw (failed.1, failed.2) (
       same_thread _ _ (ap (λ (t : Thread). t.name) c.self.view_is)
           (ap (λ (i : StreamInfo). i.stream.form) set ∙ ap (λ (t : Thread). t.form) c.self.view_is)
           (ap (λ (x : Option ℤ). option_or x
@@ -82,16 +86,16 @@ invariant_of-self g c =
 
 pub invariant_of-self-2 : goal.invariant_of-self-2
 invariant_of-self-2 g c =
-    let h = c.self.invariant in
+    let valid = c.self.invariant in
     let none = ap (λ (t : Thread). open_after 0 t.word) c.self.view_is ∙ c.requires.none_open in
     let fits : FitsSigned w64 c.self.inside.latest = search rules in
     let set : c.complete.new.info ≡ completed_info c.self.inside.info c.self.inside.latest =
     c.complete.ensures.info ∙ ap (completed_info c.self.inside.info) (to_z-of_z w64 c.self.inside.latest fits) in
-    cleared_in _ h.latest c.clear.ensures.honest (none_open_in c.self.inside h none)
-    (none_innermost c.self.inside h (none_open_in c.self.inside h none))
+    cleared_in _ valid.latest c.clear.ensures.honest (none_open_in c.self.inside valid none)
+    (none_innermost c.self.inside valid (none_open_in c.self.inside valid none))
     (stays_supplied c.self.inside.supply c.self.inside.info.stream _
     (omega (arith, ap (λ (i : StreamInfo). length i.stream.bytes + i.stream.room) set, c.clear.ensures.room))
-    h.supplied) h.spare
+    valid.supplied) valid.spare
 
 pub returns-clause-ok : goal.returns-clause-ok
 returns-clause-ok g c =

@@ -1,3 +1,4 @@
+-- The offset that is kept is the first of the open scopes' offsets.
 use Rattle.std.proofs.Common.{ap, ◌∙◌, arith, slice_get}
 use Rattle.std.proofs.lemmas.Bool.Decides.{nat_tests}
 use Rattle.puffin_threads.specs.Thread.Calls.{Thread, offsets_of}

@@ -1,3 +1,4 @@
+-- A stream has bytes exactly if its word has events.
 use Rattle.std.proofs.Common.{◌==◌, length, ap, ◌∙◌}
 use Rattle.puffin_threads.specs.Thread.Calls.{Thread}
 use Rattle.puffin_threads.proofs.ThreadStates.{empty_in}

@@ -1,3 +1,4 @@
+-- An empty stream is a valid state.
 use Rattle.std.proofs.Common.{refl, ap, arith}
 use Rattle.std.proofs.lemmas.Int.{ints}
 use Rattle.puffin_threads.specs.Details.{details_seen}
