@@ -3,6 +3,7 @@ use Rattle.std.proofs.Common.{◌≡◌, ◌++◌, ◌∷◌, [], ℕ, ◌+◌, 
 use Rattle.std.proofs.lemmas.List.{append-nil, drop_more}
 use Rattle.std.specs.List.{flat_map, AllByRecursion}
 
+-- pieces that are appended one after the other are appended together: two, three, five and six of them
 pub two : (o p q a b : List ℕ) → p ≡ o ++ a → q ≡ p ++ b → q ≡ o ++ (a ++ b)
 two o p q a b f g = g ∙ (ap (λ (l : List ℕ). l ++ b) f ∙ append_assoc o a b)
 
@@ -28,11 +29,12 @@ pub record Writes {A : Type 0} (layout : A → List ℕ) (fits : A → Type 0) (
   pub written : now ≡ before ++ flat_map layout done
   pub fit : AllByRecursion fits done
 
+-- what holds of all items and of one more holds of all of them
 pub all_one : {A : Type 0} (fits : A → Type 0) (xs : List A) (x : A) →
     AllByRecursion fits xs → fits x →
     AllByRecursion fits (xs ++ x ∷ [])
-all_one fits [] x all_so f = (f, tt)
-all_one fits (y ∷ xs) x all_so f = (all_so.0, all_one fits xs x all_so.1 f)
+all_one fits [] x all_so x_fits = (x_fits, tt)
+all_one fits (y ∷ xs) x all_so x_fits = (all_so.0, all_one fits xs x all_so.1 x_fits)
 
 flat_one : {A : Type 0} (layout : A → List ℕ) (xs : List A) (x : A) →
     flat_map layout (xs ++ x ∷ []) ≡ flat_map layout xs ++ layout x
@@ -43,10 +45,12 @@ flat_one layout (y ∷ xs) x =
     sym_assoc : (a b c : List ℕ) → a ++ (b ++ c) ≡ (a ++ b) ++ c
     sym_assoc a b c = simp append_assoc
 
+-- nothing is written at first
 pub starts : {A : Type 0} (layout : A → List ℕ) (fits : A → Type 0) (now : List ℕ) (all : List A) →
     Writes layout fits now now all all
 starts layout fits now all = record { done = []; whole = refl; written = simp append-nil; fit = tt }
 
+-- one more item is written
 pub one_more :
     {A : Type 0} (layout : A → List ℕ) (fits : A → Type 0) (before now next : List ℕ) (rest all : List A) (x : A) →
     Writes layout fits before now (x ∷ rest) all → next ≡ now ++ layout x → fits x →

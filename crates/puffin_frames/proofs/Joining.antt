@@ -36,18 +36,18 @@ pub scopes_above : (n : ℕ) (infos : List StreamFacts) → n ≤ scopes_from n 
 scopes_above n [] = omega arith
 scopes_above n (x ∷ xs) = omega (arith, scopes_above (n + x.num_scopes) xs)
 
-pub one_more : (meta more : FrameMeta) (x : StreamFacts) (rest all : List StreamFacts) (index : ℕ) →
-    ComesTo meta (x ∷ rest) index all → more.frame_index ≡ meta.frame_index →
-    more.num_bytes ≡ meta.num_bytes + length x.bytes → more.num_scopes ≡ meta.num_scopes + x.num_scopes →
-    more.range_ns.0 ≡ int_min meta.range_ns.0 x.range_ns.0 → more.range_ns.1 ≡ int_max meta.range_ns.1 x.range_ns.1 →
-    (more.num_bytes < 2 ^ 64) × (more.num_scopes < 2 ^ 64) →
+pub one_more : (meta more : FrameMeta) (info : StreamFacts) (rest all : List StreamFacts) (index : ℕ) →
+    ComesTo meta (info ∷ rest) index all → more.frame_index ≡ meta.frame_index →
+    more.num_bytes ≡ meta.num_bytes + length info.bytes → more.num_scopes ≡ meta.num_scopes + info.num_scopes →
+    more.range_ns.0 ≡ int_min meta.range_ns.0 info.range_ns.0 →
+    more.range_ns.1 ≡ int_max meta.range_ns.1 info.range_ns.1 → (more.num_bytes < 2 ^ 64) × (more.num_scopes < 2 ^ 64) →
     ComesTo more rest index all
-one_more meta more x rest all index comes ei eb es e0 e1 fits = record {
-  frame_index = ei ∙ comes.frame_index;
-  num_bytes = ap (λ n. bytes_from n rest) eb ∙ comes.num_bytes;
-  num_scopes = ap (λ n. scopes_from n rest) es ∙ comes.num_scopes;
-  start = ap (λ z. start_from z rest) e0 ∙ comes.start;
-  stop = ap (λ z. stop_from z rest) e1 ∙ comes.stop;
+one_more meta more info rest all index comes same_index more_bytes more_scopes start_is stop_is fits = record {
+  frame_index = same_index ∙ comes.frame_index;
+  num_bytes = ap (λ n. bytes_from n rest) more_bytes ∙ comes.num_bytes;
+  num_scopes = ap (λ n. scopes_from n rest) more_scopes ∙ comes.num_scopes;
+  start = ap (λ z. start_from z rest) start_is ∙ comes.start;
+  stop = ap (λ z. stop_from z rest) stop_is ∙ comes.stop;
   fit = fits;
 }
 

@@ -54,21 +54,21 @@ parts_pfd3 fields rest fits short none =
     rw (
       meta_again fields (little_bytes 4 (length fields.streams) ++ (to_byte fields.kind ∷ (fields.streams ++ rest))) fits,
       streams_pfd3 fields rest fits,
-    ) (ap (λ (s : PacketFields). Ok (s, rest)) (without fields short none))
+    ) (ap (λ (read : PacketFields). Ok (read, rest)) (without fields short none))
 
-pub row_pfd3 : (m l s rest : List ℕ) (kind : ℕ) →
-    ((80 ∷ 70 ∷ 68 ∷ 51 ∷ []) ++ (m ++ (l ++ (kind ∷ s)))) ++ rest
-    ≡ 80 ∷ 70 ∷ 68 ∷ 51 ∷ (m ++ (l ++ (kind ∷ (s ++ rest))))
-row_pfd3 m l s rest kind = simp append_assoc
+pub row_pfd3 : (meta size streams rest : List ℕ) (kind : ℕ) →
+    ((80 ∷ 70 ∷ 68 ∷ 51 ∷ []) ++ (meta ++ (size ++ (kind ∷ streams)))) ++ rest
+    ≡ 80 ∷ 70 ∷ 68 ∷ 51 ∷ (meta ++ (size ++ (kind ∷ (streams ++ rest))))
+row_pfd3 meta size streams rest kind = simp append_assoc
 
 pub without_details_again : (fields : PacketFields) (rest : List ℕ) →
     IsPacked fields → fields.form ≡ Short → fields.details ≡ [] →
     next_at (packet_without_details fields ++ rest) ≡ Ok (Some (packed fields), rest)
 without_details_again fields rest fits short none =
-    let m = counted_part (meta_layout fields.meta) in
-    let l = little_bytes 4 (length fields.streams) in
-    ap next_at (row_pfd3 m l fields.streams rest (to_byte fields.kind))
-    ∙ (after_letters Pfd3 (m ++ (l ++ (to_byte fields.kind ∷ (fields.streams ++ rest))))
+    let meta = counted_part (meta_layout fields.meta) in
+    let size = little_bytes 4 (length fields.streams) in
+    ap next_at (row_pfd3 meta size fields.streams rest (to_byte fields.kind))
+    ∙ (after_letters Pfd3 (meta ++ (size ++ (to_byte fields.kind ∷ (fields.streams ++ rest))))
     ∙ ap (as_stored packed) (parts_pfd3 fields rest fits short none))
 
 -- ---- without a kind
@@ -98,20 +98,21 @@ parts_pfd2 fields rest fits short zstd none =
       meta_again fields (little_bytes 4 (length fields.streams) ++ (fields.streams ++ rest)) fits,
       streams_pfd2 fields rest fits,
     )
-    (ap (λ (s : PacketFields). Ok (s, rest)) (older fields short zstd none))
+    (ap (λ (read : PacketFields). Ok (read, rest)) (older fields short zstd none))
 
-pub row_pfd2 : (m l s rest : List ℕ) →
-    ((80 ∷ 70 ∷ 68 ∷ 50 ∷ []) ++ (m ++ (l ++ s))) ++ rest ≡ 80 ∷ 70 ∷ 68 ∷ 50 ∷ (m ++ (l ++ (s ++ rest)))
-row_pfd2 m l s rest = simp append_assoc
+pub row_pfd2 : (meta size streams rest : List ℕ) →
+    ((80 ∷ 70 ∷ 68 ∷ 50 ∷ []) ++ (meta ++ (size ++ streams))) ++ rest
+    ≡ 80 ∷ 70 ∷ 68 ∷ 50 ∷ (meta ++ (size ++ (streams ++ rest)))
+row_pfd2 meta size streams rest = simp append_assoc
 
 pub without_kind_again : (fields : PacketFields) (rest : List ℕ) →
     IsPacked fields → fields.form ≡ Short → fields.kind ≡ Zstd → fields.details ≡ [] →
     next_at (packet_without_kind fields ++ rest) ≡ Ok (Some (packed fields), rest)
 without_kind_again fields rest fits short zstd none =
-    let m = counted_part (meta_layout fields.meta) in
-    let l = little_bytes 4 (length fields.streams) in
-    ap next_at (row_pfd2 m l fields.streams rest)
-    ∙ (after_letters Pfd2 (m ++ (l ++ (fields.streams ++ rest)))
+    let meta = counted_part (meta_layout fields.meta) in
+    let size = little_bytes 4 (length fields.streams) in
+    ap next_at (row_pfd2 meta size fields.streams rest)
+    ∙ (after_letters Pfd2 (meta ++ (size ++ (fields.streams ++ rest)))
     ∙ ap (as_stored packed) (parts_pfd2 fields rest fits short zstd none))
 
 -- ---- legacy frames
@@ -135,10 +136,10 @@ legacy_part_again frame rest fits =
     ) refl
 
 -- the letters aren't those of a packet, so they are a length
-by_length : (header xs : List ℕ) (n : ℕ) →
-    is_packet header ≡ false → little_number 4 header ≡ n →
-    stored_after header xs ≡ as_stored legacy (legacy_part_at n xs)
-by_length header xs n other size = rw (other, size) refl
+by_length : (header after : List ℕ) (number : ℕ) →
+    is_packet header ≡ false → little_number 4 header ≡ number →
+    stored_after header after ≡ as_stored legacy (legacy_part_at number after)
+by_length header after number no_packet size = rw (no_packet, size) refl
 
 pub legacy_again : (frame : Legacy) (rest : List ℕ) →
     IsLegacyFrame frame →
@@ -146,10 +147,10 @@ pub legacy_again : (frame : Legacy) (rest : List ℕ) →
 legacy_again frame rest fits =
     let n = length (legacy_layout frame) in
     let header = little_bytes 4 n in
-    let xs = legacy_layout frame ++ rest in
+    let after = legacy_layout frame ++ rest in
     let size : little_number 4 header ≡ n = little_number-reads_back 4 n [] (omega (arith, fits.short)) in
     let more : is_end header ≡ false =
-    not_end header refl (λ zero_. absurd (omega (arith, size, zero_, legacy_long frame))) in
+    not_end header refl (λ is_zero. absurd (omega (arith, size, is_zero, legacy_long frame))) in
     ap next_at (append_assoc header (legacy_layout frame) rest)
-    ∙ (after_header header xs refl more
-    ∙ (by_length header xs n fits.no_packet size ∙ ap (as_stored legacy) (legacy_part_again frame rest fits)))
+    ∙ (after_header header after refl more
+    ∙ (by_length header after n fits.no_packet size ∙ ap (as_stored legacy) (legacy_part_again frame rest fits)))

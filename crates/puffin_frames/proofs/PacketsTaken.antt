@@ -202,8 +202,8 @@ none_taken details none bytes rest read =
 
 -- what an older packet stores can be packed, since no details are short
 without_any : (fields : PacketFields) →
-    [] ≡ fields.details → IsMeta fields.meta →
-    is_valid_range_at fields.meta.range_ns.0 fields.meta.range_ns.1 ≡ true → length fields.streams < 2 ^ 32 →
+    [] ≡ fields.details → IsMeta fields.meta → is_valid_range_at fields.meta.range_ns.0 fields.meta.range_ns.1 ≡ true →
+    length fields.streams < 2 ^ 32 →
     IsPacked fields
 without_any fields none fits range short = record {
   meta = fits;
@@ -237,7 +237,12 @@ without_details_taken bytes fields rest are_bytes read =
       form_is = by.form;
       is_packed = without_any fields none meta.fits meta.range streams.short;
       none = sym none;
-      text = meta.text ∙ ap (λ (bytes : List ℕ). meta_bytes ++ bytes) (subst (λ (after : List ℕ). by.after_meta ≡ little_bytes 4 (length fields.streams) ++ (to_byte fields.kind ∷ (fields.streams ++ after))) at_rest streams.text);
+      text =
+          meta.text
+          ∙ ap (λ (bytes : List ℕ). meta_bytes ++ bytes)
+          (subst (λ (after : List ℕ). by.after_meta
+          ≡ little_bytes 4 (length fields.streams) ++ (to_byte fields.kind ∷ (fields.streams ++ after))) at_rest
+          streams.text);
     }
 
 -- a packet without details and without a kind
@@ -264,5 +269,9 @@ without_kind_taken bytes fields rest are_bytes read =
       is_packed = without_any fields none meta.fits meta.range streams.short;
       zstd = streams.zstd;
       none = sym none;
-      text = meta.text ∙ ap (λ (bytes : List ℕ). meta_bytes ++ bytes) (subst (λ (after : List ℕ). by.after_meta ≡ little_bytes 4 (length fields.streams) ++ (fields.streams ++ after)) at_rest streams.text);
+      text =
+          meta.text
+          ∙ ap (λ (bytes : List ℕ). meta_bytes ++ bytes)
+          (subst (λ (after : List ℕ). by.after_meta
+          ≡ little_bytes 4 (length fields.streams) ++ (fields.streams ++ after)) at_rest streams.text);
     }

@@ -27,16 +27,18 @@ at_middle P [] k rest all = all.0
 at_middle P (x ∷ xs) k rest all = at_middle P xs k rest all.1
 
 -- an entry whose key is above all others goes to the end
-insert_last : {K X : Type 0} {cmp : K → K → Ordering} (total : IsTotalOrder cmp) (es : List (K × X)) (k : K) (v : X)
+insert_last : {K X : Type 0} {cmp : K → K → Ordering} (total : IsTotalOrder cmp) (es : List (K × X)) (key : K) (value : X)
     (rest : List K) →
-    IsStrictlySortedBy cmp (keys_of es ++ k ∷ rest) →
-    insert_entry cmp es k v ≡ es ++ (k, v) ∷ []
-insert_last total [] k v rest sorted = refl
-insert_last {cmp = cmp} total (e ∷ es) k v rest sorted =
-    let below : cmp e.0 k ≡ Less = at_middle (λ y. cmp e.0 y ≡ Less) (keys_of es) k rest (sorted_head cmp e.0 _ sorted) in
-    let above : cmp k e.0 ≡ Greater = total.antisymm k e.0 ∙ ap ordering_reverse below in
-    ap (λ r. match_ordering r ((k, v) ∷ e ∷ es) ((e.0, v) ∷ es) (e ∷ insert_entry cmp es k v)) above
-    ∙ ap (λ l. e ∷ l) (insert_last total es k v rest (sorted_tail cmp e.0 _ sorted))
+    IsStrictlySortedBy cmp (keys_of es ++ key ∷ rest) →
+    insert_entry cmp es key value ≡ es ++ (key, value) ∷ []
+insert_last total [] key value rest sorted = refl
+insert_last {cmp = cmp} total (entry ∷ es) key value rest sorted =
+    let below : cmp entry.0 key ≡ Less =
+    at_middle (λ y. cmp entry.0 y ≡ Less) (keys_of es) key rest (sorted_head cmp entry.0 _ sorted) in
+    let above : cmp key entry.0 ≡ Greater = total.antisymm key entry.0 ∙ ap ordering_reverse below in
+    ap (λ r. match_ordering r ((key, value) ∷ entry ∷ es) ((entry.0, value) ∷ es)
+    (entry ∷ insert_entry cmp es key value)) above
+    ∙ ap (λ l. entry ∷ l) (insert_last total es key value rest (sorted_tail cmp entry.0 _ sorted))
 
 keys_of-unshared : {A : Type 0} (entries : List (ThreadInfo × Arc StreamInfo A)) (thread : ThreadInfo) (info : StreamInfo)
     (rest : List (ThreadInfo × StreamInfo)) →
@@ -57,31 +59,31 @@ pub record SharesInOrder {A : Type 0} (es : List (ThreadInfo × Arc StreamInfo A
   pub sorted : IsStrictlySortedBy thread_cmp (keys_of all)
   pub fit : AllByRecursion (λ (e : ThreadKey × StreamFacts). IsThreadKey e.0 × AreCounts e.1) (pairs_of es)
 
-pub one_more : {A : Type 0} (entries after : List (ThreadInfo × Arc StreamInfo A)) (k : ThreadInfo) (info : StreamInfo)
+pub one_more : {A : Type 0} (entries after : List (ThreadInfo × Arc StreamInfo A)) (thread : ThreadInfo) (info : StreamInfo)
     (arc : Arc StreamInfo A) (left rest all : List (ThreadInfo × StreamInfo)) →
-    SharesInOrder entries left all → left ≡ (k, info) ∷ rest → arc_value arc ≡ info →
-    after ≡ insert_entry thread_cmp entries k arc → IsThreadKey (key_of k) → AreCounts (facts_of info) →
+    SharesInOrder entries left all → left ≡ (thread, info) ∷ rest → arc_value arc ≡ info →
+    after ≡ insert_entry thread_cmp entries thread arc → IsThreadKey (key_of thread) → AreCounts (facts_of info) →
     SharesInOrder after rest all
-one_more entries after k info arc left rest all so_far next same put thread counts =
-    let whole : without_sharing entries ++ (k, info) ∷ rest ≡ all =
+one_more entries after thread info arc left rest all so_far next same put key_fits counts =
+    let whole : without_sharing entries ++ (thread, info) ∷ rest ≡ all =
     ap (λ l. without_sharing entries ++ l) (sym next) ∙ so_far.whole in
     let sorted =
     subst (λ (ks : List ThreadInfo). IsStrictlySortedBy thread_cmp ks)
-    (ap keys_of (sym whole) ∙ keys_of-unshared entries k info rest) so_far.sorted in
-    let last = insert_last thread_cmp_total entries k arc (keys_of rest) sorted in
+    (ap keys_of (sym whole) ∙ keys_of-unshared entries thread info rest) so_far.sorted in
+    let last = insert_last thread_cmp_total entries thread arc (keys_of rest) sorted in
     record {
       whole =
           ap (λ l. without_sharing l ++ rest) (put ∙ last)
-          ∙ unshared-last entries k arc rest
-          ∙ ap (λ x. without_sharing entries ++ (k, x) ∷ rest) same
+          ∙ unshared-last entries thread arc rest
+          ∙ ap (λ x. without_sharing entries ++ (thread, x) ∷ rest) same
           ∙ whole;
       sorted = so_far.sorted;
       fit =
           subst (λ (xs : List (ThreadKey × StreamFacts)). AllByRecursion Fits xs)
-          (sym (ap pairs_of (put ∙ last) ∙ listed-push entries k arc))
-          (all_one Fits (pairs_of entries) (key_of k, facts_of (arc_value arc)) so_far.fit
-          (thread, subst (λ (x : StreamInfo). AreCounts (facts_of x)) (sym same) counts));
+          (sym (ap pairs_of (put ∙ last) ∙ listed-push entries thread arc))
+          (all_one Fits (pairs_of entries) (key_of thread, facts_of (arc_value arc)) so_far.fit
+          (key_fits, subst (λ (x : StreamInfo). AreCounts (facts_of x)) (sym same) counts));
     }
   where
     Fits : ThreadKey × StreamFacts → Type 0
-    Fits e = IsThreadKey e.0 × AreCounts e.1
+    Fits entry = IsThreadKey entry.0 × AreCounts entry.1

@@ -27,24 +27,25 @@ use Rattle.puffin_threads.specs.Details.{Details, details_of, shared_details}
 use Rattle.puffin_threads.specs.Details.Collection.{ids_seen, by_ids}
 use Rattle.puffin_frames.proofs.Listed.{and-both, entries-sorted_list, no_entries}
 
+-- a prefix of a piece is one of it and another piece
 pub beginning_more : (old new : Option (List ℕ)) (a b : List ℕ) → WritesBeginning old new a → WritesBeginning old new (a ++ b)
-beginning_more old new a b begins =
-    (begins.0, begins.1 ++ b, ap (λ (t : List ℕ). t ++ b) begins.2 ∙ append_assoc begins.0 begins.1 b, begins.3)
+beginning_more old new a b (front, left, split, written) =
+    (front, left ++ b, ap (λ (t : List ℕ). t ++ b) split ∙ append_assoc front left b, written)
 
+-- a piece and a prefix of the next are a prefix of both
 pub beginning_after : (old mid new : Option (List ℕ)) (a b : List ℕ) →
     Appends old mid a → WritesBeginning mid new b →
     WritesBeginning old new (a ++ b)
-beginning_after old mid new a b first begins = (
-  a ++ begins.0,
-  begins.1,
-  ap (λ (t : List ℕ). a ++ t) begins.2
-      ∙ sym (append_assoc a begins.0 begins.1),
-  Appends-trans old mid new a begins.0 first begins.3,
+beginning_after old mid new a b first (front, left, split, written) = (
+  a ++ front,
+  left,
+  ap (λ (t : List ℕ). a ++ t) split ∙ sym (append_assoc a front left),
+  Appends-trans old mid new a front first written,
 )
 
 pub begun_if : {X P Q : Type 0} (r : Result X FileError) → (P → Q) → OnErr r P → IfErr r (λ e. e ≡ file.Io → Q)
-begun_if (Ok x) f h = tt
-begun_if (Err e) f h = λ _. f h
+begun_if (Ok x) so failed = tt
+begun_if (Err cause) so failed = λ _. so failed
 
 -- ---- a meta part is short
 
@@ -95,28 +96,28 @@ meta_short meta =
     (number_short meta.frame_index) (number_short (zigzag meta.range_ns.0)) (number_short (zigzag meta.range_ns.1))
     (number_short meta.num_bytes) (number_short meta.num_scopes)
 
--- ---- a range that a frame may have
-
 -- ---- a collection's details
 
 ids_sorted : {A : Type 0} (es : List (ℕ × Arc ScopeDetails A)) →
     IsStrictlySortedBy nat_cmp (keys_of es) →
     is_sorted nat_cmp (ids_seen es) ≡ true
 ids_sorted [] sorted = refl
-ids_sorted (e ∷ es) sorted =
-    and-both (below_all nat_cmp e.0 (ids_seen es)) (is_sorted nat_cmp (ids_seen es))
-    (ids_below e.0 es (sorted_head nat_cmp e.0 _ sorted)) (ids_sorted es (sorted_tail nat_cmp e.0 _ sorted))
+ids_sorted (entry ∷ es) sorted =
+    and-both (below_all nat_cmp entry.0 (ids_seen es)) (is_sorted nat_cmp (ids_seen es))
+    (ids_below entry.0 es (sorted_head nat_cmp entry.0 _ sorted)) (ids_sorted es (sorted_tail nat_cmp entry.0 _ sorted))
   where
-    ids_below : {A : Type 0} (x : ℕ) (es : List (ℕ × Arc ScopeDetails A)) →
-        AllByRecursion (λ y. nat_cmp x y ≡ Less) (keys_of es) →
-        below_all nat_cmp x (ids_seen es) ≡ true
-    ids_below x [] all_so = refl
-    ids_below x (e ∷ es) all_so =
-        and-both (is_lt (nat_cmp x e.0)) (below_all nat_cmp x (ids_seen es)) (ap is_lt all_so.0) (ids_below x es all_so.1)
+    ids_below : {A : Type 0} (id : ℕ) (es : List (ℕ × Arc ScopeDetails A)) →
+        AllByRecursion (λ y. nat_cmp id y ≡ Less) (keys_of es) →
+        below_all nat_cmp id (ids_seen es) ≡ true
+    ids_below id [] all_so = refl
+    ids_below id (entry ∷ es) all_so =
+        and-both (is_lt (nat_cmp id entry.0)) (below_all nat_cmp id (ids_seen es)) (ap is_lt all_so.0)
+        (ids_below id es all_so.1)
 
-values_seen : {A : Type 0} (es : List (ℕ × Arc ScopeDetails A)) → map (λ e. e.1) (ids_seen es) ≡ shared_details (values_of es)
+values_seen : {A : Type 0} (es : List (ℕ × Arc ScopeDetails A)) →
+    map (λ entry. entry.1) (ids_seen es) ≡ shared_details (values_of es)
 values_seen [] = refl
-values_seen (e ∷ es) = ap (λ (l : List Details). details_of (arc_value e.1) ∷ l) (values_seen es)
+values_seen (entry ∷ es) = ap (λ (l : List Details). details_of (arc_value entry.1) ∷ l) (values_seen es)
 
 -- the details of a collection are those of its map, by rising id
 pub values-by_ids : {A : Type 0} (es : List (ℕ × Arc ScopeDetails A)) →

@@ -18,9 +18,9 @@ use Rattle.puffin_threads.proofs.lemmas.EntriesSeen.{insert-seen, entries-seen}
 
 module _ {X : Type 0} where
   -- an insertion into the map is one by infos
-  pub by_key-insert : (entries : List (ThreadInfo × X)) (thread : ThreadInfo) (v : X) →
-      by_key (insert_entry thread_cmp entries thread v) ≡ insert (by_key entries) (key_of thread) v
-  by_key-insert entries thread v = insert-seen key_of (λ x. x) key_cmp key_cmp_total key_cmp-one entries thread v
+  pub by_key-insert : (entries : List (ThreadInfo × X)) (thread : ThreadInfo) (value : X) →
+      by_key (insert_entry thread_cmp entries thread value) ≡ insert (by_key entries) (key_of thread) value
+  by_key-insert entries thread value = insert-seen key_of (λ x. x) key_cmp key_cmp_total key_cmp-one entries thread value
 
   -- what is in order stays so
   pub entries-by_key : (given : List (ThreadInfo × X)) →
@@ -50,23 +50,26 @@ values-records (e ∷ es) = ap (λ rs. facts_of e.1 ∷ rs) (values-records es)
 
 -- an insertion among entries whose values are read by g
 module _ {X Y : Type 0} (g : X → Y) where
-  read_at_order : (r : Ordering) (thread : ThreadInfo) (v : X) (e : ThreadInfo × X) (entries : List (ThreadInfo × X)) →
-      map (λ f. (f.0, g f.1)) (insert_entry thread_cmp entries thread v)
-      ≡ insert_entry thread_cmp (map (λ f. (f.0, g f.1)) entries) thread (g v) →
-      map (λ f. (f.0, g f.1)) (match_ordering r
-      ((thread, v) ∷ (e ∷ entries)) ((e.0, v) ∷ entries) (e ∷ insert_entry thread_cmp entries thread v))
-      ≡ match_ordering r ((thread, g v) ∷ ((e.0, g e.1) ∷ map (λ f. (f.0, g f.1)) entries))
-      ((e.0, g v) ∷ map (λ f. (f.0, g f.1)) entries)
-      ((e.0, g e.1) ∷ insert_entry thread_cmp (map (λ f. (f.0, g f.1)) entries) thread (g v))
-  read_at_order Less thread v e entries later = refl
-  read_at_order Equal thread v e entries later = refl
-  read_at_order Greater thread v e entries later = ap (λ fs. (e.0, g e.1) ∷ fs) later
+  read_at_order :
+      (order : Ordering) (thread : ThreadInfo) (value : X) (entry : ThreadInfo × X) (entries : List (ThreadInfo × X)) →
+      map (λ f. (f.0, g f.1)) (insert_entry thread_cmp entries thread value)
+      ≡ insert_entry thread_cmp (map (λ f. (f.0, g f.1)) entries) thread (g value) →
+      map (λ f. (f.0, g f.1)) (match_ordering order
+      ((thread, value) ∷ (entry ∷ entries)) ((entry.0, value) ∷ entries)
+      (entry ∷ insert_entry thread_cmp entries thread value))
+      ≡ match_ordering order ((thread, g value) ∷ ((entry.0, g entry.1) ∷ map (λ f. (f.0, g f.1)) entries))
+      ((entry.0, g value) ∷ map (λ f. (f.0, g f.1)) entries)
+      ((entry.0, g entry.1) ∷ insert_entry thread_cmp (map (λ f. (f.0, g f.1)) entries) thread (g value))
+  read_at_order Less thread value entry entries later = refl
+  read_at_order Equal thread value entry entries later = refl
+  read_at_order Greater thread value entry entries later = ap (λ fs. (entry.0, g entry.1) ∷ fs) later
 
-  pub read-insert : (entries : List (ThreadInfo × X)) (thread : ThreadInfo) (v : X) →
-      map (λ f. (f.0, g f.1)) (insert_entry thread_cmp entries thread v)
-      ≡ insert_entry thread_cmp (map (λ f. (f.0, g f.1)) entries) thread (g v)
-  read-insert [] thread v = refl
-  read-insert (e ∷ es) thread v = read_at_order (thread_cmp thread e.0) thread v e es (read-insert es thread v)
+  pub read-insert : (entries : List (ThreadInfo × X)) (thread : ThreadInfo) (value : X) →
+      map (λ f. (f.0, g f.1)) (insert_entry thread_cmp entries thread value)
+      ≡ insert_entry thread_cmp (map (λ f. (f.0, g f.1)) entries) thread (g value)
+  read-insert [] thread value = refl
+  read-insert (entry ∷ es) thread value =
+      read_at_order (thread_cmp thread entry.0) thread value entry es (read-insert es thread value)
 
 pub entries-streams_of : (given : List (ThreadInfo × StreamInfo)) →
     IsStrictlySortedBy thread_cmp (keys_of given) →
@@ -78,7 +81,8 @@ pub values-streams_of : (entries : List (ThreadInfo × StreamInfo)) →
     values (streams_of entries) ≡ map facts_of (values_of entries)
 values-streams_of entries sorted = values-by_key (records entries) (sorted-records entries sorted) ∙ values-records entries
 
-pub streams_of-insert : (entries : List (ThreadInfo × StreamInfo)) (thread : ThreadInfo) (v : StreamInfo) →
-    streams_of (insert_entry thread_cmp entries thread v) ≡ insert (streams_of entries) (key_of thread) (facts_of v)
-streams_of-insert entries thread v =
-    ap by_key (read-insert facts_of entries thread v) ∙ by_key-insert (records entries) thread (facts_of v)
+pub streams_of-insert : (entries : List (ThreadInfo × StreamInfo)) (thread : ThreadInfo) (info : StreamInfo) →
+    streams_of (insert_entry thread_cmp entries thread info)
+    ≡ insert (streams_of entries) (key_of thread) (facts_of info)
+streams_of-insert entries thread info =
+    ap by_key (read-insert facts_of entries thread info) ∙ by_key-insert (records entries) thread (facts_of info)

@@ -37,46 +37,47 @@ none_laid_out =
     subst (λ (es : List (ThreadKey × StreamFacts)). AreItems Fits es) (sym none) (omega arith, tt)
 
 -- an entry in its place among others
-by_place : (o : Ordering) (i : ThreadKey) (info : StreamFacts) (e : ThreadKey × StreamFacts)
+by_place : (order : Ordering) (key : ThreadKey) (info : StreamFacts) (entry : ThreadKey × StreamFacts)
     (pairs later : List (ThreadKey × StreamFacts)) →
-    IsThreadKey i → AreCounts info → Fits e → AllByRecursion Fits pairs → AllByRecursion Fits later →
-    AllByRecursion Fits (by_order o ((i, info) ∷ e ∷ pairs) ((e.0, info) ∷ pairs) (e ∷ later))
-by_place Less i info e pairs later thread counts one rest all = ((thread, counts), (one, rest))
-by_place Equal key info e pairs later thread counts one rest all = ((one.0, counts), rest)
-by_place Greater key info e pairs later thread counts one rest all = (one, all)
+    IsThreadKey key → AreCounts info → Fits entry → AllByRecursion Fits pairs → AllByRecursion Fits later →
+    AllByRecursion Fits (by_order order ((key, info) ∷ entry ∷ pairs) ((entry.0, info) ∷ pairs) (entry ∷ later))
+by_place Less key info entry pairs later thread counts one rest all = ((thread, counts), (one, rest))
+by_place Equal key info entry pairs later thread counts one rest all = ((one.0, counts), rest)
+by_place Greater key info entry pairs later thread counts one rest all = (one, all)
 
-all_put : (i : ThreadKey) (info : StreamFacts) (pairs : List (ThreadKey × StreamFacts)) →
-    IsThreadKey i → AreCounts info → AllByRecursion Fits pairs →
-    AllByRecursion Fits (put key_cmp i info pairs)
-all_put i info [] thread counts all = ((thread, counts), tt)
-all_put key info (e ∷ es) thread counts all =
-    by_place (key_cmp key e.0) key info e es (put key_cmp key info es) thread counts all.0 all.1
-    (all_put key info es thread counts all.1)
+all_put : (key : ThreadKey) (info : StreamFacts) (pairs : List (ThreadKey × StreamFacts)) →
+    IsThreadKey key → AreCounts info → AllByRecursion Fits pairs →
+    AllByRecursion Fits (put key_cmp key info pairs)
+all_put key info [] thread counts all = ((thread, counts), tt)
+all_put key info (entry ∷ others) thread counts all =
+    by_place (key_cmp key entry.0) key info entry others (put key_cmp key info others) thread counts all.0 all.1
+    (all_put key info others thread counts all.1)
 
 -- a thread that is there
-by_test : (o : Ordering) (thread : ThreadKey) (x : StreamFacts) (e : ThreadKey × StreamFacts)
+by_test : (order : Ordering) (thread : ThreadKey) (found_info : StreamFacts) (entry : ThreadKey × StreamFacts)
     (pairs : List (ThreadKey × StreamFacts)) →
-    key_cmp thread e.0 ≡ o → Fits e → (find key_cmp thread pairs ≡ Some x → IsThreadKey thread) →
-    cond (is_eq o) (Some e.1) (find key_cmp thread pairs) ≡ Some x →
+    key_cmp thread entry.0 ≡ order → Fits entry → (find key_cmp thread pairs ≡ Some found_info → IsThreadKey thread) →
+    cond (is_eq order) (Some entry.1) (find key_cmp thread pairs) ≡ Some found_info →
     IsThreadKey thread
-by_test Less thread x e pairs is one later found = later found
-by_test Equal thread x e pairs is one later found = subst IsThreadKey (sym (key_cmp-one thread e.0 is)) one.0
-by_test Greater thread x e pairs is one later found = later found
+by_test Less thread found_info entry pairs is one later found = later found
+by_test Equal thread found_info entry pairs is one later found = subst IsThreadKey (sym (key_cmp-one thread entry.0 is)) one.0
+by_test Greater thread found_info entry pairs is one later found = later found
 
-thread_there : (thread : ThreadKey) (x : StreamFacts) (pairs : List (ThreadKey × StreamFacts)) →
-    find key_cmp thread pairs ≡ Some x → AllByRecursion Fits pairs →
+thread_there : (thread : ThreadKey) (found_info : StreamFacts) (pairs : List (ThreadKey × StreamFacts)) →
+    find key_cmp thread pairs ≡ Some found_info → AllByRecursion Fits pairs →
     IsThreadKey thread
-thread_there thread x [] found all = absurd cc
-thread_there thread x (e ∷ es) found all =
-    by_test (key_cmp thread e.0) thread x e es refl all.0 (λ later. thread_there thread x es later all.1) found
+thread_there thread found_info [] found all = absurd cc
+thread_there thread found_info (entry ∷ others) found all =
+    by_test (key_cmp thread entry.0) thread found_info entry others refl all.0
+    (λ later. thread_there thread found_info others later all.1) found
 
-inserted : (streams : Streams) (i : ThreadKey) (info : StreamFacts) →
-    length (entries (insert streams i info)) < 2 ^ 64 → IsThreadKey i → AreCounts info → HaveLayout streams →
-    HaveLayout (insert streams i info)
-inserted streams i info short thread counts laid_out = (
+inserted : (streams : Streams) (key : ThreadKey) (info : StreamFacts) →
+    length (entries (insert streams key info)) < 2 ^ 64 → IsThreadKey key → AreCounts info → HaveLayout streams →
+    HaveLayout (insert streams key info)
+inserted streams key info short thread counts laid_out = (
   short,
   subst (λ (es : List (ThreadKey × StreamFacts)). AllByRecursion Fits es)
-      (sym (entries-insert key_cmp_total streams i info)) (all_put i info (entries streams) thread counts laid_out.1),
+      (sym (entries-insert key_cmp_total streams key info)) (all_put key info (entries streams) thread counts laid_out.1),
 )
 
 module _ {A : Type 0} where
@@ -91,33 +92,36 @@ module _ {A : Type 0} where
   length_seen shared sorted = ap length (entries-listed shared (listed-sorted shared sorted)) ∙ simp length-map
 
   -- a stream that grows under a thread that is there
-  pub layout_over : (es : List (ThreadInfo × Arc StreamInfo A)) (k : ThreadInfo) (old w : Arc StreamInfo A)
+  pub layout_over : (shared : List (ThreadInfo × Arc StreamInfo A)) (thread : ThreadInfo) (old new : Arc StreamInfo A)
       (after : List (ThreadInfo × Arc StreamInfo A)) →
-      WritesAt es k old w after → AreCounts (facts_of (arc_value w)) → HaveLayout (shared_streams es) →
+      WritesAt shared thread old new after → AreCounts (facts_of (arc_value new)) → HaveLayout (shared_streams shared) →
       HaveLayout (shared_streams after)
-  layout_over es k old w after write counts before =
-      let put = written es k old w after write in
-      let thread =
-      thread_there (key_of k) (facts_of (arc_value old)) (entries (shared_streams es))
-      (sym (get-entries (shared_streams es) (key_of k)) ∙ there es k old w after write) before.1 in
+  layout_over shared thread old new after write counts before =
+      let put = written shared thread old new after write in
+      let key_fits =
+      thread_there (key_of thread) (facts_of (arc_value old)) (entries (shared_streams shared))
+      (sym (get-entries (shared_streams shared) (key_of thread)) ∙ there shared thread old new after write) before.1 in
       let sorted : IsStrictlySortedBy thread_cmp (keys_of after) =
       subst (λ (ks : List ThreadInfo). IsStrictlySortedBy thread_cmp ks)
-      (sym (ap keys_of write.after ∙ keys-set_value (is_at (thread_cmp k)) es w)) write.sorted in
-      let same = ap length write.after ∙ length-set_value (is_at (thread_cmp k)) es w in
-      let short : length (entries (insert (shared_streams es) (key_of k) (facts_of (arc_value w)))) < 2 ^ 64 =
+      (sym (ap keys_of write.after ∙ keys-set_value (is_at (thread_cmp thread)) shared new)) write.sorted in
+      let same = ap length write.after ∙ length-set_value (is_at (thread_cmp thread)) shared new in
+      let short : length (entries (insert (shared_streams shared) (key_of thread) (facts_of (arc_value new)))) < 2 ^ 64 =
       subst (λ (m : Streams). length (entries m) < 2 ^ 64) put
-      (omega (arith, length_seen es write.sorted, length_seen after sorted, same, before.0)) in
-      subst HaveLayout (sym put) (inserted (shared_streams es) (key_of k) (facts_of (arc_value w)) short thread counts before)
+      (omega (arith, length_seen shared write.sorted, length_seen after sorted, same, before.0)) in
+      subst HaveLayout (sym put) (inserted (shared_streams shared) (key_of thread)
+      (facts_of (arc_value new)) short key_fits counts before)
 
   -- the first stream of a thread
-  pub layout_first : (es : List (ThreadInfo × Arc StreamInfo A)) (k : ThreadInfo) (arc : Arc StreamInfo A)
-      (fs : List (ThreadInfo × Arc StreamInfo A)) →
-      fs ≡ insert_entry thread_cmp es k arc → IsStrictlySortedBy thread_cmp (keys_of fs) → length fs < 2 ^ 64 →
-      IsThreadKey (key_of k) → AreCounts (facts_of (arc_value arc)) → HaveLayout (shared_streams es) →
-      HaveLayout (shared_streams fs)
-  layout_first es k arc fs after sorted short thread counts before =
-      let put : shared_streams fs ≡ insert (shared_streams es) (key_of k) (facts_of (arc_value arc)) =
-      ap shared_streams after ∙ shared-insert es k arc in
-      let few : length (entries (insert (shared_streams es) (key_of k) (facts_of (arc_value arc)))) < 2 ^ 64 =
-      subst (λ (m : Streams). length (entries m) < 2 ^ 64) put (omega (arith, length_seen fs sorted, short)) in
-      subst HaveLayout (sym put) (inserted (shared_streams es) (key_of k) (facts_of (arc_value arc)) few thread counts before)
+  pub layout_first : (shared : List (ThreadInfo × Arc StreamInfo A)) (thread : ThreadInfo) (arc : Arc StreamInfo A)
+      (later : List (ThreadInfo × Arc StreamInfo A)) →
+      later ≡ insert_entry thread_cmp shared thread arc → IsStrictlySortedBy thread_cmp (keys_of later) →
+      length later < 2 ^ 64 → IsThreadKey (key_of thread) → AreCounts (facts_of (arc_value arc)) →
+      HaveLayout (shared_streams shared) →
+      HaveLayout (shared_streams later)
+  layout_first shared thread arc later after sorted short key_fits counts before =
+      let put : shared_streams later ≡ insert (shared_streams shared) (key_of thread) (facts_of (arc_value arc)) =
+      ap shared_streams after ∙ shared-insert shared thread arc in
+      let few : length (entries (insert (shared_streams shared) (key_of thread) (facts_of (arc_value arc)))) < 2 ^ 64 =
+      subst (λ (m : Streams). length (entries m) < 2 ^ 64) put (omega (arith, length_seen later sorted, short)) in
+      subst HaveLayout (sym put) (inserted (shared_streams shared) (key_of thread)
+      (facts_of (arc_value arc)) few key_fits counts before)
