@@ -30,7 +30,7 @@ tied i id = unsigned_ties i id ∙ (eq_by_cmp_equiv nat_cmp_total).symm i id
 same_id : (i id : ℕ) → nat_eq i id ≡ true → i ≡ id
 same_id i id e = nat_cmp-IsAntisymmetric i id ((Equal-is (nat_cmp i id)).0 (sym (unsigned_ties i id) ∙ e))
 
--- what is there stays, and what isn't comes
+-- what is there stays
 kept_at : (b : Bool) (kept details : Details) (found : Option Details) →
     (b ≡ true → found ≡ Some kept) →
     found ≡ option_or found (cond b (Some details) None)
@@ -38,12 +38,14 @@ kept_at true kept details found there =
     there refl ∙ ap (λ (p : Option Details). option_or p (Some details)) (sym (there refl))
 kept_at false kept details found there = sym (or_none found)
 
+-- and what isn't there comes
 fresh_at : (b : Bool) (details : Details) (found : Option Details) →
     (b ≡ true → found ≡ None) →
     cond b (Some details) found ≡ option_or found (cond b (Some details) None)
 fresh_at true details found none = sym (ap (λ (p : Option Details). option_or p (Some details)) (none refl))
 fresh_at false details found none = sym (or_none found)
 
+-- one more insertion under an id, as a look-up sees it
 put_at : (collection : Collection) (details : Details) (i id : ℕ) (found : Option Details) →
     get collection.by_id i ≡ found →
     get (kept_or found collection.by_id i details) id
@@ -57,12 +59,14 @@ put_at collection details i id None is =
     ∙ fresh_at (nat_eq i id) details (get collection.by_id id)
     (λ same. ap (get collection.by_id) (sym (same_id i id same)) ∙ is)
 
+-- one more details, as a look-up by id sees it
 one_by_id : (collection : Collection) (details : Details) (o : Option ℕ) (id : ℕ) →
     get (with_details_under collection details o).by_id id
     ≡ option_or (get collection.by_id id) (cond (option_eq nat_eq o (Some id)) (Some details) None)
 one_by_id collection details None id = sym (or_none (get collection.by_id id))
 one_by_id collection details (Some i) id = put_at collection details i id (get collection.by_id i) refl
 
+-- so what is found by id is what was there, or the first details with that id
 first_from : (details : List Details) (collection : Collection) (id : ℕ) →
     get (with_all_details collection details).by_id id ≡ option_or (get collection.by_id id) (first_with_id id details)
 first_from [] collection id = sym (or_none (get collection.by_id id))
@@ -84,6 +88,7 @@ none_at : (b : Bool) → ◌≡◌ {A = Option ℕ} (cond b None None) None
 none_at true = refl
 none_at false = refl
 
+-- one more details, as a look-up by name sees it
 one_by_name : (collection : Collection) (details : Details) (o : Option ℕ) (name : List ℕ) →
     get (with_details_under collection details o).by_name name
     ≡ option_or (cond (eq_by_cmp bytes_cmp name (name_of details)) o None) (get collection.by_name name)
@@ -93,6 +98,7 @@ one_by_name collection details (Some i) name =
     get-insert nat_list_cmp_total collection.by_name (name_of details) i name
     ∙ or_test (eq_by_cmp bytes_cmp name (name_of details)) i (get collection.by_name name)
 
+-- so what is found by name is the last id with that name, or what was there
 last_from : (details : List Details) (collection : Collection) (name : List ℕ) →
     get (with_all_details collection details).by_name name
     ≡ option_or (last_id_of name details) (get collection.by_name name)
@@ -109,5 +115,6 @@ last_in details name =
     ∙ ap (option_or (last_id_of name details)) (get-empty bytes_cmp name)
     ∙ or_none (last_id_of name details)
 
+-- the empty collection has nothing
 pub none_in_none : (values no_details.by_id ≡ []) × (values no_details.by_name ≡ [])
 none_in_none = (ap (map (λ e. e.1)) (entries-empty nat_cmp), ap (map (λ e. e.1)) (entries-empty bytes_cmp))

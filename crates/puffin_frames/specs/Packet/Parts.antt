@@ -1,5 +1,4 @@
--- Reading the parts of a packet or of a legacy frame. A name in `_at` reads at the front of bytes: a part and the bytes after it,
--- or the fault. A name in `_from` decodes a part alone.
+-- Reading the parts of a packet or of a legacy frame.
 use Rattle.std.specs.Prelude.{ℕ, List, [], Option, Some, None, Result, Ok, Err, if◌then◌else◌}
 use Rattle.puffin_data.specs.declared.file_error.FileError.{FileError}
 use Rattle.puffin_data.specs.declared.file_error.FileError.TheVariants as file
@@ -14,6 +13,9 @@ use Rattle.puffin_threads.specs.Details.{Details}
 use Rattle.puffin_frames.specs.Packet.Kinds.{from_byte}
 use Rattle.puffin_frames.specs.Packet.Letters.{has_kind, has_details}
 use Rattle.puffin_frames.specs.Packet.Structs.{meta_at, details_at, Legacy, legacy_at}
+
+-- A name in `_at` reads at the front of bytes: it gives a part and the bytes after it, or the fault. A name in `_from` decodes a part
+-- alone.
 
 -- a decoded meta if its range is one that a frame can have, or the fault
 abbrev pub meta_with_range : Option FrameMeta → Result FrameMeta FileError

@@ -1,7 +1,4 @@
 -- The layouts of the structs in packets, and how they are read. Fields are in the order of their bytes.
---
--- Of each struct: its bytes are `.._layout`. It has a layout if its numbers fit and its texts are UTF-8, as `Is..` and `Are..` say.
--- `.._at` reads it at the front of bytes, and gives it with the bytes after it, or nothing. `made_..` makes it from its fields.
 use Rattle.std.specs.Prelude.{◌≡◌, ℕ, ℤ, Bool, true, ◌&&◌, List, [], ◌++◌, Option, Some, nat_lt}
 use Rattle.std.specs.List.{list_any}
 use Rattle.std.specs.FinMap.{is_sorted}
@@ -15,8 +12,12 @@ use Rattle.puffin_frames.specs.declared.frame_data.meta.FrameMeta.{FrameMeta}
 use Rattle.puffin_threads.specs.Thread.ThreadKey.{ThreadKey, key_cmp}
 use Rattle.puffin_threads.specs.Details.{Details}
 
+-- Of each struct: its bytes are `.._layout`. It has a layout if its numbers fit and its texts are UTF-8, as `Is..` and `Are..` say.
+-- `.._at` reads it at the front of bytes, and gives it with the bytes after it, or nothing. `made_..` makes it from its fields.
+
 -- ---- meta
 
+-- the bytes of a meta
 abbrev pub meta_layout : FrameMeta → List ℕ
 meta_layout meta =
     number meta.frame_index
@@ -30,6 +31,7 @@ IsMeta meta =
     × (IsSigned meta.range_ns.0
     × (IsSigned meta.range_ns.1 × (IsLong meta.num_bytes × IsLong meta.num_scopes)))
 
+-- a meta from its fields
 abbrev pub made_meta : ℕ × (ℤ × (ℤ × (ℕ × ℕ))) → FrameMeta
 made_meta fields = record {
   frame_index = fields.0;
@@ -38,6 +40,7 @@ made_meta fields = record {
   num_scopes = fields.1.1.1.1;
 }
 
+-- a meta at the front of bytes, and the bytes after it
 unfoldable pub meta_at : List ℕ → Option (FrameMeta × List ℕ)
 meta_at =
     seen_as made_meta (
@@ -45,6 +48,7 @@ meta_at =
 
 -- ---- a thread's info
 
+-- the bytes of a thread's info
 abbrev pub key_layout : ThreadKey → List ℕ
 key_layout thread = optional signed thread.start ++ block thread.name
 
@@ -52,9 +56,11 @@ key_layout thread = optional signed thread.start ++ block thread.name
 abbrev pub IsThreadKey : ThreadKey → Type 0
 IsThreadKey thread = IfAny IsSigned thread.start × IsText thread.name
 
+-- a thread's info from its fields
 abbrev pub made_key : Option ℤ × List ℕ → ThreadKey
 made_key fields = record { start = fields.0; name = fields.1 }
 
+-- a thread's info at the front of bytes, and the bytes after it
 unfoldable pub key_at : List ℕ → Option (ThreadKey × List ℕ)
 key_at = seen_as made_key (pair_at (optional_at signed_at) text_at)
 
@@ -70,12 +76,14 @@ abbrev pub IsFormIn : Form → Form → Type 0
 IsFormIn Short form = form ≡ Short
 IsFormIn Long form = Unit {0}
 
+-- a stream's form at the front of bytes, and the bytes after it
 abbrev pub form_in_at : Form → List ℕ → Option (Form × List ℕ)
 form_in_at Short bytes = Some (Short, bytes)
 form_in_at Long bytes = seen_as form_of_flag flag_at bytes
 
 -- ---- the info of a thread's scopes, in packets of the form `packed`
 
+-- the bytes of an info
 abbrev pub facts_layout : Form → StreamFacts → List ℕ
 facts_layout packed info =
     form_layout packed info.form
@@ -94,6 +102,7 @@ AreCounts info =
 abbrev pub AreStreamFacts : Form → StreamFacts → Type 0
 AreStreamFacts packed info = IsFormIn packed info.form × AreCounts info
 
+-- an info from its fields
 abbrev pub made_facts : Form × (List ℕ × (ℕ × (ℕ × (ℤ × ℤ)))) → StreamFacts
 made_facts fields = record {
   form = fields.0;
@@ -103,6 +112,7 @@ made_facts fields = record {
   range_ns = fields.1.1.1.1;
 }
 
+-- an info at the front of bytes, and the bytes after it
 unfoldable pub facts_at : Form → List ℕ → Option (StreamFacts × List ℕ)
 facts_at packed =
     seen_as made_facts (
@@ -124,6 +134,7 @@ abbrev pub are_ordered : Form → List (ThreadKey × StreamFacts) → Bool
 are_ordered Short pairs = is_sorted key_cmp pairs
 are_ordered Long pairs = is_sorted key_cmp pairs && some_long pairs
 
+-- the bytes of streams
 abbrev pub streams_layout : Form → List (ThreadKey × StreamFacts) → List ℕ
 streams_layout packed = items (pair key_layout (facts_layout packed))
 
@@ -138,6 +149,7 @@ AreStreams packed pairs =
 abbrev pub stream_at : Form → List ℕ → Option ((ThreadKey × StreamFacts) × List ℕ)
 stream_at packed = pair_at key_at (facts_at packed)
 
+-- streams at the front of bytes, and the bytes after them
 unfoldable pub streams_at : Form → List ℕ → Option (List (ThreadKey × StreamFacts) × List ℕ)
 streams_at packed = with_test (are_ordered packed) (items_at (stream_at packed))
 
@@ -147,10 +159,11 @@ streams_at packed = with_test (are_ordered packed) (items_at (stream_at packed))
 abbrev pub IsId : ℕ → Type 0
 IsId id = IsU32 id × (nat_lt 0 id ≡ true)
 
+-- an id at the front of bytes, and the bytes after it
 abbrev pub id_at : List ℕ → Option (ℕ × List ℕ)
 id_at = with_test (λ id. nat_lt 0 id) u32_at
 
--- the details of one scope
+-- the bytes of one scope's details
 abbrev pub detail_layout : Details → List ℕ
 detail_layout details =
     optional number details.id
@@ -164,6 +177,7 @@ IsDetail details =
     × (IfAny IsText details.scope_name
     × (IsText details.function_name × (IsText details.file_path × IsU32 details.line_nr)))
 
+-- one scope's details from its fields
 abbrev pub made_detail : Option ℕ × (Option (List ℕ) × (List ℕ × (List ℕ × ℕ))) → Details
 made_detail fields = record {
   id = fields.0;
@@ -173,19 +187,22 @@ made_detail fields = record {
   line_nr = fields.1.1.1.1;
 }
 
+-- one scope's details at the front of bytes, and the bytes after it
 unfoldable pub detail_at : List ℕ → Option (Details × List ℕ)
 detail_at =
     seen_as made_detail (
     pair_at (optional_at id_at) (
     pair_at (optional_at text_at) (pair_at text_at (pair_at text_at u32_at))))
 
--- a list of details
+-- the bytes of a list of details
 abbrev pub details_layout : List Details → List ℕ
 details_layout = items detail_layout
 
+-- a list of details that has a layout
 abbrev pub AreDetails : List Details → Type 0
 AreDetails = AreItems IsDetail
 
+-- a list of details at the front of bytes, and the bytes after it
 unfoldable pub details_at : List ℕ → Option (List Details × List ℕ)
 details_at = items_at detail_at
 
@@ -196,6 +213,7 @@ pub record Legacy : Type 0 where
   pub meta : FrameMeta
   pub streams : List (ThreadKey × StreamFacts)
 
+-- the bytes of a legacy frame
 abbrev pub legacy_layout : Legacy → List ℕ
 legacy_layout frame =
     number frame.meta.frame_index
@@ -213,6 +231,7 @@ IsLegacy frame =
     × (IsSigned frame.meta.range_ns.1
     × (IsLong frame.meta.num_bytes × IsLong frame.meta.num_scopes))))
 
+-- a legacy frame from its fields
 abbrev pub made_legacy : ℕ × (List (ThreadKey × StreamFacts) × (ℤ × (ℤ × (ℕ × ℕ)))) → Legacy
 made_legacy fields = record {
   meta = record {
@@ -224,6 +243,7 @@ made_legacy fields = record {
   streams = fields.1.0;
 }
 
+-- a legacy frame at the front of bytes, and the bytes after it
 unfoldable pub legacy_at : List ℕ → Option (Legacy × List ℕ)
 legacy_at =
     seen_as made_legacy (

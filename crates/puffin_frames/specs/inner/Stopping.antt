@@ -1,10 +1,17 @@
 -- The results of calls that read the values of a packet and may stop early.
 use Rattle.std.specs.Prelude.{◌≡◌, ℕ, false, List, length, Option, Some, None, Result, Ok, Err}
+use Rattle.std.specs.BTreeMap.{BTreeMap}
 use Rattle.std.specs.Io.KnownBytes.{Consumes}
+use Rattle.std.specs.declared.sync.Arc.{Arc}
 use Rattle.puffin_data.specs.Value.Layout.{IsBytes}
+use Rattle.puffin_data.specs.declared.data.info.StreamInfo.{StreamInfo}
+use Rattle.puffin_threads.specs.declared.thread_profiler.thread_info.ThreadInfo.{ThreadInfo}
+use Rattle.puffin_frames.specs.declared.frame_data.meta.FrameMeta.{FrameMeta}
 use Rattle.puffin_frames.specs.declared.frame_data.decode.Stop.{Stop}
 use Rattle.puffin_frames.specs.declared.frame_data.decode.Stop.TheVariants as stops
+use Rattle.puffin_frames.specs.Packet.Structs.{Legacy}
 use Rattle.puffin_frames.specs.Packet.Front.{is_end, AtEnd}
+use Rattle.puffin_frames.specs.inner.Pairs.{pairs_of}
 
 -- A reading is what a definition of `Packet.Structs` gives on some bytes: a value and the bytes after it, or nothing.
 
@@ -51,3 +58,7 @@ pub record GivesHeader (old new : Option (List ℕ)) (header : List ℕ) : Type 
 abbrev pub GivesHeaderOrEnds : Option (List ℕ) → Option (List ℕ) → Option (List ℕ) → Type 0
 GivesHeaderOrEnds old new (Some header) = GivesHeader old new header
 GivesHeaderOrEnds old new None = AtEnd old new
+
+-- a legacy frame from the meta and the streams that a call decoded
+abbrev pub legacy_from_parts : {A : Type 0} → FrameMeta × BTreeMap ThreadInfo (Arc StreamInfo A) → Legacy
+legacy_from_parts decoded = record { meta = decoded.0; streams = pairs_of decoded.1.entries }

@@ -6,12 +6,12 @@ ghost use Rattle.std.specs.Cow.{cow_str_bytes};
 ghost use Rattle.std.specs.FinMap.{is_sorted};
 ghost use Rattle.puffin_data.specs.Honesty.{StreamFacts, facts_of};
 ghost use Rattle.puffin_data.specs.Value.Decoding.{whole, optional_at, signed_at, text_at, times_at};
-ghost use Rattle.puffin_frames.specs.inner.Stopping.{DecodesOrStops, Reads, ReadsOrStops, Skips};
+ghost use Rattle.puffin_frames.specs.inner.Stopping.{DecodesOrStops, Reads, ReadsOrStops, Skips, legacy_from_parts};
 ghost use Rattle.puffin_frames.specs.declared.frame_data.decode.Stop.TheVariants.{Memory};
 ghost use Rattle.puffin_threads.specs.Thread.ThreadKey.{ThreadKey, key_of, key_cmp};
 ghost use Rattle.puffin_threads.specs.Details.{details_of, shared_details};
 ghost use Rattle.puffin_frames.specs.inner.Pairs.{pairs_of, only_sorted};
-ghost use Rattle.puffin_frames.specs.Packet.Structs.{meta_at, key_at, form_in_at, facts_at, stream_at, streams_at, id_at, detail_at, details_at, legacy_at, Legacy};
+ghost use Rattle.puffin_frames.specs.Packet.Structs.{meta_at, key_at, form_in_at, facts_at, stream_at, streams_at, id_at, detail_at, details_at, legacy_at};
 
 use crate::frame_data::encode::packed_form;
 use crate::frame_data::meta::FrameMeta;
@@ -362,8 +362,7 @@ pub(crate) fn details_in(alloc: Global, bytes: &[u8]) -> Result<Vec<Arc<ScopeDet
 /// Reads the meta and the streams of a legacy frame. The streams come right after the number of the frame.
 #[tactic(auto, unfolding(crate::specs::Packet::Structs::legacy_at))]
 fn read_legacy(alloc: Global, cursor: &mut Cursor) -> Result<(FrameMeta, ThreadStreams), Stop>
-    ensures given { ReadsOrStops
-        (λ frame. record { meta = frame.0; streams = pairs_of frame.1.entries }) result cursor.new (legacy_at cursor.old) }
+    ensures given { ReadsOrStops legacy_from_parts result cursor.new (legacy_at cursor.old) }
     ensures sorted { IfOk result (λ frame. is_sorted key_cmp (pairs_of frame.1.entries) ≡ true) }
 {
     let frame_index = cursor.u64().ok_or(Stop::NoLayout)?;
@@ -383,8 +382,7 @@ fn read_legacy(alloc: Global, cursor: &mut Cursor) -> Result<(FrameMeta, ThreadS
 
 /// Decodes the meta and the streams of a legacy frame. All of the bytes must be their layout.
 pub(crate) fn legacy_in(alloc: Global, bytes: &[u8]) -> Result<(FrameMeta, ThreadStreams), Stop>
-    ensures given { DecodesOrStops
-        (λ frame. record { meta = frame.0; streams = pairs_of frame.1.entries }) result (whole legacy_at bytes.now) }
+    ensures given { DecodesOrStops legacy_from_parts result (whole legacy_at bytes.now) }
     ensures sorted { IfOk result (λ frame. is_sorted key_cmp (pairs_of frame.1.entries) ≡ true) }
 {
     let mut cursor = Cursor::new(bytes);

@@ -30,7 +30,9 @@ pub struct FrameData {
     pub scope_delta: Vec<Arc<ScopeDetails>>,
     /// Whether `scope_delta` also has the details of all scopes known before.
     pub full_delta: bool,
+    /// The index and the totals, which stay the same however the streams are held.
     pub(crate) meta: FrameMeta,
+    /// The streams.
     pub(crate) held: Held,
     ghost ordered: { meta.range_ns.0 ≤ℤ meta.range_ns.1 },
     ghost duration_fits: { FitsSigned w64 (meta.range_ns.1 -ℤ meta.range_ns.0) },

@@ -25,8 +25,11 @@ use std::sync::Arc;
 /// form, in which each stream's form comes before it.
 #[derive(Drop)]
 pub(crate) struct PackedStreams {
+    /// The form of their packet.
     pub(crate) form: Form,
+    /// How they are compressed.
     pub(crate) kind: Kind,
+    /// Their bytes in that packet.
     pub(crate) bytes: Vec<u8>,
     ghost are_bytes: { IsBytes bytes.items },
 }
@@ -34,7 +37,9 @@ pub(crate) struct PackedStreams {
 /// A frame that was packed and is held unpacked too.
 #[derive(Drop)]
 pub(crate) struct BothWays {
+    /// The unpacked data, shared with those who asked for it.
     pub(crate) unpacked: Arc<UnpackedFrameData>,
+    /// The same streams, packed.
     pub(crate) packed: PackedStreams,
     ghost same: { streams_in (record {
       form = packed.form;

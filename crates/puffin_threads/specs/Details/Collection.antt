@@ -97,9 +97,10 @@ ids_seen entries = map (λ entry. (entry.0, details_of (arc_value entry.1))) ent
 abbrev pub names_seen : {A : Type 0} → List (String A × ℕ) → List (List ℕ × ℕ)
 names_seen entries = map (λ entry. (string_bytes entry.0, entry.1)) entries
 
--- the maps of these entries
+-- the map of entries from ids to details
 abbrev pub by_ids : {A : Type 0} → List (ℕ × Arc ScopeDetails A) → map.FinMap nat_cmp Details
 by_ids entries = map.from_entries (ids_seen entries)
 
+-- the map of entries from names to ids
 abbrev pub by_names : {A : Type 0} → List (String A × ℕ) → map.FinMap bytes_cmp ℕ
 by_names entries = map.from_entries (names_seen entries)

@@ -27,9 +27,11 @@ use std::marker::Model;
 /// What one thread has recorded and not yet reported. Contracts see it as a `Thread`.
 #[derive(Drop)]
 pub struct ThreadState {
+    // The thread's name.
     name: String,
     // What scopes and the next report need. It is made when a scope begins, so that ending one allocates nothing.
     supply: Supply,
+    // The scopes, open ones included.
     info: StreamInfo,
     // The start of the first scope, once it was reported or discarded.
     first_start: Option<NanoSecond>,

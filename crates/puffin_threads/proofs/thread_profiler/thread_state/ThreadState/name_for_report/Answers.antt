@@ -18,7 +18,8 @@ invariant_of-self-2 c =
       num_open = valid.num_open;
       innermost = valid.innermost;
       room = valid.room;
-      has_spare = λ _. none_open_in c.self.inside valid (ap (λ (t : Thread). open_after 0 t.word) c.self.view_is ∙ c.requires);
+      has_spare =
+          λ _. none_open_in c.self.inside valid (ap (λ (t : Thread). open_after 0 t.word) c.self.view_is ∙ c.requires);
       supplied =
           subst (λ (x : Supply). IsSupplied x c.self.inside.info.stream) (sym c.take_copy.ensures.left)
           (none_supplied c.self.inside.supply c.self.inside.info.stream valid.supplied);
