@@ -24,14 +24,14 @@ ordered_in Short pairs is e = e
 ordered_in Long pairs is e = and-both _ _ e (long_is (some_long pairs) is)
   where
     long_is : (b : Bool) → Long ≡ form_of_flag b → b ≡ true
-    long_is true h = refl
-    long_is false h = absurd cc
+    long_is true same = refl
+    long_is false same = absurd cc
 
 none_long : (pairs : List (ThreadKey × StreamFacts)) →
-    AllByRecursion (λ (e : ThreadKey × StreamFacts). IsThreadKey e.0 × AreStreamFacts Short e.1) pairs →
+    AllByRecursion (λ (entry : ThreadKey × StreamFacts). IsThreadKey entry.0 × AreStreamFacts Short entry.1) pairs →
     some_long pairs ≡ false
 none_long [] all = refl
-none_long (e ∷ es) all = ap (λ (f : Form). is_long f || some_long es) all.0.1.0 ∙ none_long es all.1
+none_long (entry ∷ es) all = ap (λ (f : Form). is_long f || some_long es) all.0.1.0 ∙ none_long es all.1
 
 -- what is stored in packets of a form has that form
 pub form_stored : (packed : Form) (pairs : List (ThreadKey × StreamFacts)) →
@@ -45,30 +45,31 @@ pub stored_in : (packed : Form) (es : List (ThreadKey × StreamFacts)) →
     packed ≡ form_of_all es → AllByRecursion (λ (e : ThreadKey × StreamFacts). IsThreadKey e.0 × AreCounts e.1) es →
     AllByRecursion (λ (e : ThreadKey × StreamFacts). IsThreadKey e.0 × AreStreamFacts packed e.1) es
 stored_in Long [] is all = tt
-stored_in Long (e ∷ es) is all = ((all.0.0, (tt, all.0.1)), each_long es all.1)
+stored_in Long (e ∷ es) is all =
+    let ((thread, counts), later) = all in ((thread, (tt, counts)), each_long es later)
   where
     each_long : (pairs : List (ThreadKey × StreamFacts)) →
         AllByRecursion (λ (e : ThreadKey × StreamFacts). IsThreadKey e.0 × AreCounts e.1) pairs →
         AllByRecursion (λ (e : ThreadKey × StreamFacts). IsThreadKey e.0 × AreStreamFacts Long e.1) pairs
     each_long [] all = tt
-    each_long (e ∷ es) all = ((all.0.0, (tt, all.0.1)), each_long es all.1)
+    each_long (e ∷ es) all = let ((thread, counts), later) = all in ((thread, (tt, counts)), each_long es later)
 stored_in Short es is all = each_short es (short_is (some_long es) is) all
   where
     short_is : (b : Bool) → Short ≡ form_of_flag b → b ≡ false
-    short_is false h = refl
-    short_is true h = absurd cc
+    short_is false same = refl
+    short_is true same = absurd cc
 
     form_short : (f : Form) → is_long f ≡ false → f ≡ Short
-    form_short Short h = refl
-    form_short Long h = absurd cc
+    form_short Short same = refl
+    form_short Long same = absurd cc
 
     or-first : (a b : Bool) → (a || b) ≡ false → a ≡ false
-    or-first true b h = absurd cc
-    or-first false b h = refl
+    or-first true b same = absurd cc
+    or-first false b same = refl
 
     or-second : (a b : Bool) → (a || b) ≡ false → b ≡ false
-    or-second true b h = absurd cc
-    or-second false b h = h
+    or-second true b same = absurd cc
+    or-second false b same = same
 
     each_short : (pairs : List (ThreadKey × StreamFacts)) →
         some_long pairs ≡ false →
@@ -76,4 +77,5 @@ stored_in Short es is all = each_short es (short_is (some_long es) is) all
         AllByRecursion (λ (e : ThreadKey × StreamFacts). IsThreadKey e.0 × AreStreamFacts Short e.1) pairs
     each_short [] none all = tt
     each_short (e ∷ es) none all =
-        ((all.0.0, (form_short e.1.form (or-first _ _ none), all.0.1)), each_short es (or-second _ _ none) all.1)
+        let ((thread, counts), later) = all in
+        ((thread, (form_short e.1.form (or-first _ _ none), counts)), each_short es (or-second _ _ none) later)

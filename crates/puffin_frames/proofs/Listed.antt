@@ -38,8 +38,8 @@ pub holds : (b : Bool) → b ≡ true → T b
 holds b e = subst T (sym e) tt
 
 pub is_so : (b : Bool) → T b → b ≡ true
-is_so true h = refl
-is_so false h = absurd h
+is_so true so = refl
+is_so false so = absurd so
 
 is_less : (o : Ordering) → is_lt o ≡ true → o ≡ Less
 is_less Less e = refl
@@ -51,8 +51,8 @@ module _ {A : Type 0} where
       AllByRecursion (λ y. thread_cmp least y ≡ Less) (keys_of entries) →
       below_all key_cmp (key_of least) (pairs_of entries) ≡ true
   listed-below least [] above = refl
-  listed-below least (e ∷ es) above =
-      and-both (is_lt (thread_cmp least e.0)) (below_all key_cmp (key_of least) (pairs_of es)) (ap is_lt above.0)
+  listed-below least (entry ∷ es) above =
+      and-both (is_lt (thread_cmp least entry.0)) (below_all key_cmp (key_of least) (pairs_of es)) (ap is_lt above.0)
       (listed-below least es above.1)
 
   -- entries in the order of their threads are listed in order
@@ -60,28 +60,29 @@ module _ {A : Type 0} where
       IsStrictlySortedBy thread_cmp (keys_of entries) →
       is_sorted key_cmp (pairs_of entries) ≡ true
   listed-sorted [] sorted = refl
-  listed-sorted (e ∷ es) sorted =
-      and-both (below_all key_cmp (key_of e.0) (pairs_of es)) (is_sorted key_cmp (pairs_of es))
-      (listed-below e.0 es (sorted_head thread_cmp e.0 _ sorted))
-      (listed-sorted es (sorted_tail thread_cmp e.0 _ sorted))
+  listed-sorted (entry ∷ es) sorted =
+      and-both (below_all key_cmp (key_of entry.0) (pairs_of es)) (is_sorted key_cmp (pairs_of es))
+      (listed-below entry.0 es (sorted_head thread_cmp entry.0 _ sorted))
+      (listed-sorted es (sorted_tail thread_cmp entry.0 _ sorted))
 
   pub listed-push : (entries : List (ThreadInfo × Arc StreamInfo A)) (thread : ThreadInfo) (info : Arc StreamInfo A) →
       pairs_of (entries ++ (thread, info) ∷ []) ≡ pairs_of entries ++ (key_of thread, facts_of (arc_value info)) ∷ []
   listed-push [] thread info = refl
-  listed-push (e ∷ es) thread info =
-      ap (λ (l : List (ThreadKey × StreamFacts)). (key_of e.0, facts_of (arc_value e.1)) ∷ l) (listed-push es thread info)
+  listed-push (entry ∷ es) thread info =
+      ap (λ (pairs : List (ThreadKey × StreamFacts)). (key_of entry.0, facts_of (arc_value entry.1)) ∷ pairs)
+      (listed-push es thread info)
 
 below_at : (least thread : ThreadKey) (info : StreamFacts) (pairs rest : List (ThreadKey × StreamFacts)) →
     below_all key_cmp least (pairs ++ (thread, info) ∷ rest) ≡ true →
     key_cmp least thread ≡ Less
 below_at least thread info [] rest below = is_less _ (and-first _ _ below)
-below_at least thread info (e ∷ es) rest below = below_at least thread info es rest (and-second _ _ below)
+below_at least thread info (pair ∷ es) rest below = below_at least thread info es rest (and-second _ _ below)
 
 below_middle : (least thread : ThreadKey) (info : StreamFacts) (pairs : List (ThreadKey × StreamFacts)) →
     below_all key_cmp least pairs ≡ true → key_cmp least thread ≡ Less →
     below_all key_cmp least (pairs ++ (thread, info) ∷ []) ≡ true
 below_middle least thread info [] below less = and-both _ _ (ap is_lt less) refl
-below_middle least thread info (e ∷ es) below less =
+below_middle least thread info (pair ∷ es) below less =
     and-both _ _ (and-first _ _ below) (below_middle least thread info es (and-second _ _ below) less)
 
 module _ {A : Type 0} where
@@ -91,12 +92,14 @@ module _ {A : Type 0} where
       is_sorted key_cmp (pairs_of entries ++ (key_of thread, info) ∷ rest) ≡ true →
       insert_entry thread_cmp entries thread arc ≡ entries ++ (thread, arc) ∷ []
   insert-last [] thread arc info rest sorted = refl
-  insert-last (e ∷ es) thread arc info rest sorted =
-      let below : thread_cmp e.0 thread ≡ Less =
-      below_at (key_of e.0) (key_of thread) info (pairs_of es) rest (and-first _ _ sorted) in
-      let above : thread_cmp thread e.0 ≡ Greater = thread_cmp_total.antisymm thread e.0 ∙ ap ordering_reverse below in
-      ap (λ o. match_ordering o ((thread, arc) ∷ e ∷ es) ((e.0, arc) ∷ es) (e ∷ insert_entry thread_cmp es thread arc)) above
-      ∙ ap (λ l. e ∷ l) (insert-last es thread arc info rest (and-second _ _ sorted))
+  insert-last (entry ∷ es) thread arc info rest sorted =
+      let below : thread_cmp entry.0 thread ≡ Less =
+      below_at (key_of entry.0) (key_of thread) info (pairs_of es) rest (and-first _ _ sorted) in
+      let above : thread_cmp thread entry.0 ≡ Greater =
+      thread_cmp_total.antisymm thread entry.0 ∙ ap ordering_reverse below in
+      ap (λ order. match_ordering order ((thread, arc) ∷ entry ∷ es) ((entry.0, arc) ∷ es)
+      (entry ∷ insert_entry thread_cmp es thread arc)) above
+      ∙ ap (λ later. entry ∷ later) (insert-last es thread arc info rest (and-second _ _ sorted))
 
 -- ---- maps from lists in order
 
@@ -161,17 +164,17 @@ sorted-push : (front : List (ThreadKey × StreamFacts)) (last thread : ThreadKey
     is_sorted key_cmp (front ++ (last, last_info) ∷ []) ≡ true → key_cmp last thread ≡ Less →
     is_sorted key_cmp ((front ++ (last, last_info) ∷ []) ++ (thread, info) ∷ []) ≡ true
 sorted-push [] last thread last_info info sorted above = and-both _ _ (and-both _ _ (ap is_lt above) refl) refl
-sorted-push (e ∷ front) last thread last_info info sorted above =
-    let below : key_cmp e.0 last ≡ Less = below_at e.0 last last_info front [] (and-first _ _ sorted) in
-    and-both _ _ (below_middle e.0 thread info (front ++ (last, last_info) ∷ []) (and-first _ _ sorted)
-    (key_cmp_total.trans e.0 last thread below above))
+sorted-push (pair ∷ front) last thread last_info info sorted above =
+    let below : key_cmp pair.0 last ≡ Less = below_at pair.0 last last_info front [] (and-first _ _ sorted) in
+    and-both _ _ (below_middle pair.0 thread info (front ++ (last, last_info) ∷ []) (and-first _ _ sorted)
+    (key_cmp_total.trans pair.0 last thread below above))
     (sorted-push front last thread last_info info (and-second _ _ sorted) above)
 
 is_above : (front rest : List (ThreadKey × StreamFacts)) (last thread : ThreadKey) (last_info info : StreamFacts) →
     is_sorted key_cmp ((front ++ (last, last_info) ∷ []) ++ (thread, info) ∷ rest) ≡ true →
     key_cmp last thread ≡ Less
 is_above [] rest last thread last_info info sorted = is_less _ (and-first _ _ (and-first _ _ sorted))
-is_above (e ∷ front) rest last thread last_info info sorted =
+is_above (pair ∷ front) rest last thread last_info info sorted =
     is_above front rest last thread last_info info (and-second _ _ sorted)
 
 not_so : (b : Bool) → (b ≡ true → ⊥) → b ≡ false
@@ -199,7 +202,8 @@ module _ {A : Type 0} where
       let P : List (ThreadKey × StreamFacts) → Type 0 =
       λ (l : List (ThreadKey × StreamFacts)). is_sorted key_cmp l ≡ true →
       is_sorted key_cmp (l ++ (key_of thread, info) ∷ []) ≡ true in
-      subst P (sym split.1) (λ h. sorted-push split.0 (key_of last) (key_of thread) (facts_of (arc_value arc)) info h
+      subst P (sym split.1) (λ in_order. sorted-push split.0 (key_of last) (key_of thread)
+      (facts_of (arc_value arc)) info in_order
       (is_less _ above)) sorted
 
   -- and another one doesn't

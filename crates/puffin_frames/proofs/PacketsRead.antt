@@ -25,18 +25,18 @@ use Rattle.puffin_frames.specs.inner.Stopping.{GivesHeader}
 -- ---- behind a header
 
 -- four bytes that aren't the end are a header, and the bytes after them are read by it
-pub after_header : (header xs : List ℕ) →
+pub after_header : (header rest : List ℕ) →
     length header ≡ 4 → is_end header ≡ false →
-    next_at (header ++ xs) ≡ stored_after header xs
+    next_at (header ++ rest) ≡ stored_after header rest
 unfolding next_at
-after_header [] xs e h = absurd (omega arith)
-after_header (a ∷ []) xs e h = absurd (omega arith)
-after_header (a ∷ b ∷ []) xs e h = absurd (omega arith)
-after_header (a ∷ b ∷ d ∷ []) xs e h = absurd (omega arith)
-after_header (a ∷ b ∷ d ∷ f ∷ []) xs e h =
-    let long : ltb (length (a ∷ b ∷ d ∷ f ∷ xs)) 4 ≡ false = le-ltb _ _ (omega arith) in
-    rw (long, h) refl
-after_header (a ∷ b ∷ d ∷ f ∷ g ∷ more) xs e h = absurd (omega arith)
+after_header [] rest four more_bytes = absurd (omega arith)
+after_header (a ∷ []) rest four more_bytes = absurd (omega arith)
+after_header (a ∷ b ∷ []) rest four more_bytes = absurd (omega arith)
+after_header (a ∷ b ∷ d ∷ []) rest four more_bytes = absurd (omega arith)
+after_header (a ∷ b ∷ d ∷ f ∷ []) rest four more_bytes =
+    let long : ltb (length (a ∷ b ∷ d ∷ f ∷ rest)) 4 ≡ false = le-ltb _ _ (omega arith) in
+    rw (long, more_bytes) refl
+after_header (a ∷ b ∷ d ∷ f ∷ g ∷ more) rest four more_bytes = absurd (omega arith)
 
 from_header : (header taken rest : List ℕ) →
     length header ≡ 4 → is_end header ≡ false →
@@ -81,8 +81,8 @@ given_after_header view (Err fault) old mid new header gives fails =
 
 -- ---- the end
 
-drop_short : (n : ℕ) (xs : List ℕ) → length xs < n → drop n xs ≡ []
-drop_short n xs h = drop_all n xs (omega arith)
+drop_short : (count : ℕ) (xs : List ℕ) → length xs < count → drop count xs ≡ []
+drop_short count xs short = drop_all count xs (omega arith)
 
 pub short_end : (taken : List ℕ) → length taken < 4 → next_at taken ≡ Ok (None, [])
 unfolding next_at

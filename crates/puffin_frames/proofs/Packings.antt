@@ -44,11 +44,11 @@ fields_same meta other_meta packing other_packing details metas packings =
 
 -- a frame whose way to be held is replaced by an equal one is the same frame
 pub with_held :
-    (frame : FrameData) (h : Held) (ordered : IsOrdered frame.meta.range_ns) (fits : DurationFits frame.meta.range_ns)
-    (same : HasMeta h frame.meta) →
-    frame.held ≡ h →
-    record frame { held = h; ordered = ordered; duration_fits = fits; same_meta = same } ≡ frame
-with_held frame h ordered fits same is =
+    (frame : FrameData) (other : Held) (ordered : IsOrdered frame.meta.range_ns) (fits : DurationFits frame.meta.range_ns)
+    (same : HasMeta other frame.meta) →
+    frame.held ≡ other →
+    record frame { held = other; ordered = ordered; duration_fits = fits; same_meta = same } ≡ frame
+with_held frame other ordered fits same is =
     let one : IsProp (DurationFits frame.meta.range_ns) = Prim.hlevel props in
     let first : IsProp (IsOrdered frame.meta.range_ns) = Prim.hlevel props in
     subst (λ (way : Held). (has_meta : HasMeta way frame.meta) →

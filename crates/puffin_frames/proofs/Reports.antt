@@ -26,46 +26,52 @@ use Rattle.puffin_frames.proofs.lemmas.Keyed.{read-insert, streams_of-insert}
 
 module _ {X : Type 0} where
   -- a write over the value of a key that is there is an insertion
-  set_at_order : (r : Ordering) (thread : ThreadInfo) (old new : X) (e : ThreadInfo × X) (entries : List (ThreadInfo × X)) →
-      thread_cmp thread e.0 ≡ r → IsStrictlySortedBy thread_cmp (keys_of (e ∷ entries)) →
-      cond (is_eq r) (Some e.1) (lookup (is_at (thread_cmp thread)) entries) ≡ Some old →
+  set_at_order : (order : Ordering) (thread : ThreadInfo) (old new : X) (entry : ThreadInfo × X)
+      (entries : List (ThreadInfo × X)) →
+      thread_cmp thread entry.0 ≡ order → IsStrictlySortedBy thread_cmp (keys_of (entry ∷ entries)) →
+      cond (is_eq order) (Some entry.1) (lookup (is_at (thread_cmp thread)) entries) ≡ Some old →
       (lookup (is_at (thread_cmp thread)) entries ≡ Some old →
       set_value (is_at (thread_cmp thread)) entries new ≡ insert_entry thread_cmp entries thread new) →
-      cond (is_eq r) ((e.0, new) ∷ entries) (e ∷ set_value (is_at (thread_cmp thread)) entries new)
-      ≡ match_ordering r ((thread, new) ∷ (e ∷ entries)) ((e.0, new) ∷ entries)
-      (e ∷ insert_entry thread_cmp entries thread new)
-  set_at_order Less thread old new e entries is sorted found later =
+      cond (is_eq order) ((entry.0, new) ∷ entries) (entry ∷ set_value (is_at (thread_cmp thread)) entries new)
+      ≡ match_ordering order ((thread, new) ∷ (entry ∷ entries)) ((entry.0, new) ∷ entries)
+      (entry ∷ insert_entry thread_cmp entries thread new)
+  set_at_order Less thread old new entry entries is sorted found later =
       let none =
       lookup-none (is_at (thread_cmp thread)) entries
-      (none_below_head thread_cmp_total thread e entries sorted is).1 in
+      (none_below_head thread_cmp_total thread entry entries sorted is).1 in
       absurd cc
-  set_at_order Equal thread old new e entries is sorted found later = refl
-  set_at_order Greater thread old new e entries is sorted found later = ap (λ fs. e ∷ fs) (later found)
+  set_at_order Equal thread old new entry entries is sorted found later = refl
+  set_at_order Greater thread old new entry entries is sorted found later =
+      ap (λ entries_after. entry ∷ entries_after) (later found)
 
   set_is_insert : (entries : List (ThreadInfo × X)) (thread : ThreadInfo) (old new : X) →
       IsStrictlySortedBy thread_cmp (keys_of entries) → lookup (is_at (thread_cmp thread)) entries ≡ Some old →
       set_value (is_at (thread_cmp thread)) entries new ≡ insert_entry thread_cmp entries thread new
   set_is_insert [] thread old new sorted found = absurd cc
-  set_is_insert (e ∷ es) thread old new sorted found =
-      set_at_order (thread_cmp thread e.0) thread old new e es refl sorted found
-      (set_is_insert es thread old new (sorted_tail thread_cmp e.0 _ sorted))
+  set_is_insert (entry ∷ es) thread old new sorted found =
+      set_at_order (thread_cmp thread entry.0) thread old new entry es refl sorted found
+      (set_is_insert es thread old new (sorted_tail thread_cmp entry.0 _ sorted))
 
   find-key_entries : (entries : List (ThreadInfo × X)) (thread : ThreadInfo) →
       find key_cmp (key_of thread) (key_entries entries) ≡ lookup (is_at (thread_cmp thread)) entries
   find-key_entries [] thread = refl
-  find-key_entries (e ∷ es) thread = ap (λ o. cond (is_eq (thread_cmp thread e.0)) (Some e.1) o) (find-key_entries es thread)
+  find-key_entries (entry ∷ es) thread =
+      ap (λ o. cond (is_eq (thread_cmp thread entry.0)) (Some entry.1) o) (find-key_entries es thread)
 
   -- an insertion of what is there changes nothing
-  at_test : (m : FinMap key_cmp X) (thread q : ThreadKey) (v : X) (b : Bool) →
-      has_same_key q thread ≡ b → get m thread ≡ Some v →
-      cond b (Some v) (get m q) ≡ get m q
-  at_test m thread q v true same found = sym (ap (get m) (has_same_key-one q thread same) ∙ found)
-  at_test m thread q v false same found = refl
+  at_test : (streams : FinMap key_cmp X) (thread other : ThreadKey) (value : X) (b : Bool) →
+      has_same_key other thread ≡ b → get streams thread ≡ Some value →
+      cond b (Some value) (get streams other) ≡ get streams other
+  at_test streams thread other value true same found = sym (ap (get streams) (has_same_key-one other thread same) ∙ found)
+  at_test streams thread other value false same found = refl
 
-  insert-same : (m : FinMap key_cmp X) (thread : ThreadKey) (v : X) → get m thread ≡ Some v → insert m thread v ≡ m
-  insert-same m thread v found =
-      same_map key_cmp_total key_cmp-one (insert m thread v) m
-      (λ q. get-insert key_cmp_total m thread v q ∙ at_test m thread q v (has_same_key q thread) refl found)
+  insert-same : (streams : FinMap key_cmp X) (thread : ThreadKey) (value : X) →
+      get streams thread ≡ Some value →
+      insert streams thread value ≡ streams
+  insert-same streams thread value found =
+      same_map key_cmp_total key_cmp-one (insert streams thread value) streams
+      (λ other. get-insert key_cmp_total streams thread value other
+      ∙ at_test streams thread other value (has_same_key other thread) refl found)
 
 module _ {A : Type 0} where
   pub get-shared : (entries : List (ThreadInfo × Arc StreamInfo A)) (thread : ThreadInfo) →

@@ -109,16 +109,19 @@ opened_least : (word : List Event) (latest at : ℤ) (id : ℕ) (text : List ℕ
     (found : Option ℤ) →
     first_open word ≡ found → IfSome found (λ start. (least_open word ≡ start) × (start ≤ℤ latest)) →
     IfSome (option_or found (Some at)) (λ start. (least_open (word ++ (Open id text at ∷ [])) ≡ start) × (start ≤ℤ at))
-opened_least word latest at id text later fits None e h = (
-  least_open-opened word id text at fits ∙ ap (λ (t : ℤ). int_min t at) (none_opened word e)
+opened_least word latest at id text later fits None none before = (
+  least_open-opened word id text at fits
+      ∙ ap (λ (least : ℤ). int_min least at) (none_opened word none)
       ∙ below at fits,
   omega (arith, ints),
 )
-opened_least w latest at id text later fits (Some start) e h = (
-  least_open-opened w id text at fits ∙ ap (λ (t : ℤ). int_min t at) h.0
-      ∙ kept_least start latest at h.1 later,
-  let low = h.1 in omega (arith, ints),
-)
+opened_least word latest at id text later fits (Some start) first before =
+    let (least_is, early) = before in (
+      least_open-opened word id text at fits
+          ∙ ap (λ (least : ℤ). int_min least at) least_is
+          ∙ kept_least start latest at early later,
+      omega (arith, ints, early, later),
+    )
 
 pub opened_in_order : (word : List Event) (latest at : ℤ) (id : ℕ) (text : List ℕ) →
     latest ≤ℤ at → FitsSigned w64 at → open_after 0 (word ++ (Open id text at ∷ [])) ≢ 0 → IsInOrder word latest →
@@ -138,8 +141,9 @@ closed_least : (word : List Event) (latest at : ℤ) →
     (found : Option ℤ) →
     IfSome found (λ start. (least_open word ≡ start) × (start ≤ℤ latest)) →
     IfSome found (λ start. (least_open (word ++ (Close at ∷ [])) ≡ start) × (start ≤ℤ at))
-closed_least word latest at later None h = tt
-closed_least word latest at later (Some start) h = (least_open-kept word at ∙ h.0, let low = h.1 in omega (arith, ints))
+closed_least word latest at later None before = tt
+closed_least word latest at later (Some start) before =
+    let (least_is, early) = before in (least_open-kept word at ∙ least_is, omega (arith, ints, early, later))
 
 pub closed_in_order : (word : List Event) (latest at : ℤ) →
     latest ≤ℤ at → FitsSigned w64 at → IsInOrder word latest →

@@ -1,5 +1,5 @@
 -- That bytes hold the scopes of a thread has one proof at most.
-use Rattle.std.proofs.Common.{ℕ, ◌-◌, ℤ, List, [], ◌∷◌}
+use Rattle.std.proofs.Common.{ℕ, ℤ, List, [], ◌∷◌}
 use Rattle.std.proofs.Math.Logic.{∥∥₁_elim}
 use Rattle.std.proofs.Props.{props}
 use Rattle.puffin_data.specs.declared.data.form.Form.{Form}
@@ -32,4 +32,4 @@ module _ (form : Form) where
 
   -- so what merely holds is a fact
   pub held : (bytes : List ℕ) (latest : ℤ) → ∥ HoldsScopes form bytes latest ∥₁ → HoldsScopes form bytes latest
-  held bytes latest h = ∥∥₁_elim h (Holds-prop bytes latest) (λ holding. holding)
+  held bytes latest merely = ∥∥₁_elim merely (Holds-prop bytes latest) (λ holding. holding)

@@ -27,5 +27,5 @@ copy_stays None name some = absurd (some refl)
 copy_stays (Some it) name some = refl
 
 pub copy_there : (old new : Option (String Global)) (name : String Global) → HasCopy old new name → new ≢ None
-copy_there old None name h none = cc h
-copy_there old (Some it) name h none = cc none
+copy_there old None name has none = cc has
+copy_there old (Some it) name has none = cc none

@@ -1,6 +1,6 @@
 -- What a thread's fields say of its thread: its events, its counts and what is ready for its next scope. `valid` is the invariant of a
 -- state throughout.
-use Rattle.std.proofs.Common.{◌≡◌, ◌≢◌, ◌==◌, ◌≤◌, ◌<◌, ℕ, ◌+◌, ◌-◌, ◌*◌, ℤ, pos, ◌≤ℤ◌, List, [], ◌∷◌, ◌++◌, Option, length, drop, Some, None, string_bytes, unwrap_or, refl, sym, ap, subst, ◌∙◌, arith, true, false, slice_get}
+use Rattle.std.proofs.Common.{◌≡◌, ◌≢◌, ◌==◌, ◌≤◌, ◌<◌, ℕ, ◌+◌, ◌*◌, pos, ◌≤ℤ◌, List, [], ◌∷◌, ◌++◌, Option, length, drop, Some, None, string_bytes, unwrap_or, refl, sym, ap, subst, ◌∙◌, arith, true, false, slice_get}
 use Rattle.std.proofs.lemmas.Option.{slice_get-get_or}
 use Rattle.puffin_data.specs.declared.data.form.Form.{Form}
 use Rattle.puffin_data.specs.declared.data.info.StreamInfo.{StreamInfo}
@@ -89,10 +89,10 @@ pub innermost_some : (state : Inside) →
 innermost_some state valid more = ap Some valid.innermost ∙ sym (some_first _ (omega (arith, places_in state valid, more)))
 
 is_zero : (n : ℕ) → 0 ≡ n → (n == 0) ≡ true
-is_zero n h = grind arith
+is_zero n same = grind arith
 
 is_more : (n k : ℕ) → n ≡ k + 1 → (n == 0) ≡ false
-is_more n k h = grind arith
+is_more n k same = grind arith
 
 -- an event takes a byte at least, so a stream is empty exactly if its word is
 empty_test : (form : Form) (word : List Event) (n : ℕ) → n ≡ word_size form word → (n == 0) ≡ (length word == 0)
@@ -179,8 +179,8 @@ pub open_fits : (state : Inside) → IsThreadState state → 22 * state.num_open
 open_fits state valid = omega (arith, closed_in state valid, scopes_fit state valid)
 
 copy_or : (o : Option (List ℕ)) (name : List ℕ) → ((n : List ℕ) → o ≡ Some n → n ≡ name) → unwrap_or o name ≡ name
-copy_or None name h = refl
-copy_or (Some n) name h = h n refl
+copy_or None name is_name = refl
+copy_or (Some n) name is_name = is_name n refl
 
 -- the copy that a thread has, or a new one
 pub copy_in : (state : Inside) →

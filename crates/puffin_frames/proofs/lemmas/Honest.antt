@@ -101,7 +101,7 @@ one_ordered info honest some reversed =
     omega (arith, ints, ordered, is.counts.least_start, is.counts.greatest_stop, reversed))
 
 not_above : (a b : ℤ) → ¬ (b <ℤ a) → a ≤ℤ b
-not_above a b h = grind (arith, ints)
+not_above a b not_less = grind (arith, ints)
 
 ordered_from : (n : ℕ) (info : StreamFacts) (infos : List StreamFacts) →
     info.num_scopes ≡ n → IsHonestSomehow info → 0 < total_scopes (info ∷ infos) →

@@ -16,10 +16,15 @@ from_entries_back streams =
     same_entries_map (from_sorted (entries streams)) streams
     (entries-from_sorted key_cmp (entries streams) (entries_sorted streams))
 
-pub packed_again : (m : Streams) → AreStreams (form_of_all (entries m)) (entries m) → streams_in (plainly_packed m) ≡ Some m
-packed_again m h =
-    let packed = form_of_all (entries m) in
-    ap (option_map from_sorted) (whole_again (AreStreams packed) (streams_layout packed) (streams_at packed) (streams_reader packed) (entries m) h) ∙ ap Some (from_entries_back m)
+-- streams that were packed are read from their layout
+pub packed_again : (streams : Streams) →
+    AreStreams (form_of_all (entries streams)) (entries streams) →
+    streams_in (plainly_packed streams) ≡ Some streams
+packed_again streams fit =
+    let packed = form_of_all (entries streams) in
+    ap (option_map from_sorted)
+    (whole_again (AreStreams packed) (streams_layout packed) (streams_at packed) (streams_reader packed) (entries streams) fit)
+    ∙ ap Some (from_entries_back streams)
 
 -- streams that have a layout are stored by it
 pub read_again : (streams : Streams) → HaveLayout streams → AreReadAgain streams

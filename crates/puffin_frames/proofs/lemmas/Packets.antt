@@ -43,11 +43,15 @@ counted_again part rest short =
     ∙ rw (length_again (length part) (part ++ rest) short) (part_again (length part) part rest refl)
 
 -- each part of a packet is read again
-pub meta_again : (p : PacketFields) (rest : List ℕ) →
-    IsPacked p →
-    meta_part_at (counted_part (meta_layout p.meta) ++ rest) ≡ Ok (p.meta, rest)
-meta_again p rest h =
-    rw (counted_again (meta_layout p.meta) rest (meta_short p.meta), whole_again IsMeta meta_layout meta_at meta_reader p.meta h.meta, h.range) refl
+pub meta_again : (fields : PacketFields) (rest : List ℕ) →
+    IsPacked fields →
+    meta_part_at (counted_part (meta_layout fields.meta) ++ rest) ≡ Ok (fields.meta, rest)
+meta_again fields rest fits =
+    rw (
+      counted_again (meta_layout fields.meta) rest (meta_short fields.meta),
+      whole_again IsMeta meta_layout meta_at meta_reader fields.meta fits.meta,
+      fits.range,
+    ) refl
 
 -- a version that is written, with all parts, of streams of this form
 pub record IsWritten (form : Form) (version : Version) : Type 0 where
@@ -141,6 +145,7 @@ said_is a b same = cc
 some_is : (a b : Stored) → Some a ≡ Some b → a ≡ b
 some_is a b same = cc
 
+-- a reading's answer, closed so that it is compared as a whole
 found : Option Stored × List ℕ → Result (Option Stored × List ℕ) FileError
 found o = Ok o
 

@@ -22,10 +22,10 @@ use Rattle.puffin_threads.specs.inner.StoredThread.{AreOpenBy}
 use Rattle.puffin_threads.specs.inner.FirstStart.{start_in}
 
 test_eq : (a b : ℕ) → a ≡ b → eqb a b ≡ true
-test_eq a b h = grind arith
+test_eq a b same = grind arith
 
 test_ne : (a b : ℕ) → a ≢ b → eqb a b ≡ false
-test_ne a b h = grind arith
+test_ne a b differ = grind arith
 
 -- what follows a piece of a list
 follows : (n k m : ℕ) (text rest xs : List ℕ) → drop n xs ≡ text ++ rest → length text ≡ k → n + k ≡ m → drop m xs ≡ rest

@@ -10,8 +10,8 @@ use Rattle.puffin_threads.specs.Details.{Details, lacks_id, AllHaveIds}
 
 -- where none lacks its id, all have one
 pub none_lacks : (details : List Details) → list_any lacks_id details ≡ false → AllHaveIds details
-none_lacks [] h = All-nil (λ d. IsSome d.id)
-none_lacks (one ∷ others) h = by_id one.id refl h (none_lacks others) where
+none_lacks [] none = All-nil (λ d. IsSome d.id)
+none_lacks (one ∷ others) none = by_id one.id refl none (none_lacks others) where
   by_id : (o : Option ℕ) →
       one.id ≡ o → (is_none o || list_any lacks_id others) ≡ false →
       (list_any lacks_id others ≡ false → AllHaveIds others) →

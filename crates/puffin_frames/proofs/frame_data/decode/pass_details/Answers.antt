@@ -15,9 +15,10 @@ value_before (Some (a, after)) rest is = (a, cc)
 
 pub details-preserved : goal.details-preserved
 details-preserved c =
-    let d = value_before (detail_at c.details.cursor) c.pass_detail.new.cursor c.in_ok-pass_detail.ensures in (
-      c.details.invariant.0 ++ d.0 ∷ [],
-      one_more detail_at c.details.invariant.0 c.args.count c.details.counter c.details.cursor d.0
-          c.pass_detail.new.cursor (times_at detail_at c.args.count c.args.cursor.now) c.details-test.true d.1
-          c.details.invariant.1,
+    let (one, read) =
+    value_before (detail_at c.details.cursor) c.pass_detail.new.cursor c.in_ok-pass_detail.ensures in
+    let (before, so_far) = c.details.invariant in (
+      before ++ one ∷ [],
+      one_more detail_at before c.args.count c.details.counter c.details.cursor one
+          c.pass_detail.new.cursor (times_at detail_at c.args.count c.args.cursor.now) c.details-test.true read so_far,
     )

@@ -19,7 +19,7 @@ pub streams-preserved : goal.streams-preserved
 streams-preserved c =
     let left = rest_more deref_pair _ _ _ _ c.in-Some.is c.next.ensures.steps in
     one_more (pair key_layout (facts_layout c.args.packed))
-    (λ (e : ThreadKey × StreamFacts). IsThreadKey e.0 × AreCounts e.1) _ _ _ _ _ _
+    (λ (entry : ThreadKey × StreamFacts). IsThreadKey entry.0 × AreCounts entry.1) _ _ _ _ _ _
     (next_of _ _ _ _ _ _ _ (ap pairs_of left) c.streams.invariant)
     (two _ _ _ _ _ c.in_ok-put_thread.ensures.ok (rw c.deref.ensures at c.in_ok-put_facts.ensures.ok))
     (c.put_thread.ensures.fits, rw c.deref.ensures at c.put_facts.ensures.fits)

@@ -5,21 +5,21 @@ use Rattle.puffin_frames.proofs.Structs.{meta_reader, thread_reader, facts_reade
 use Rattle.puffin_frames.proofs.frame_data.laws.only_layouts_are_read.Goals as goal
 
 pub returns-clause-metas : goal.returns-clause-metas
-returns-clause-metas c b x r = reads_layouts IsMeta meta_layout meta_at meta_reader b x r
+returns-clause-metas c bytes value rest = reads_layouts IsMeta meta_layout meta_at meta_reader bytes value rest
 
 pub returns-clause-threads : goal.returns-clause-threads
-returns-clause-threads c b x r = reads_layouts IsThreadKey key_layout key_at thread_reader b x r
+returns-clause-threads c bytes value rest = reads_layouts IsThreadKey key_layout key_at thread_reader bytes value rest
 
 pub returns-clause-infos : goal.returns-clause-infos
-returns-clause-infos c packed b x r =
-    reads_layouts (AreStreamFacts packed) (facts_layout packed) (facts_at packed) (facts_reader packed) b x r
+returns-clause-infos c packed bytes value rest =
+    reads_layouts (AreStreamFacts packed) (facts_layout packed) (facts_at packed) (facts_reader packed) bytes value rest
 
 pub returns-clause-streams : goal.returns-clause-streams
-returns-clause-streams c packed b x r =
-    reads_layouts (AreStreams packed) (streams_layout packed) (streams_at packed) (streams_reader packed) b x r
+returns-clause-streams c packed bytes value rest =
+    reads_layouts (AreStreams packed) (streams_layout packed) (streams_at packed) (streams_reader packed) bytes value rest
 
 pub returns-clause-details : goal.returns-clause-details
-returns-clause-details c b x r = reads_layouts AreDetails details_layout details_at details_reader b x r
+returns-clause-details c bytes value rest = reads_layouts AreDetails details_layout details_at details_reader bytes value rest
 
 pub returns-clause-legacy : goal.returns-clause-legacy
-returns-clause-legacy c b x r = reads_layouts IsLegacy legacy_layout legacy_at legacy_reader b x r
+returns-clause-legacy c bytes value rest = reads_layouts IsLegacy legacy_layout legacy_at legacy_reader bytes value rest

@@ -5,10 +5,10 @@ use Rattle.puffin_frames.proofs.frame_data.writing.write_both.Goals as goal
 
 pub returns-in_err-write_all-clause-err : goal.returns-in_err-write_all-clause-err
 returns-in_err-write_all-clause-err g c =
-    let p = err_from_is_err_and c.from_residual.result c.from_residual.ensures.1 in
-    rw p.1 (beginning_more _ _ _ _ c.in_err-write_all.ensures.err)
+    let failed = err_from_is_err_and c.from_residual.result c.from_residual.ensures.1 in
+    rw failed.1 (beginning_more _ _ _ _ c.in_err-write_all.ensures.err)
 
 pub returns-clause-err : goal.returns-clause-err
 returns-clause-err g c =
-    on_err_weaker c.write_all-2.result (λ h. beginning_after _ _ _ _ _ c.in_ok-write_all.ensures.ok h)
+    on_err_weaker c.write_all-2.result (λ begins. beginning_after _ _ _ _ _ c.in_ok-write_all.ensures.ok begins)
     c.write_all-2.ensures.err

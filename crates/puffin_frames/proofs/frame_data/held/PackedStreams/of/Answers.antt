@@ -34,7 +34,9 @@ returns-clause-content c =
     let put = rw c.in_ok-bytes.ensures.items at c.in_ok-put_streams.ensures.ok in
     let form = c.packed_form-form.result in
     let read : whole (streams_at form) c.put_streams.new.out.items ≡ Some (pairs_of es) =
-    ap (whole (streams_at form)) put ∙ whole_again (AreStreams form) (streams_layout form) (streams_at form) (streams_reader form) (pairs_of es) c.in_ok-put_streams.ensures.fit in
+    ap (whole (streams_at form)) put
+    ∙ whole_again (AreStreams form) (streams_layout form) (streams_at form) (streams_reader form) (pairs_of es)
+    c.in_ok-put_streams.ensures.fit in
     ap streams_in c.new.ensures
     ∙ ap (option_map from_sorted) read
     ∙ ap Some (streams-listed es (sorted_in form (pairs_of es) c.in_ok-put_streams.ensures.fit.1))

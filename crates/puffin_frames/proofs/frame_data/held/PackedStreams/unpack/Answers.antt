@@ -16,5 +16,6 @@ returns-in-Ok c =
     let bytes = c.args.self.now.bytes.items in
     let plain : is_uncompressed c.args.self.now.kind ≡ true =
     sym c.is_uncompressed.ensures ∙ c.if-not-is_uncompressed.false in
-    let read : whole (streams_at c.args.self.now.form) bytes ≡ Some (pairs_of es) = rw c.deref.ensures.value at c.in-Ok.ensures.given in
+    let read : whole (streams_at c.args.self.now.form) bytes ≡ Some (pairs_of es) =
+    rw c.deref.ensures.value at c.in-Ok.ensures.given in
     rw plain (ap or_bad (ap (option_map from_sorted) read) ∙ ap Ok (streams-listed es c.in-Ok.ensures.sorted))
