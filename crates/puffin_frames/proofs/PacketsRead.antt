@@ -1,7 +1,6 @@
 -- Reading the next frame, from its header on.
 use Rattle.std.proofs.Common.{◌≡◌, ℕ, ◌<◌, true, false, List, [], ◌∷◌, ◌++◌, length, drop, ltb, Option, Some, None, Result, Ok, Err, refl, sym, ap, ◌∙◌, append_assoc, ne_eqb, arith}
 use Rattle.std.specs.Prelude.{is_some}
-use Rattle.std.specs.Io.KnownBytes.{Consumes}
 use Rattle.std.proofs.KnownBytes.{Consumes-trans}
 use Rattle.std.specs.Result.{IfOk}
 use Rattle.std.proofs.lemmas.Bool.{le-ltb, lt-ltb}
@@ -10,7 +9,6 @@ use Rattle.byteorder.specs.Endian.{little_number}
 use Rattle.puffin_data.specs.declared.file_error.FileError.{FileError}
 use Rattle.puffin_data.specs.declared.file_error.FileError.TheVariants as file
 use Rattle.puffin_data.specs.Device.{FromDevice, FailsAt}
-use Rattle.puffin_data.specs.Value.Layout.{IsBytes}
 use Rattle.puffin_data.proofs.lemmas.Numbers.{IsBytes-append}
 use Rattle.puffin_frames.specs.declared.frame_data.frame.FrameData.{FrameData}
 use Rattle.puffin_frames.specs.Frame.Holding.{Packing}
