@@ -10,6 +10,14 @@ use Rattle.puffin_threads.specs.Thread.ThreadKey.{ThreadKey, key_cmp}
 use Rattle.puffin_frames.specs.Packet.Structs.{IsThreadKey, AreCounts, AreStreamFacts, some_long, form_of_all, are_ordered, AreStreams}
 use Rattle.puffin_frames.proofs.Listed.{and-first, and-second, and-both}
 
+-- a thread and the info of its scopes have a layout, apart from its form
+abbrev pub Fits : ThreadKey × StreamFacts → Type 0
+Fits entry = IsThreadKey entry.0 × AreCounts entry.1
+
+-- they have a layout in packets of this form
+abbrev pub FitsIn : Form → ThreadKey × StreamFacts → Type 0
+FitsIn packed entry = IsThreadKey entry.0 × AreStreamFacts packed entry.1
+
 -- streams in order are sorted, in each form
 pub sorted_in : (packed : Form) (pairs : List (ThreadKey × StreamFacts)) →
     are_ordered packed pairs ≡ true →
@@ -28,7 +36,7 @@ ordered_in Long pairs is e = and-both _ _ e (long_is (some_long pairs) is)
     long_is false same = absurd cc
 
 none_long : (pairs : List (ThreadKey × StreamFacts)) →
-    AllByRecursion (λ (entry : ThreadKey × StreamFacts). IsThreadKey entry.0 × AreStreamFacts Short entry.1) pairs →
+    AllByRecursion (FitsIn Short) pairs →
     some_long pairs ≡ false
 none_long [] all = refl
 none_long (entry ∷ es) all = ap (λ (f : Form). is_long f || some_long es) all.0.1.0 ∙ none_long es all.1
@@ -42,15 +50,15 @@ form_stored Long pairs fit = ap form_of_flag (sym (and-second _ _ fit.1))
 
 -- and the other way round
 pub stored_in : (packed : Form) (es : List (ThreadKey × StreamFacts)) →
-    packed ≡ form_of_all es → AllByRecursion (λ (e : ThreadKey × StreamFacts). IsThreadKey e.0 × AreCounts e.1) es →
-    AllByRecursion (λ (e : ThreadKey × StreamFacts). IsThreadKey e.0 × AreStreamFacts packed e.1) es
+    packed ≡ form_of_all es → AllByRecursion Fits es →
+    AllByRecursion (FitsIn packed) es
 stored_in Long [] is all = tt
 stored_in Long (e ∷ es) is all =
     let ((thread, counts), later) = all in ((thread, (tt, counts)), each_long es later)
   where
     each_long : (pairs : List (ThreadKey × StreamFacts)) →
-        AllByRecursion (λ (e : ThreadKey × StreamFacts). IsThreadKey e.0 × AreCounts e.1) pairs →
-        AllByRecursion (λ (e : ThreadKey × StreamFacts). IsThreadKey e.0 × AreStreamFacts Long e.1) pairs
+        AllByRecursion Fits pairs →
+        AllByRecursion (FitsIn Long) pairs
     each_long [] all = tt
     each_long (e ∷ es) all = let ((thread, counts), later) = all in ((thread, (tt, counts)), each_long es later)
 stored_in Short es is all = each_short es (short_is (some_long es) is) all
@@ -72,9 +80,8 @@ stored_in Short es is all = each_short es (short_is (some_long es) is) all
     or-second false b same = same
 
     each_short : (pairs : List (ThreadKey × StreamFacts)) →
-        some_long pairs ≡ false →
-        AllByRecursion (λ (e : ThreadKey × StreamFacts). IsThreadKey e.0 × AreCounts e.1) pairs →
-        AllByRecursion (λ (e : ThreadKey × StreamFacts). IsThreadKey e.0 × AreStreamFacts Short e.1) pairs
+        some_long pairs ≡ false → AllByRecursion Fits pairs →
+        AllByRecursion (FitsIn Short) pairs
     each_short [] none all = tt
     each_short (e ∷ es) none all =
         let ((thread, counts), later) = all in

@@ -43,9 +43,8 @@ fields_same meta other_meta packing other_packing details metas packings =
     ∙ ap (λ changed. fields_from other_meta changed details) packings
 
 -- a frame whose way to be held is replaced by an equal one is the same frame
-pub with_held :
-    (frame : FrameData) (other : Held) (ordered : IsOrdered frame.meta.range_ns) (fits : DurationFits frame.meta.range_ns)
-    (same : HasMeta other frame.meta) →
+pub with_held : (frame : FrameData) (other : Held) (ordered : IsOrdered frame.meta.range_ns)
+    (fits : DurationFits frame.meta.range_ns) (same : HasMeta other frame.meta) →
     frame.held ≡ other →
     record frame { held = other; ordered = ordered; duration_fits = fits; same_meta = same } ≡ frame
 with_held frame other ordered fits same is =

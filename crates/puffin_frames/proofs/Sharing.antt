@@ -19,9 +19,11 @@ use Rattle.puffin_data.specs.Honesty.{StreamFacts, facts_of}
 use Rattle.puffin_frames.specs.Packet.Structs.{IsThreadKey, AreCounts}
 use Rattle.puffin_frames.specs.inner.Pairs.{pairs_of}
 use Rattle.puffin_frames.proofs.Appending.{all_one}
+use Rattle.puffin_frames.proofs.FormsOfAll.{Fits}
 use Rattle.puffin_frames.proofs.Listed.{listed-push}
 use Rattle.puffin_threads.proofs.lemmas.ThreadKeys.{thread_cmp_total}
 
+-- what holds of all holds of one among them
 at_middle : {K : Type 0} (P : K → Type 0) (xs : List K) (k : K) (rest : List K) → AllByRecursion P (xs ++ k ∷ rest) → P k
 at_middle P [] k rest all = all.0
 at_middle P (x ∷ xs) k rest all = at_middle P xs k rest all.1
@@ -36,29 +38,31 @@ insert_last {cmp = cmp} total (entry ∷ es) key value rest sorted =
     let below : cmp entry.0 key ≡ Less =
     at_middle (λ y. cmp entry.0 y ≡ Less) (keys_of es) key rest (sorted_head cmp entry.0 _ sorted) in
     let above : cmp key entry.0 ≡ Greater = total.antisymm key entry.0 ∙ ap ordering_reverse below in
-    ap (λ r. match_ordering r ((key, value) ∷ entry ∷ es) ((entry.0, value) ∷ es)
+    ap (λ order. match_ordering order ((key, value) ∷ entry ∷ es) ((entry.0, value) ∷ es)
     (entry ∷ insert_entry cmp es key value)) above
     ∙ ap (λ l. entry ∷ l) (insert_last total es key value rest (sorted_tail cmp entry.0 _ sorted))
 
+-- the keys, and the entries, without the sharing
 keys_of-unshared : {A : Type 0} (entries : List (ThreadInfo × Arc StreamInfo A)) (thread : ThreadInfo) (info : StreamInfo)
     (rest : List (ThreadInfo × StreamInfo)) →
     keys_of (without_sharing entries ++ (thread, info) ∷ rest) ≡ keys_of entries ++ thread ∷ keys_of rest
 keys_of-unshared [] thread info rest = refl
-keys_of-unshared (e ∷ es) thread info rest = ap (λ l. e.0 ∷ l) (keys_of-unshared es thread info rest)
+keys_of-unshared (entry ∷ es) thread info rest = ap (λ l. entry.0 ∷ l) (keys_of-unshared es thread info rest)
 
 unshared-last : {A : Type 0} (entries : List (ThreadInfo × Arc StreamInfo A)) (thread : ThreadInfo) (arc : Arc StreamInfo A)
     (rest : List (ThreadInfo × StreamInfo)) →
     without_sharing (entries ++ (thread, arc) ∷ []) ++ rest ≡ without_sharing entries ++ (thread, arc_value arc) ∷ rest
 unshared-last [] thread arc rest = refl
-unshared-last (e ∷ es) thread arc rest = ap (λ l. (e.0, arc_value e.1) ∷ l) (unshared-last es thread arc rest)
+unshared-last (entry ∷ es) thread arc rest = ap (λ l. (entry.0, arc_value entry.1) ∷ l) (unshared-last es thread arc rest)
 
 -- what is shared so far, with what is left, is what there was, in order
-pub record SharesInOrder {A : Type 0} (es : List (ThreadInfo × Arc StreamInfo A))
+pub record SharesInOrder {A : Type 0} (entries : List (ThreadInfo × Arc StreamInfo A))
     (rest all : List (ThreadInfo × StreamInfo)) : Type 0 where
-  pub whole : without_sharing es ++ rest ≡ all
+  pub whole : without_sharing entries ++ rest ≡ all
   pub sorted : IsStrictlySortedBy thread_cmp (keys_of all)
-  pub fit : AllByRecursion (λ (e : ThreadKey × StreamFacts). IsThreadKey e.0 × AreCounts e.1) (pairs_of es)
+  pub fit : AllByRecursion Fits (pairs_of entries)
 
+-- one more stream is shared
 pub one_more : {A : Type 0} (entries after : List (ThreadInfo × Arc StreamInfo A)) (thread : ThreadInfo) (info : StreamInfo)
     (arc : Arc StreamInfo A) (left rest all : List (ThreadInfo × StreamInfo)) →
     SharesInOrder entries left all → left ≡ (thread, info) ∷ rest → arc_value arc ≡ info →
@@ -84,6 +88,3 @@ one_more entries after thread info arc left rest all so_far next same put key_fi
           (all_one Fits (pairs_of entries) (key_of thread, facts_of (arc_value arc)) so_far.fit
           (key_fits, subst (λ (x : StreamInfo). AreCounts (facts_of x)) (sym same) counts));
     }
-  where
-    Fits : ThreadKey × StreamFacts → Type 0
-    Fits entry = IsThreadKey entry.0 × AreCounts entry.1

@@ -22,12 +22,9 @@ use Rattle.puffin_threads.proofs.lemmas.ThreadKeys.{key_cmp_total, key_cmp-one}
 use Rattle.puffin_frames.specs.Packet.Structs.{IsThreadKey, AreCounts}
 use Rattle.puffin_frames.specs.Frame.Streams.{Streams, shared_streams}
 use Rattle.puffin_frames.specs.Frame.Holding.{HaveLayout}
+use Rattle.puffin_frames.proofs.FormsOfAll.{Fits}
 use Rattle.puffin_frames.proofs.Listed.{listed-sorted, entries-listed, no_length}
 use Rattle.puffin_frames.proofs.Reports.{WritesAt, written, there, shared-insert}
-
--- a thread and what is recorded of it fit
-abbrev pub Fits : ThreadKey × StreamFacts → Type 0
-Fits e = IsThreadKey e.0 × AreCounts e.1
 
 -- the streams of no thread
 pub none_laid_out : HaveLayout (empty {X = StreamFacts} {R = key_cmp})

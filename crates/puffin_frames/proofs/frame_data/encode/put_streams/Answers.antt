@@ -6,20 +6,19 @@ use Rattle.std.specs.Map.{keys_of}
 use Rattle.std.specs.Map.Iter.{deref_pair}
 use Rattle.std.specs.List.Sorted.{IsStrictlySortedBy}
 use Rattle.puffin_data.specs.Value.Layout.{pair}
-use Rattle.puffin_data.specs.Honesty.{StreamFacts}
-use Rattle.puffin_threads.specs.Thread.ThreadKey.{ThreadKey, thread_cmp}
+use Rattle.puffin_threads.specs.Thread.ThreadKey.{thread_cmp}
 use Rattle.puffin_frames.specs.inner.Pairs.{pairs_of}
-use Rattle.puffin_frames.specs.Packet.Structs.{key_layout, facts_layout, IsThreadKey, AreCounts}
+use Rattle.puffin_frames.specs.Packet.Structs.{key_layout, facts_layout}
 use Rattle.puffin_frames.proofs.Appending.{one_more, next_of, two, all_written}
 use Rattle.puffin_frames.proofs.Listed.{listed-sorted}
-use Rattle.puffin_frames.proofs.FormsOfAll.{stored_in, ordered_in}
+use Rattle.puffin_frames.proofs.FormsOfAll.{Fits, stored_in, ordered_in}
 use Rattle.puffin_frames.proofs.frame_data.encode.put_streams.Goals as goal
 
 pub streams-preserved : goal.streams-preserved
 streams-preserved c =
     let left = rest_more deref_pair _ _ _ _ c.in-Some.is c.next.ensures.steps in
     one_more (pair key_layout (facts_layout c.args.packed))
-    (λ (entry : ThreadKey × StreamFacts). IsThreadKey entry.0 × AreCounts entry.1) _ _ _ _ _ _
+    Fits _ _ _ _ _ _
     (next_of _ _ _ _ _ _ _ (ap pairs_of left) c.streams.invariant)
     (two _ _ _ _ _ c.in_ok-put_thread.ensures.ok (rw c.deref.ensures at c.in_ok-put_facts.ensures.ok))
     (c.put_thread.ensures.fits, rw c.deref.ensures at c.put_facts.ensures.fits)
