@@ -181,7 +181,7 @@ pub report_in : (state : Inside) (info : StreamInfo) →
     IsReportOf (thread_in state) (facts_of info)
 report_in state info valid none is =
     let closed = closed_held state.info.stream.form state.info.stream.bytes state.latest (holds_in state valid) none in
-    let f = (scopes_in state.info.stream.form (word_of state)).1 in
+    let f = (scopes_in state.info.stream.form (word_of state)).closed in
     let range : range_until (start_in state.info.stream.bytes) state.latest state.info.range_ns
     ≡ (least_open (tour f), greatest_close (tour f)) =
     ap (λ (o : Option ℤ). range_until o state.latest state.info.range_ns)

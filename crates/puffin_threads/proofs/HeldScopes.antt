@@ -5,8 +5,7 @@ use Rattle.std.proofs.Props.{props}
 use Rattle.puffin_data.specs.declared.data.form.Form.{Form}
 use Rattle.puffin_data.specs.Forest.{Forest, IsForest, IsSpan, Span, empty, node}
 use Rattle.puffin_data.specs.Forest.Open.{Opened, IsOpened}
-use Rattle.puffin_threads.specs.Thread.Events.{events_in}
-use Rattle.puffin_threads.specs.inner.StoredThread.{scopes_in, AreOpenBy, HoldsScopes}
+use Rattle.puffin_threads.specs.inner.StoredThread.{scopes_of, AreOpenBy, HoldsScopes}
 
 module _ (form : Form) where
   IsSpan-prop : (span : Span) → IsProp (IsSpan form span)
@@ -26,8 +25,8 @@ module _ (form : Form) where
 
   pub Holds-prop : (bytes : List ℕ) (latest : ℤ) → IsProp (HoldsScopes form bytes latest)
   Holds-prop bytes latest =
-      let opened = (scopes_in form (events_in form bytes)).0 in
-      let closed = (scopes_in form (events_in form bytes)).1 in
+      let opened = (scopes_of form bytes).opened in
+      let closed = (scopes_of form bytes).closed in
       Prim.hlevel (props, AreOpenBy-prop latest opened, IsForest-prop closed)
 
   -- so what merely holds is a fact

@@ -16,7 +16,7 @@ use Rattle.puffin_data.specs.Forest.Open.{Opened, IsOpened, open_spelling, open_
 use Rattle.puffin_data.proofs.lemmas.WordMeasures.{num_begun-append, num_begun-tour}
 use Rattle.puffin_data.proofs.lemmas.Opening.{begins, begins-word, finishes, finishes-word, ended-written, open_size, size_within, size_there}
 use Rattle.puffin_threads.specs.Thread.Events.{events_in}
-use Rattle.puffin_threads.specs.inner.StoredThread.{scopes_closed, scopes_with, scopes_in, size_places, innermost_place, AreOpenBy, HoldsScopes}
+use Rattle.puffin_threads.specs.inner.StoredThread.{WordScopes, none_yet, scopes_of, scopes_closed, scopes_with, scopes_in, size_places, innermost_place, AreOpenBy, HoldsScopes}
 use Rattle.puffin_threads.specs.inner.FirstStart.{first_open, start_in}
 use Rattle.puffin_threads.specs.Thread.Calls.{opened_after, open_offsets, num_ended}
 use Rattle.puffin_threads.proofs.FirstStarts.{open_start}
@@ -40,8 +40,8 @@ num_ended-tour (node span children others) =
 module _ (form : Form) where
   -- what bytes hold, with the open scopes and the closed ones named
   record Parts (bytes : List ℕ) (latest : ℤ) (opened : List Opened) (closed : Forest) : Type 0 where
-    is_opened : (scopes_in form (events_in form bytes)).0 ≡ opened
-    is_closed : (scopes_in form (events_in form bytes)).1 ≡ closed
+    is_opened : (scopes_of form bytes).opened ≡ opened
+    is_closed : (scopes_of form bytes).closed ≡ closed
     whole : bytes ≡ open_spelling form opened closed
     started : AreOpenBy form latest opened
     written : IsForest form closed
@@ -49,7 +49,7 @@ module _ (form : Form) where
 
   parts : (bytes : List ℕ) (latest : ℤ) →
       HoldsScopes form bytes latest →
-      Parts bytes latest (scopes_in form (events_in form bytes)).0 (scopes_in form (events_in form bytes)).1
+      Parts bytes latest (scopes_of form bytes).opened (scopes_of form bytes).closed
   parts bytes latest holding =
       record {
         is_opened = refl;
@@ -67,7 +67,7 @@ module _ (form : Form) where
     whole =
         named.whole
         ∙ ap (λ (os : List Opened). open_spelling form os closed) (sym named.is_opened)
-        ∙ ap (λ (f : Forest). open_spelling form (scopes_in form (events_in form bytes)).0 f) (sym named.is_closed);
+        ∙ ap (λ (f : Forest). open_spelling form (scopes_of form bytes).opened f) (sym named.is_closed);
     opened = subst (λ (os : List Opened). AreOpenBy form latest os) (sym named.is_opened) named.started;
     closed = subst (λ (f : Forest). IsForest form f) (sym named.is_closed) named.written;
     places = named.places ∙ ap (size_places form) (sym named.is_opened);
@@ -121,7 +121,7 @@ module _ (form : Form) where
       num_begun (events_in form bytes) ≡ num_ended (events_in form bytes) + length
       (open_offsets form (events_in form bytes))
   begun_held bytes latest holding =
-      let opened = (scopes_in form (events_in form bytes)).0 in
+      let opened = (scopes_of form bytes).opened in
       omega (
         arith,
         begun_parts bytes latest _ _ (parts bytes latest holding),
@@ -134,7 +134,7 @@ module _ (form : Form) where
   scopes_more : (word : List Event) (event : Event) →
       scopes_in form (word ++ (event ∷ [])) ≡ scopes_with form (scopes_in form word) event
   unfolding scopes_in
-  scopes_more word event = fold-append (scopes_with form) ([], empty) word (event ∷ [])
+  scopes_more word event = fold-append (scopes_with form) none_yet word (event ∷ [])
 
   offsets_sum : (n : ℕ) (places : List ℕ) (word : List Event) →
       (fold (opened_after form) (n, places) word).0 ≡ n + word_size form word
@@ -213,17 +213,17 @@ module _ (form : Form) where
       omega (arith, ap (word_size form) before, open_size form opened closed) in
       record {
         holds = holds next at (o ∷ opened) empty (record {
-          is_opened = ap (λ (s : List Opened × Forest). s.0) scopes
-              ∙ ap (λ (s : List Opened × Forest).
+          is_opened = ap (λ (scopes : WordScopes). scopes.opened) scopes
+              ∙ ap (λ (s : WordScopes).
               record {
-                before = s.1;
+                before = s.closed;
                 id = id;
                 start = at;
                 text = text;
-                size = innermost_place (size_places form s.0);
-              } ∷ s.0) (λ i. (named.is_opened i, named.is_closed i))
+                size = innermost_place (size_places form s.opened);
+              } ∷ s.opened) (λ i. record { opened = named.is_opened i; closed = named.is_closed i })
               ∙ ap (λ (n : ℕ). record { before = closed; id = id; start = at; text = text; size = n } ∷ opened) (sym linked);
-          is_closed = ap (λ (s : List Opened × Forest). s.1) scopes;
+          is_closed = ap (λ (scopes : WordScopes). scopes.closed) scopes;
           whole = whole;
           started = started;
           written = tt;
@@ -273,12 +273,12 @@ module _ (form : Form) where
       let scopes =
       ap (scopes_in form) word
       ∙ scopes_more (events_in form bytes) (Close at)
-      ∙ ap (λ (os : List Opened). scopes_closed os (scopes_in form (events_in form bytes)).1 at) named.is_opened
+      ∙ ap (λ (os : List Opened). scopes_closed os (scopes_of form bytes).closed at) named.is_opened
       ∙ ap (λ (f : Forest). scopes_closed (scope ∷ outer) f at) named.is_closed in
       record {
         holds = holds next at outer (with_ended scope closed at) (record {
-          is_opened = ap (λ (s : List Opened × Forest). s.0) scopes;
-          is_closed = ap (λ (s : List Opened × Forest). s.1) scopes;
+          is_opened = ap (λ (scopes : WordScopes). scopes.opened) scopes;
+          is_closed = ap (λ (scopes : WordScopes). scopes.closed) scopes;
           whole = whole;
           started = started;
           written = written;
@@ -343,8 +343,8 @@ module _ (form : Form) where
       HoldsScopes form bytes latest →
       length bytes ≡ word_size form (events_in form bytes)
   size_held bytes latest holding =
-      let opened = (scopes_in form (events_in form bytes)).0 in
-      let closed = (scopes_in form (events_in form bytes)).1 in
+      let opened = (scopes_of form bytes).opened in
+      let closed = (scopes_of form bytes).closed in
       ap length holding.whole
       ∙ open_size form opened closed
       ∙ ap (word_size form) (sym (word_is bytes latest opened closed (parts bytes latest holding)))
@@ -353,8 +353,8 @@ module _ (form : Form) where
       HoldsScopes form bytes latest →
       start_in bytes ≡ first_open (events_in form bytes)
   start_held bytes latest holding =
-      let opened = (scopes_in form (events_in form bytes)).0 in
-      let closed = (scopes_in form (events_in form bytes)).1 in
+      let opened = (scopes_of form bytes).opened in
+      let closed = (scopes_of form bytes).closed in
       ap start_in holding.whole
       ∙ open_start form latest opened closed holding.opened holding.closed
       ∙ ap first_open (sym (word_is bytes latest opened closed (parts bytes latest holding)))
@@ -374,10 +374,10 @@ module _ (form : Form) where
 
   pub closed_held : (bytes : List ℕ) (latest : ℤ) →
       HoldsScopes form bytes latest → open_after 0 (events_in form bytes) ≡ 0 →
-      Closes bytes (scopes_in form (events_in form bytes)).1
+      Closes bytes (scopes_of form bytes).closed
   closed_held bytes latest holding none =
-      let opened = (scopes_in form (events_in form bytes)).0 in
-      closed_parts bytes latest opened (scopes_in form (events_in form bytes)).1 (parts bytes latest holding)
+      let opened = (scopes_of form bytes).opened in
+      closed_parts bytes latest opened (scopes_of form bytes).closed (parts bytes latest holding)
       (omega (arith, length-open_offsets (events_in form bytes), ap length holding.places, length-size_places opened))
 
   -- a stream without bytes
@@ -386,8 +386,8 @@ module _ (form : Form) where
   nothing_held bytes latest e =
       let word : events_in form bytes ≡ [] = ap (events_in form) e ∙ events_of_none form in
       holds bytes latest [] empty (record {
-        is_opened = ap (λ (w : List Event). (scopes_in form w).0) word;
-        is_closed = ap (λ (w : List Event). (scopes_in form w).1) word;
+        is_opened = ap (λ (w : List Event). (scopes_in form w).opened) word;
+        is_closed = ap (λ (w : List Event). (scopes_in form w).closed) word;
         whole = e;
         started = tt;
         written = tt;

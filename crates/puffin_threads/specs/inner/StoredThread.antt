@@ -25,31 +25,44 @@ abbrev pub innermost_place : List ℕ → ℕ
 innermost_place [] = 0
 innermost_place (place ∷ places) = place
 
--- What a word says of its scopes is a pair: the open ones, the innermost first, and the closed siblings of the next scope to begin.
+-- what a word says of its scopes: the open ones, the innermost first, and the closed siblings of the next scope to begin
+pub record WordScopes : Type 0 where
+  pub opened : List Opened
+  pub closed : Forest
 
--- that pair after the innermost open scope has ended
-abbrev pub scopes_closed : List Opened → Forest → ℤ → List Opened × Forest
-scopes_closed [] closed stop = ([], closed)
-scopes_closed (scope ∷ outer) closed stop = (outer, with_ended scope closed stop)
+-- before the first event
+abbrev pub none_yet : WordScopes
+none_yet = record { opened = []; closed = empty }
 
--- that pair after one more event; a scope that begins stores the offset of the scope around it as its size
-abbrev pub scopes_with : Form → List Opened × Forest → Event → List Opened × Forest
-scopes_with form sofar (Open id text start) = (
-  record {
-    before = sofar.1;
-    id = id;
-    start = start;
-    text = text;
-    size = innermost_place (size_places form sofar.0);
-  }
-      ∷ sofar.0,
-  empty,
-)
-scopes_with form sofar (Close stop) = scopes_closed sofar.0 sofar.1 stop
+-- after the innermost of these open scopes, with these closed children, has ended
+abbrev pub scopes_closed : List Opened → Forest → ℤ → WordScopes
+scopes_closed [] closed stop = record { opened = []; closed = closed }
+scopes_closed (scope ∷ outer) closed stop =
+    record { opened = outer; closed = with_ended scope closed stop }
 
--- that pair after all events of a word
-unfoldable pub scopes_in : Form → List Event → List Opened × Forest
-scopes_in form word = fold (scopes_with form) ([], empty) word
+-- after one more event; a scope that begins stores the offset of the scope around it as its size
+abbrev pub scopes_with : Form → WordScopes → Event → WordScopes
+scopes_with form sofar (Open id text start) = record {
+  opened =
+      record {
+        before = sofar.closed;
+        id = id;
+        start = start;
+        text = text;
+        size = innermost_place (size_places form sofar.opened);
+      }
+      ∷ sofar.opened;
+  closed = empty;
+}
+scopes_with form sofar (Close stop) = scopes_closed sofar.opened sofar.closed stop
+
+-- after all events of a word
+unfoldable pub scopes_in : Form → List Event → WordScopes
+scopes_in form word = fold (scopes_with form) none_yet word
+
+-- the scopes that bytes hold
+abbrev pub scopes_of : Form → List ℕ → WordScopes
+scopes_of form bytes = scopes_in form (events_in form bytes)
 
 -- Open scopes that can be written, with starts from 0 up to this time. Until one ends, the offset of the size of the scope around
 -- it stands in the place of its size.
@@ -61,12 +74,11 @@ AreOpenBy form latest (scope ∷ outer) =
 
 -- the bytes are those of a stream with the scopes of their word, which can be written
 pub record HoldsScopes (form : Form) (bytes : List ℕ) (latest : ℤ) : Type 0 where
-  pub whole : bytes ≡ open_spelling form (scopes_in form (events_in form bytes)).0
-      (scopes_in form (events_in form bytes)).1
-  pub opened : AreOpenBy form latest (scopes_in form (events_in form bytes)).0
-  pub closed : IsForest form (scopes_in form (events_in form bytes)).1
+  pub whole : bytes ≡ open_spelling form (scopes_of form bytes).opened (scopes_of form bytes).closed
+  pub opened : AreOpenBy form latest (scopes_of form bytes).opened
+  pub closed : IsForest form (scopes_of form bytes).closed
   pub places : open_offsets form (events_in form bytes)
-      ≡ size_places form (scopes_in form (events_in form bytes)).0
+      ≡ size_places form (scopes_of form bytes).opened
 
 -- the counts of a stream's scopes, open ones included; without scopes, also their range
 pub record IsCounted (info : StreamInfo) (word : List Event) : Type 0 where
