@@ -36,6 +36,7 @@ pub all_one : {A : Type 0} (fits : A → Type 0) (xs : List A) (x : A) →
 all_one fits [] x all_so x_fits = (x_fits, tt)
 all_one fits (y ∷ xs) x all_so x_fits = (all_so.0, all_one fits xs x all_so.1 x_fits)
 
+-- the layouts of items and of one more
 flat_one : {A : Type 0} (layout : A → List ℕ) (xs : List A) (x : A) →
     flat_map layout (xs ++ x ∷ []) ≡ flat_map layout xs ++ layout x
 flat_one layout [] x = append-nil (layout x)

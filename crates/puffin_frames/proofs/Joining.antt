@@ -28,6 +28,7 @@ pub record ComesTo (meta : FrameMeta) (rest : List StreamFacts) (index : ℕ) (a
   pub stop : stop_from meta.range_ns.1 rest ≡ joined_stop all
   pub fit : (meta.num_bytes < 2 ^ 64) × (meta.num_scopes < 2 ^ 64)
 
+-- sums don't fall
 pub bytes_above : (n : ℕ) (infos : List StreamFacts) → n ≤ bytes_from n infos
 bytes_above n [] = omega arith
 bytes_above n (x ∷ xs) = omega (arith, bytes_above (n + length x.bytes) xs)
@@ -36,6 +37,7 @@ pub scopes_above : (n : ℕ) (infos : List StreamFacts) → n ≤ scopes_from n 
 scopes_above n [] = omega arith
 scopes_above n (x ∷ xs) = omega (arith, scopes_above (n + x.num_scopes) xs)
 
+-- one more info is joined
 pub one_more : (meta more : FrameMeta) (info : StreamFacts) (rest all : List StreamFacts) (index : ℕ) →
     ComesTo meta (info ∷ rest) index all → more.frame_index ≡ meta.frame_index →
     more.num_bytes ≡ meta.num_bytes + length info.bytes → more.num_scopes ≡ meta.num_scopes + info.num_scopes →
@@ -66,6 +68,7 @@ too_large meta x same rest all index comes is over fits =
       | inr more ↦ omega (arith, scopes, same_scopes, comes.num_scopes, fits.scopes)
     ]
 
+-- after the last info the numbers are those of all
 pub come : (meta : FrameMeta) (all : List StreamFacts) (index : ℕ) → ComesTo meta [] index all → meta ≡ meta_of index all
 come meta all index comes = λ i. record {
   frame_index = comes.frame_index i;
@@ -74,6 +77,7 @@ come meta all index comes = λ i. record {
   num_scopes = comes.num_scopes i;
 }
 
+-- and they fit
 pub totals_fit : (meta : FrameMeta) (all : List StreamFacts) (index : ℕ) → ComesTo meta [] index all → TotalsFit all
 totals_fit meta all index comes = record {
   bytes = omega (arith, comes.num_bytes, comes.fit.0);

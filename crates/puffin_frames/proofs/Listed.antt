@@ -23,6 +23,7 @@ use Rattle.puffin_frames.specs.inner.Pairs.{pairs_of}
 use Rattle.puffin_threads.specs.Thread.ThreadKey.{ThreadKey, key_cmp, key_of, thread_cmp}
 use Rattle.puffin_threads.proofs.lemmas.ThreadKeys.{key_cmp_total, thread_cmp_total}
 
+-- facts about tests
 pub and-first : (a b : Bool) → (a && b) ≡ true → a ≡ true
 and-first true b e = refl
 and-first false b e = e
@@ -47,6 +48,7 @@ is_less Equal e = absurd cc
 is_less Greater e = absurd cc
 
 module _ {A : Type 0} where
+  -- a thread below all of a map's threads is below all of its list's
   listed-below : (least : ThreadInfo) (entries : List (ThreadInfo × Arc StreamInfo A)) →
       AllByRecursion (λ y. thread_cmp least y ≡ Less) (keys_of entries) →
       below_all key_cmp (key_of least) (pairs_of entries) ≡ true
@@ -72,6 +74,7 @@ module _ {A : Type 0} where
       ap (λ (pairs : List (ThreadKey × StreamFacts)). (key_of entry.0, facts_of (arc_value entry.1)) ∷ pairs)
       (listed-push es thread info)
 
+-- a key below all of a list is below each in it, and stays below all with one more
 below_at : (least thread : ThreadKey) (info : StreamFacts) (pairs rest : List (ThreadKey × StreamFacts)) →
     below_all key_cmp least (pairs ++ (thread, info) ∷ rest) ≡ true →
     key_cmp least thread ≡ Less
@@ -111,6 +114,7 @@ pub no_entries : {K X : Type 0} (R : K → K → Ordering) → entries (from_ent
 no_entries {K} {X} R = no_length _ (sym (len-entries (empty {X = X} {R = R})) ∙ len-empty R X)
 
 module _ {K X : Type 0} {R : K → K → Ordering} (total : IsTotalOrder R) (nothing : entries (from_entries {X = X} {R = R} []) ≡ []) where
+  -- a pair below all others is put first
   put-first : (key : K) (value : X) (pairs : List (K × X)) →
       below_all R key pairs ≡ true →
       put R key value pairs ≡ (key, value) ∷ pairs
@@ -149,6 +153,7 @@ entries-listed shared sorted = entries-sorted_list key_cmp_total (no_entries key
 alone : {X : Type 0} (y x : X) → y ≡ x → y ∷ [] ≡ x ∷ []
 alone {X} y x e = ap (λ (z : X). z ∷ []) e
 
+-- a list ends with its last item
 last_split : {X : Type 0} (xs : List X) (x : X) →
     slice_get xs (length xs - 1) ≡ Some x →
     (front : List X) × (xs ≡ front ++ x ∷ [])
@@ -160,6 +165,7 @@ last_split {X} (y ∷ z ∷ ys) x e =
     let rest = last_split (z ∷ ys) x later in
     (y ∷ rest.0, ap (λ (l : List X). y ∷ l) rest.1)
 
+-- a pair above the last one keeps a list in order, and one in order is above it
 sorted-push : (front : List (ThreadKey × StreamFacts)) (last thread : ThreadKey) (last_info info : StreamFacts) →
     is_sorted key_cmp (front ++ (last, last_info) ∷ []) ≡ true → key_cmp last thread ≡ Less →
     is_sorted key_cmp ((front ++ (last, last_info) ∷ []) ++ (thread, info) ∷ []) ≡ true

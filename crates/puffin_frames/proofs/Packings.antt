@@ -94,6 +94,7 @@ streams_from : (decoded : Option (List (ThreadKey × StreamFacts))) (streams : S
 streams_from None streams same = absurd cc
 streams_from (Some pairs) streams same = (pairs, refl, same_Some (from_sorted pairs) streams same)
 
+-- only one kind is uncompressed
 uncompressed : (kind : Kind) → is_uncompressed kind ≡ true → kind ≡ Uncompressed
 uncompressed Uncompressed e = refl
 uncompressed Lz4 e = absurd cc
@@ -174,6 +175,7 @@ bad_so true kind None streams bad some = absurd cc
 bad_so true kind (Some found) streams bad some = absurd cc
 bad_so false kind decoded streams bad some = absurd cc
 
+-- streams that are there are what unpacking gives
 one_answer : (b : Bool) (decoded : Option Streams) (cause : FileError) (streams : Streams) →
     cond b decoded None ≡ Some streams →
     Ok streams ≡ cond b (or_bad decoded) (Err cause)

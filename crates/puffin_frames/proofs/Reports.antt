@@ -44,6 +44,7 @@ module _ {X : Type 0} where
   set_at_order Greater thread old new entry entries is sorted found later =
       ap (λ entries_after. entry ∷ entries_after) (later found)
 
+  -- the same for all entries
   set_is_insert : (entries : List (ThreadInfo × X)) (thread : ThreadInfo) (old new : X) →
       IsStrictlySortedBy thread_cmp (keys_of entries) → lookup (is_at (thread_cmp thread)) entries ≡ Some old →
       set_value (is_at (thread_cmp thread)) entries new ≡ insert_entry thread_cmp entries thread new
@@ -52,6 +53,7 @@ module _ {X : Type 0} where
       set_at_order (thread_cmp thread entry.0) thread old new entry es refl sorted found
       (set_is_insert es thread old new (sorted_tail thread_cmp entry.0 _ sorted))
 
+  -- a look-up by a thread's key is one by the thread
   find-key_entries : (entries : List (ThreadInfo × X)) (thread : ThreadInfo) →
       find key_cmp (key_of thread) (key_entries entries) ≡ lookup (is_at (thread_cmp thread)) entries
   find-key_entries [] thread = refl
@@ -74,6 +76,7 @@ module _ {X : Type 0} where
       ∙ at_test streams thread other value (has_same_key other thread) refl found)
 
 module _ {A : Type 0} where
+  -- what the streams of a map have under a thread is what the map has there
   pub get-shared : (entries : List (ThreadInfo × Arc StreamInfo A)) (thread : ThreadInfo) →
       get (shared_streams entries) (key_of thread)
       ≡ option_map facts_of (option_map arc_value (lookup (is_at (thread_cmp thread)) entries))
@@ -83,6 +86,7 @@ module _ {A : Type 0} where
       ∙ lookup-map_values facts_of (is_at (thread_cmp thread)) (without_sharing entries)
       ∙ ap (option_map facts_of) (lookup-map_values arc_value (is_at (thread_cmp thread)) entries)
 
+  -- an insertion into the map is one into its streams
   pub shared-insert : (entries : List (ThreadInfo × Arc StreamInfo A)) (thread : ThreadInfo) (arc : Arc StreamInfo A) →
       shared_streams (insert_entry thread_cmp entries thread arc)
       ≡ insert (shared_streams entries) (key_of thread) (facts_of (arc_value arc))
@@ -112,6 +116,7 @@ module _ {A : Type 0} where
     pub found : lookup (is_at (thread_cmp thread)) entries ≡ Some old
     pub after : written_entries ≡ set_value (is_at (thread_cmp thread)) entries new
 
+  -- so the write is an insertion into the streams
   pub written : (entries : List (ThreadInfo × Arc StreamInfo A)) (thread : ThreadInfo) (old new : Arc StreamInfo A)
       (after : List (ThreadInfo × Arc StreamInfo A)) →
       WritesAt entries thread old new after →
@@ -120,6 +125,7 @@ module _ {A : Type 0} where
       ap shared_streams (write.after ∙ set_is_insert entries thread old new write.sorted write.found)
       ∙ shared-insert entries thread new
 
+  -- and they had the old info there
   pub there : (entries : List (ThreadInfo × Arc StreamInfo A)) (thread : ThreadInfo) (old new : Arc StreamInfo A)
       (after : List (ThreadInfo × Arc StreamInfo A)) →
       WritesAt entries thread old new after →
@@ -127,6 +133,7 @@ module _ {A : Type 0} where
   there entries thread old new after write =
       get-shared entries thread ∙ ap (λ o. option_map facts_of (option_map arc_value o)) write.found
 
+  -- a report that extends what is there
   pub reported_over : (entries : List (ThreadInfo × Arc StreamInfo A)) (thread : ThreadInfo) (old new : Arc StreamInfo A)
       (after : List (ThreadInfo × Arc StreamInfo A)) (info : StreamFacts) →
       WritesAt entries thread old new after → facts_of (arc_value new) ≡ joined_facts (facts_of (arc_value old)) info →
@@ -136,6 +143,7 @@ module _ {A : Type 0} where
       ∙ ap (insert (shared_streams entries) (key_of thread))
       (more ∙ ap (λ o. joined_facts (unwrap_or o no_scopes) info) (sym (there entries thread old new after write)))
 
+  -- a refusal that leaves what is there
   pub refused_over : (entries : List (ThreadInfo × Arc StreamInfo A)) (thread : ThreadInfo) (old new : Arc StreamInfo A)
       (after : List (ThreadInfo × Arc StreamInfo A)) →
       WritesAt entries thread old new after → facts_of (arc_value new) ≡ facts_of (arc_value old) →
@@ -146,6 +154,7 @@ module _ {A : Type 0} where
       ∙ insert-same (shared_streams entries) (key_of thread) (facts_of (arc_value old))
       (there entries thread old new after write)
 
+  -- a report under a thread that had none
   pub reported_first : (entries : List (ThreadInfo × Arc StreamInfo A)) (thread : ThreadInfo) (arc : Arc StreamInfo A)
       (fs : List (ThreadInfo × Arc StreamInfo A)) (info : StreamFacts) →
       lookup (is_at (thread_cmp thread)) entries ≡ None → fs ≡ insert_entry thread_cmp entries thread arc →
@@ -170,6 +179,7 @@ pub none_unlike : (info facts : StreamFacts) → info ≡ no_scopes → AreUnlik
 none_unlike info facts none apart = let bytes = ap (λ (r : StreamFacts). length r.bytes) none in omega (arith, bytes, apart.0)
 
 module _ {A : Type 0} where
+  -- the same of equal results and equal infos
   pub refused_as : (r answer : Result A Error) (info v facts : StreamFacts) →
       r ≡ answer → info ≡ v → IsRefusedBy answer info facts →
       IsRefusedBy r v facts
@@ -177,6 +187,7 @@ module _ {A : Type 0} where
       subst (λ (new : StreamFacts). IsRefusedBy r new facts) same
       (subst (λ (s : Result A Error). IsRefusedBy s info facts) (sym is) refused)
 
+  -- what fails only for memory fails for no other cause
   pub not_unlike : (r : Result A Error) → IfErr r (λ e. e ≡ Memory) → r ≢ Err UnlikeForms
   not_unlike (Ok x) memory same = absurd cc
   not_unlike (Err e) memory same = cc

@@ -53,6 +53,7 @@ short_if : (b : Bool) (x y : List ℕ) → length x ≤ 9 → length y ≤ 9 →
 short_if true x y p q = p
 short_if false x y p q = q
 
+-- a number takes at most 9 bytes
 pub number_short : (n : ℕ) → length (number n) ≤ 9
 unfolding number
 number_short n =
@@ -63,6 +64,7 @@ number_short n =
     (short_if (nat_lt n (2 ^ 16)) two (cond (nat_lt n (2 ^ 32)) four eight) (omega arith)
     (short_if (nat_lt n (2 ^ 32)) four eight (omega arith) (omega arith)))
 
+-- and at least one
 pub number_long : (n : ℕ) → 0 < length (number n)
 unfolding number
 number_long n =
@@ -77,6 +79,7 @@ number_long n =
     long_if true x y p q = p
     long_if false x y p q = q
 
+-- five numbers are short
 sum_short : (a b c d e : List ℕ) →
     length a ≤ 9 → length b ≤ 9 → length c ≤ 9 → length d ≤ 9 → length e ≤ 9 →
     length (a ++ (b ++ (c ++ (d ++ e)))) < 2 ^ 32

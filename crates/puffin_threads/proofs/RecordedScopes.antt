@@ -22,6 +22,7 @@ use Rattle.puffin_threads.specs.Thread.Calls.{opened_after, open_offsets, num_en
 use Rattle.puffin_threads.proofs.FirstStarts.{open_start}
 use Rattle.puffin_threads.proofs.lemmas.Events.{events_open, events_of_none}
 
+-- as many scopes end in two words as in one and the other
 num_ended-append : (u v : List Event) → num_ended (u ++ v) ≡ num_ended u + num_ended v
 num_ended-append [] v = omega arith
 num_ended-append (Open id text start ∷ u) v = num_ended-append u v
@@ -177,6 +178,7 @@ module _ (form : Form) where
     pub holds : HoldsScopes form next at
     pub word : events_in form next ≡ events_in form bytes ++ (e ∷ [])
 
+  -- a beginning behind the bytes is one more open scope
   begins_parts : (bytes next : List ℕ) (latest at : ℤ) (id : ℕ) (text : List ℕ) (around : ℕ) (opened : List Opened)
       (closed : Forest) →
       Parts bytes latest opened closed → latest ≤ℤ at → pos 0 ≤ℤ at → FitsSigned w64 at → 0 < id → id < 2 ^ 32 →
@@ -185,13 +187,13 @@ module _ (form : Form) where
       next ≡ bytes ++ begin_bytes form id at text around →
       Goes bytes next at (Open id text at)
   begins_parts bytes next latest at id text around opened closed named le low fits id_low id_high size small first e =
-      let o : Opened = record { before = closed; id = id; start = at; text = text; size = around } in
+      let begun : Opened = record { before = closed; id = id; start = at; text = text; size = around } in
       let linked : around ≡ innermost_place (size_places form opened) = first ∙ ap innermost_place named.places in
-      let whole : next ≡ open_spelling form (o ∷ opened) empty =
+      let whole : next ≡ open_spelling form (begun ∷ opened) empty =
       e
       ∙ ap (λ (x : List ℕ). x ++ begin_bytes form id at text around) named.whole
       ∙ begins form opened closed id at text around in
-      let is : IsOpened form o =
+      let is : IsOpened form begun =
       record {
         before = named.written;
         id_low = id_low;
@@ -200,19 +202,19 @@ module _ (form : Form) where
         text_size = size;
         text_bytes = small;
       } in
-      let started : AreOpenBy form at (o ∷ opened) =
+      let started : AreOpenBy form at (begun ∷ opened) =
       (is, low, omega (arith, ints), linked, later latest at opened le named.started) in
       let before = word_is bytes latest opened closed named in
       let word : events_in form next ≡ events_in form bytes ++ (Open id text at ∷ []) =
       ap (events_in form) whole
-      ∙ events_open form at (o ∷ opened) empty started tt
+      ∙ events_open form at (begun ∷ opened) empty started tt
       ∙ sym (begins-word opened closed id at text around)
       ∙ ap (λ (w : List Event). w ++ (Open id text at ∷ [])) (sym before) in
       let scopes = ap (scopes_in form) word ∙ scopes_more (events_in form bytes) (Open id text at) in
-      let place : word_size form (events_in form bytes) + size_offset form text ≡ size_place form o opened =
+      let place : word_size form (events_in form bytes) + size_offset form text ≡ size_place form begun opened =
       omega (arith, ap (word_size form) before, open_size form opened closed) in
       record {
-        holds = holds next at (o ∷ opened) empty (record {
+        holds = holds next at (begun ∷ opened) empty (record {
           is_opened = ap (λ (scopes : WordScopes). scopes.opened) scopes
               ∙ ap (λ (s : WordScopes).
               record {
@@ -231,7 +233,7 @@ module _ (form : Form) where
               ap (open_offsets form) word
               ∙ offsets_opened (events_in form bytes) id text at
               ∙ ap (λ (n : ℕ). n ∷ open_offsets form (events_in form bytes)) place
-              ∙ ap (λ (ns : List ℕ). size_place form o opened ∷ ns) named.places;
+              ∙ ap (λ (ns : List ℕ). size_place form begun opened ∷ ns) named.places;
         });
         word = word;
       }
@@ -297,6 +299,7 @@ module _ (form : Form) where
   ends_held bytes next latest at place rest holding le fits is e =
       ends_parts bytes next latest at place rest _ _ (parts bytes latest holding) le fits (sym holding.places ∙ is) e
 
+  -- the size of the innermost scope stands within the bytes
   place_parts : (bytes : List ℕ) (latest : ℤ) (place : ℕ) (rest : List ℕ) (opened : List Opened) (closed : Forest) →
       Parts bytes latest opened closed → size_places form opened ≡ place ∷ rest →
       place + 8 ≤ length bytes
@@ -349,6 +352,7 @@ module _ (form : Form) where
       ∙ open_size form opened closed
       ∙ ap (word_size form) (sym (word_is bytes latest opened closed (parts bytes latest holding)))
 
+  -- the start at the front of the bytes is that of the first scope that opens
   pub start_held : (bytes : List ℕ) (latest : ℤ) →
       HoldsScopes form bytes latest →
       start_in bytes ≡ first_open (events_in form bytes)

@@ -26,6 +26,7 @@ use Rattle.puffin_frames.proofs.lemmas.Ranges.{least_start-one, greatest_stop-on
 abbrev pub IsHonestSomehow : StreamFacts → Type 0
 IsHonestSomehow r = ∥ ((f : Forest) × AreHonestFacts r f) ∥₁
 
+-- an info without scopes is honest
 none_honest : AreHonestFacts no_scopes forest.empty
 none_honest = record {
   stream = record { whole = refl; fits = tt };
@@ -35,6 +36,7 @@ none_honest = record {
 pub none_is_honest : AreHonest empty
 none_is_honest i r found = let none = get-empty {X = StreamFacts} key_cmp i in absurd cc
 
+-- an honest report that is joined to an honest info makes an honest one
 joined_honest : (found : Option StreamFacts) (info : StreamFacts) (f : Forest) →
     (AreUnlike (unwrap_or found no_scopes) info → ⊥) → AreHonestFacts info f →
     ((x : StreamFacts) → found ≡ Some x → IsHonestSomehow x) →
@@ -44,6 +46,7 @@ joined_honest None info f like honest before =
 joined_honest (Some x) info forest like honest before =
     ∥∥₁_map (before x refl) (λ p. (append p.0 forest, honest_joined x info p.0 forest like p.1 honest))
 
+-- after a report an info is the joined one, or it was there before
 at_test : (b : Bool) (joined info : StreamFacts) (there : Option StreamFacts) →
     IsHonestSomehow joined → (there ≡ Some info → IsHonestSomehow info) → cond b (Some joined) there ≡ Some info →
     IsHonestSomehow info
@@ -69,6 +72,7 @@ none_at least (first_pair ∷ others) below =
     (less (key_cmp least first_pair.0) (first _ _ below))
     ∙ none_at least others (second (is_lt (key_cmp least first_pair.0)) _ below)
 
+-- what is found behind the first pair is found in the whole list
 past_first : (order : Ordering) (thread : ThreadKey) (info : StreamFacts) (first_pair : ThreadKey × StreamFacts)
     (pairs : List (ThreadKey × StreamFacts)) →
     key_cmp thread first_pair.0 ≡ order → T (below_all key_cmp first_pair.0 pairs) →
@@ -80,6 +84,7 @@ past_first Equal thread info first_pair pairs is below found =
     absurd cc
 past_first Greater thread info first_pair pairs is below found = found
 
+-- what holds of each info that is found holds of all infos
 all_from_each : (P : StreamFacts → Type 0) (pairs : List (ThreadKey × StreamFacts)) →
     T (is_sorted key_cmp pairs) →
     ((thread : ThreadKey) (info : StreamFacts) → find key_cmp thread pairs ≡ Some info → P info) →
@@ -103,6 +108,7 @@ one_ordered info honest some reversed =
 not_above : (a b : ℤ) → ¬ (b <ℤ a) → a ≤ℤ b
 not_above a b not_less = grind (arith, ints)
 
+-- nor is the joined range, whether or not the first info has a scope
 ordered_from : (n : ℕ) (info : StreamFacts) (infos : List StreamFacts) →
     info.num_scopes ≡ n → IsHonestSomehow info → 0 < total_scopes (info ∷ infos) →
     (0 < total_scopes infos → joined_start infos ≤ℤ joined_stop infos) →
@@ -135,6 +141,7 @@ none_at_test true pair info there nothing later found =
     let same : pair.1 ≡ info = cc in sym (ap (λ x. x.num_scopes) same) ∙ nothing
 none_at_test false pair info there nothing later found = later found
 
+-- in a sum of nothing each number is nothing
 none_of : (pairs : List (ThreadKey × StreamFacts)) (thread : ThreadKey) (info : StreamFacts) →
     total_scopes (map (λ pair. pair.1) pairs) ≡ 0 → find key_cmp thread pairs ≡ Some info →
     info.num_scopes ≡ 0

@@ -100,7 +100,7 @@ module _ (form : Form) where
   record Fronts (region : List ℕ) (e : Event) (more : List ℕ) : Type 0 where
     step : (n : ℕ) → events_from form (suc n) region ≡ e ∷ events_from form n more
 
-  -- a scope's beginning is read as that event: each of its parts stands where it is looked for
+  -- a scope's beginning is read as that event: each of its parts stands where it is looked for; `d5` says what stands from place 5 on
   opens : (id size : ℕ) (start : ℤ) (text more region : List ℕ) →
       id < 2 ^ 32 → FitsSigned w64 start → length text ≤ stored_limit form →
       region ≡ begin_bytes form id start text size ++ more →
