@@ -14,32 +14,41 @@ use Rattle.puffin_threads.specs.Thread.ThreadKey.{ThreadKey, thread_cmp}
 use Rattle.puffin_frames.specs.declared.frame_data.frame.FrameData.{FrameData}
 use Rattle.puffin_frames.specs.declared.frame_data.held.Held.{Held}
 use Rattle.puffin_frames.specs.declared.frame_data.held.Held.TheVariants.{Own, Shared, Packed, Both}
-use Rattle.puffin_frames.specs.Packet.Structs.{IsThreadKey, AreCounts, form_of_all, AreStreams}
+use Rattle.puffin_frames.specs.Packet.Structs.{form_of_all, AreStreams}
 use Rattle.puffin_frames.specs.Frame.Contents.{shared_streams, held_as, holding_of}
 use Rattle.puffin_data.specs.Value.Layout.{AreItems}
 use Rattle.puffin_frames.specs.Frame.Holding.{HaveLayout, IsHolding}
 use Rattle.puffin_frames.specs.inner.Pairs.{pairs_of}
 use Rattle.puffin_frames.proofs.Listed.{listed-sorted, entries-listed}
-use Rattle.puffin_frames.proofs.FormsOfAll.{sorted_in, form_stored}
+use Rattle.puffin_frames.proofs.FormsOfAll.{Fits, sorted_in, form_stored}
 
-module _ {A : Type 0} (es : List (ThreadInfo × Arc StreamInfo A)) where
+module _ {A : Type 0} (shared : List (ThreadInfo × Arc StreamInfo A)) where
   -- what has a layout in some packets has one in those that store it
-  pub stored_plainly : (packed : Form) → AreStreams packed (pairs_of es) → AreStreams (form_of_all (entries (shared_streams es))) (entries (shared_streams es))
+  pub stored_plainly : (packed : Form) →
+      AreStreams packed (pairs_of shared) →
+      AreStreams (form_of_all (entries (shared_streams shared))) (entries (shared_streams shared))
   stored_plainly packed fit =
-      let listed = entries-listed es (sorted_in packed (pairs_of es) fit.1) in
-      subst (λ (xs : List (ThreadKey × StreamFacts)). AreStreams (form_of_all xs) xs) (sym listed) (subst (λ (f : Form). AreStreams f (pairs_of es)) (form_stored packed (pairs_of es) fit) fit)
+      let listed = entries-listed shared (sorted_in packed (pairs_of shared) fit.1) in
+      subst (λ (xs : List (ThreadKey × StreamFacts)). AreStreams (form_of_all xs) xs) (sym listed)
+      (subst (λ (f : Form). AreStreams f (pairs_of shared)) (form_stored packed (pairs_of shared) fit) fit)
 
   -- streams in order, whose threads and counts fit
-  pub all_laid_out : IsStrictlySortedBy thread_cmp (keys_of es) → length (pairs_of es) < 2 ^ 64 → AllByRecursion (λ (e : ThreadKey × StreamFacts). IsThreadKey e.0 × AreCounts e.1) (pairs_of es) → HaveLayout (shared_streams es)
-  all_laid_out sorted short fit = subst (λ (xs : List (ThreadKey × StreamFacts)). AreItems (λ (e : ThreadKey × StreamFacts). IsThreadKey e.0 × AreCounts e.1) xs) (sym (entries-listed es (listed-sorted es sorted))) (short, fit)
+  pub all_laid_out : IsStrictlySortedBy thread_cmp (keys_of shared) → length (pairs_of shared) < 2 ^ 64 →
+      AllByRecursion Fits (pairs_of shared) →
+      HaveLayout (shared_streams shared)
+  all_laid_out sorted short fit =
+      subst (λ (xs : List (ThreadKey × StreamFacts)).
+      AreItems Fits xs)
+      (sym (entries-listed shared (listed-sorted shared sorted))) (short, fit)
 
 -- ---- frames
 
-held_so : (h : Held) → IsHolding (held_as h)
-held_so (Own u) = u.read_again
-held_so (Shared u) = (arc_value u).read_again
-held_so (Packed p) = tt
-held_so (Both b) = b.same
+-- each way of holding streams keeps that they are read again
+held_so : (held : Held) → IsHolding (held_as held)
+held_so (Own frame) = frame.read_again
+held_so (Shared frame) = (arc_value frame).read_again
+held_so (Packed packing) = tt
+held_so (Both both) = both.same
 
 pub frame_so : (frame : FrameData) → IsHolding (holding_of frame)
 frame_so frame = held_so frame.held

@@ -8,6 +8,7 @@ mod Writing
 mod OlderPackets
 mod PartsTaken
 mod PacketsTaken
+mod FramesTaken
 mod Packings
 mod Joining
 mod Sharing

@@ -26,72 +26,131 @@ use Rattle.puffin_frames.proofs.lemmas.Packets.{part_again, length_again, meta_a
 
 -- ---- without details
 
-streams_pfd3 : (p : PacketFields) (rest : List ℕ) → IsPacked p → streams_part_at Pfd3 (little_bytes 4 (length p.streams) ++ (to_byte p.kind ∷ (p.streams ++ rest))) ≡ Ok ((p.kind, p.streams), rest)
-streams_pfd3 p rest h =
-    rw (length_again (length p.streams) (to_byte p.kind ∷ (p.streams ++ rest)) h.short, part_again 1 (to_byte p.kind ∷ []) (p.streams ++ rest) refl, from_byte-reads_back p.kind, part_again (length p.streams) p.streams rest refl) refl
+streams_pfd3 : (fields : PacketFields) (rest : List ℕ) →
+    IsPacked fields →
+    streams_part_at Pfd3 (little_bytes 4 (length fields.streams) ++ (to_byte fields.kind ∷ (fields.streams ++ rest)))
+    ≡ Ok ((fields.kind, fields.streams), rest)
+streams_pfd3 fields rest fits =
+    rw (
+      length_again (length fields.streams) (to_byte fields.kind ∷ (fields.streams ++ rest)) fits.short,
+      part_again 1 (to_byte fields.kind ∷ []) (fields.streams ++ rest) refl,
+      from_byte-reads_back fields.kind,
+      part_again (length fields.streams) fields.streams rest refl,
+    ) refl
 
 -- what older packets can't say otherwise
-without : (p : PacketFields) → p.form ≡ Short → p.details ≡ [] → record p { form = Short; details = [] } ≡ p
-without p short none = ap (λ (form : Form). record p { form = form; details = [] }) (sym short) ∙ ap (λ (ds : List Details). record p { details = ds }) (sym none)
+without : (fields : PacketFields) →
+    fields.form ≡ Short → fields.details ≡ [] →
+    record fields { form = Short; details = [] } ≡ fields
+without fields short none =
+    ap (λ (form : Form). record fields { form = form; details = [] }) (sym short)
+    ∙ ap (λ (ds : List Details). record fields { details = ds }) (sym none)
 
-parts_pfd3 : (p : PacketFields) (rest : List ℕ) → IsPacked p → p.form ≡ Short → p.details ≡ []
-    → packet_at Pfd3 (counted_part (meta_layout p.meta) ++ (little_bytes 4 (length p.streams) ++ (to_byte p.kind ∷ (p.streams ++ rest)))) ≡ Ok (p, rest)
-parts_pfd3 p rest h short none =
-    rw (meta_again p (little_bytes 4 (length p.streams) ++ (to_byte p.kind ∷ (p.streams ++ rest))) h, streams_pfd3 p rest h) (ap (λ (s : PacketFields). Ok (s, rest)) (without p short none))
+parts_pfd3 : (fields : PacketFields) (rest : List ℕ) →
+    IsPacked fields → fields.form ≡ Short → fields.details ≡ [] →
+    packet_at Pfd3 (counted_part (meta_layout fields.meta)
+    ++ (little_bytes 4 (length fields.streams) ++ (to_byte fields.kind ∷ (fields.streams ++ rest)))) ≡ Ok (fields, rest)
+parts_pfd3 fields rest fits short none =
+    rw (
+      meta_again fields (little_bytes 4 (length fields.streams) ++ (to_byte fields.kind ∷ (fields.streams ++ rest))) fits,
+      streams_pfd3 fields rest fits,
+    ) (ap (λ (read : PacketFields). Ok (read, rest)) (without fields short none))
 
-pub row_pfd3 : (m l s rest : List ℕ) (kind : ℕ) → ((80 ∷ 70 ∷ 68 ∷ 51 ∷ []) ++ (m ++ (l ++ (kind ∷ s)))) ++ rest ≡ 80 ∷ 70 ∷ 68 ∷ 51 ∷ (m ++ (l ++ (kind ∷ (s ++ rest))))
-row_pfd3 m l s rest kind = simp append_assoc
+pub row_pfd3 : (meta size streams rest : List ℕ) (kind : ℕ) →
+    ((80 ∷ 70 ∷ 68 ∷ 51 ∷ []) ++ (meta ++ (size ++ (kind ∷ streams)))) ++ rest
+    ≡ 80 ∷ 70 ∷ 68 ∷ 51 ∷ (meta ++ (size ++ (kind ∷ (streams ++ rest))))
+row_pfd3 meta size streams rest kind = simp append_assoc
 
-pub without_details_again : (p : PacketFields) (rest : List ℕ) → IsPacked p → p.form ≡ Short → p.details ≡ [] → next_at (packet_without_details p ++ rest) ≡ Ok (Some (packed p), rest)
-without_details_again p rest h short none =
-    let m = counted_part (meta_layout p.meta) in
-    let l = little_bytes 4 (length p.streams) in
-    ap next_at (row_pfd3 m l p.streams rest (to_byte p.kind)) ∙ (after_letters Pfd3 (m ++ (l ++ (to_byte p.kind ∷ (p.streams ++ rest)))) ∙ ap (as_stored packed) (parts_pfd3 p rest h short none))
+pub without_details_again : (fields : PacketFields) (rest : List ℕ) →
+    IsPacked fields → fields.form ≡ Short → fields.details ≡ [] →
+    next_at (packet_without_details fields ++ rest) ≡ Ok (Some (packed fields), rest)
+without_details_again fields rest fits short none =
+    let meta = counted_part (meta_layout fields.meta) in
+    let size = little_bytes 4 (length fields.streams) in
+    ap next_at (row_pfd3 meta size fields.streams rest (to_byte fields.kind))
+    ∙ (after_letters Pfd3 (meta ++ (size ++ (to_byte fields.kind ∷ (fields.streams ++ rest))))
+    ∙ ap (as_stored packed) (parts_pfd3 fields rest fits short none))
 
 -- ---- without a kind
 
-streams_pfd2 : (p : PacketFields) (rest : List ℕ) → IsPacked p → streams_part_at Pfd2 (little_bytes 4 (length p.streams) ++ (p.streams ++ rest)) ≡ Ok ((Zstd, p.streams), rest)
-streams_pfd2 p rest h =
-    rw (length_again (length p.streams) (p.streams ++ rest) h.short, part_again (length p.streams) p.streams rest refl) refl
+streams_pfd2 : (fields : PacketFields) (rest : List ℕ) →
+    IsPacked fields →
+    streams_part_at Pfd2 (little_bytes 4 (length fields.streams) ++ (fields.streams ++ rest))
+    ≡ Ok ((Zstd, fields.streams), rest)
+streams_pfd2 fields rest fits =
+    rw (
+      length_again (length fields.streams) (fields.streams ++ rest) fits.short,
+      part_again (length fields.streams) fields.streams rest refl,
+    ) refl
 
-older : (p : PacketFields) → p.form ≡ Short → p.kind ≡ Zstd → p.details ≡ [] → record p { form = Short; kind = Zstd; details = [] } ≡ p
-older p short zstd none = ap (λ (k : Kind). record p { form = Short; kind = k; details = [] }) (sym zstd) ∙ without p short none
+older : (fields : PacketFields) →
+    fields.form ≡ Short → fields.kind ≡ Zstd → fields.details ≡ [] →
+    record fields { form = Short; kind = Zstd; details = [] } ≡ fields
+older fields short zstd none =
+    ap (λ (k : Kind). record fields { form = Short; kind = k; details = [] }) (sym zstd) ∙ without fields short none
 
-parts_pfd2 : (p : PacketFields) (rest : List ℕ) → IsPacked p → p.form ≡ Short → p.kind ≡ Zstd → p.details ≡ []
-    → packet_at Pfd2 (counted_part (meta_layout p.meta) ++ (little_bytes 4 (length p.streams) ++ (p.streams ++ rest))) ≡ Ok (p, rest)
-parts_pfd2 p rest h short zstd none =
-    rw (meta_again p (little_bytes 4 (length p.streams) ++ (p.streams ++ rest)) h, streams_pfd2 p rest h) (ap (λ (s : PacketFields). Ok (s, rest)) (older p short zstd none))
+parts_pfd2 : (fields : PacketFields) (rest : List ℕ) →
+    IsPacked fields → fields.form ≡ Short → fields.kind ≡ Zstd → fields.details ≡ [] →
+    packet_at Pfd2 (counted_part (meta_layout fields.meta)
+    ++ (little_bytes 4 (length fields.streams) ++ (fields.streams ++ rest))) ≡ Ok (fields, rest)
+parts_pfd2 fields rest fits short zstd none =
+    rw (
+      meta_again fields (little_bytes 4 (length fields.streams) ++ (fields.streams ++ rest)) fits,
+      streams_pfd2 fields rest fits,
+    )
+    (ap (λ (read : PacketFields). Ok (read, rest)) (older fields short zstd none))
 
-pub row_pfd2 : (m l s rest : List ℕ) → ((80 ∷ 70 ∷ 68 ∷ 50 ∷ []) ++ (m ++ (l ++ s))) ++ rest ≡ 80 ∷ 70 ∷ 68 ∷ 50 ∷ (m ++ (l ++ (s ++ rest)))
-row_pfd2 m l s rest = simp append_assoc
+pub row_pfd2 : (meta size streams rest : List ℕ) →
+    ((80 ∷ 70 ∷ 68 ∷ 50 ∷ []) ++ (meta ++ (size ++ streams))) ++ rest
+    ≡ 80 ∷ 70 ∷ 68 ∷ 50 ∷ (meta ++ (size ++ (streams ++ rest)))
+row_pfd2 meta size streams rest = simp append_assoc
 
-pub without_kind_again : (p : PacketFields) (rest : List ℕ) → IsPacked p → p.form ≡ Short → p.kind ≡ Zstd → p.details ≡ [] → next_at (packet_without_kind p ++ rest) ≡ Ok (Some (packed p), rest)
-without_kind_again p rest h short zstd none =
-    let m = counted_part (meta_layout p.meta) in
-    let l = little_bytes 4 (length p.streams) in
-    ap next_at (row_pfd2 m l p.streams rest) ∙ (after_letters Pfd2 (m ++ (l ++ (p.streams ++ rest))) ∙ ap (as_stored packed) (parts_pfd2 p rest h short zstd none))
+pub without_kind_again : (fields : PacketFields) (rest : List ℕ) →
+    IsPacked fields → fields.form ≡ Short → fields.kind ≡ Zstd → fields.details ≡ [] →
+    next_at (packet_without_kind fields ++ rest) ≡ Ok (Some (packed fields), rest)
+without_kind_again fields rest fits short zstd none =
+    let meta = counted_part (meta_layout fields.meta) in
+    let size = little_bytes 4 (length fields.streams) in
+    ap next_at (row_pfd2 meta size fields.streams rest)
+    ∙ (after_letters Pfd2 (meta ++ (size ++ (fields.streams ++ rest)))
+    ∙ ap (as_stored packed) (parts_pfd2 fields rest fits short zstd none))
 
 -- ---- legacy frames
 
-legacy_long : (l : Legacy) → 0 < length (legacy_layout l)
-legacy_long l =
-    let index = number l.meta.frame_index in
-    let rest = streams_layout Short l.streams ++ (signed l.meta.range_ns.0 ++ (signed l.meta.range_ns.1 ++ (number l.meta.num_bytes ++ number l.meta.num_scopes))) in
-    omega (arith, length-append index rest, number_long l.meta.frame_index)
+legacy_long : (frame : Legacy) → 0 < length (legacy_layout frame)
+legacy_long frame =
+    let index = number frame.meta.frame_index in
+    let rest =
+    streams_layout Short frame.streams ++ (signed frame.meta.range_ns.0
+    ++ (signed frame.meta.range_ns.1 ++ (number frame.meta.num_bytes ++ number frame.meta.num_scopes))) in
+    omega (arith, length-append index rest, number_long frame.meta.frame_index)
 
-legacy_part_again : (l : Legacy) (rest : List ℕ) → IsLegacyFrame l → legacy_part_at (length (legacy_layout l)) (legacy_layout l ++ rest) ≡ Ok (l, rest)
-legacy_part_again l rest h =
-    rw (part_again (length (legacy_layout l)) (legacy_layout l) rest refl, whole_again IsLegacy legacy_layout legacy_at legacy_reader l h.layout, h.range) refl
+legacy_part_again : (frame : Legacy) (rest : List ℕ) →
+    IsLegacyFrame frame →
+    legacy_part_at (length (legacy_layout frame)) (legacy_layout frame ++ rest) ≡ Ok (frame, rest)
+legacy_part_again frame rest fits =
+    rw (
+      part_again (length (legacy_layout frame)) (legacy_layout frame) rest refl,
+      whole_again IsLegacy legacy_layout legacy_at legacy_reader frame fits.layout,
+      fits.range,
+    ) refl
 
 -- the letters aren't those of a packet, so they are a length
-by_length : (header xs : List ℕ) (n : ℕ) → is_packet header ≡ false → little_number 4 header ≡ n → stored_after header xs ≡ as_stored legacy (legacy_part_at n xs)
-by_length header xs n other size = rw (other, size) refl
+by_length : (header after : List ℕ) (number : ℕ) →
+    is_packet header ≡ false → little_number 4 header ≡ number →
+    stored_after header after ≡ as_stored legacy (legacy_part_at number after)
+by_length header after number no_packet size = rw (no_packet, size) refl
 
-pub legacy_again : (l : Legacy) (rest : List ℕ) → IsLegacyFrame l → next_at (legacy_bytes l ++ rest) ≡ Ok (Some (legacy l), rest)
-legacy_again l rest h =
-    let n = length (legacy_layout l) in
+pub legacy_again : (frame : Legacy) (rest : List ℕ) →
+    IsLegacyFrame frame →
+    next_at (legacy_bytes frame ++ rest) ≡ Ok (Some (legacy frame), rest)
+legacy_again frame rest fits =
+    let n = length (legacy_layout frame) in
     let header = little_bytes 4 n in
-    let xs = legacy_layout l ++ rest in
-    let size : little_number 4 header ≡ n = little_number-reads_back 4 n [] (omega (arith, h.short)) in
-    let more : is_end header ≡ false = not_end header refl (λ zero_. absurd (omega (arith, size, zero_, legacy_long l))) in
-    ap next_at (append_assoc header (legacy_layout l) rest) ∙ (after_header header xs refl more ∙ (by_length header xs n h.no_packet size ∙ ap (as_stored legacy) (legacy_part_again l rest h)))
+    let after = legacy_layout frame ++ rest in
+    let size : little_number 4 header ≡ n = little_number-reads_back 4 n [] (omega (arith, fits.short)) in
+    let more : is_end header ≡ false =
+    not_end header refl (λ is_zero. absurd (omega (arith, size, is_zero, legacy_long frame))) in
+    ap next_at (append_assoc header (legacy_layout frame) rest)
+    ∙ (after_header header after refl more
+    ∙ (by_length header after n fits.no_packet size ∙ ap (as_stored legacy) (legacy_part_again frame rest fits)))

@@ -35,131 +35,199 @@ use Rattle.puffin_frames.proofs.PartsTaken.{same_ok}
 use Rattle.puffin_frames.proofs.FormsOfAll.{sorted_in, form_stored}
 
 -- what a frame says goes by its meta and its packing
-pub fields_same : (m n : FrameMeta) (p q : Packing) (ds : List Details) → m ≡ n → p ≡ q → fields_from m p ds ≡ fields_from n q ds
-fields_same m n p q ds metas packings = ap (λ x. fields_from x p ds) metas ∙ ap (λ x. fields_from n x ds) packings
+pub fields_same : (meta other_meta : FrameMeta) (packing other_packing : Packing) (details : List Details) →
+    meta ≡ other_meta → packing ≡ other_packing →
+    fields_from meta packing details ≡ fields_from other_meta other_packing details
+fields_same meta other_meta packing other_packing details metas packings =
+    ap (λ changed. fields_from changed packing details) metas
+    ∙ ap (λ changed. fields_from other_meta changed details) packings
 
 -- a frame whose way to be held is replaced by an equal one is the same frame
-pub with_held : (frame : FrameData) (h : Held) (ordered : IsOrdered frame.meta.range_ns) (fits : DurationFits frame.meta.range_ns) (same : HasMeta h frame.meta) → frame.held ≡ h → record frame { held = h; ordered = ordered; duration_fits = fits; same_meta = same } ≡ frame
-with_held frame h ordered fits same e =
+pub with_held : (frame : FrameData) (other : Held) (ordered : IsOrdered frame.meta.range_ns)
+    (fits : DurationFits frame.meta.range_ns) (same : HasMeta other frame.meta) →
+    frame.held ≡ other →
+    record frame { held = other; ordered = ordered; duration_fits = fits; same_meta = same } ≡ frame
+with_held frame other ordered fits same is =
     let one : IsProp (DurationFits frame.meta.range_ns) = Prim.hlevel props in
     let first : IsProp (IsOrdered frame.meta.range_ns) = Prim.hlevel props in
-    subst (λ (x : Held). (s : HasMeta x frame.meta) → record frame { held = x; ordered = ordered; duration_fits = fits; same_meta = s } ≡ frame) e
-    (λ s. λ i. record frame { ordered = first ordered frame.ordered i; duration_fits = one fits frame.duration_fits i; same_meta = HasMeta-prop frame.held frame.meta s frame.same_meta i })
+    subst (λ (way : Held). (has_meta : HasMeta way frame.meta) →
+    record frame { held = way; ordered = ordered; duration_fits = fits; same_meta = has_meta } ≡ frame) is
+    (λ has_meta. λ i. record frame {
+      ordered = first ordered frame.ordered i;
+      duration_fits =
+          one fits frame.duration_fits i;
+      same_meta = HasMeta-prop frame.held frame.meta has_meta frame.same_meta i;
+    })
     same
 
-packing-keeps : (p : Option Packing) (u : Option Streams) → Agree p u → streams_in (packing p u) ≡ either_content p u
-packing-keeps None None h = absurd h
-packing-keeps (Some p) None h = refl
-packing-keeps None (Some m) h = h
-packing-keeps (Some p) (Some m) h = h
+-- a packing has the streams that the frame has, since the two ways of holding them agree
+packing-keeps : (packed : Option Packing) (streams : Option Streams) →
+    Agree packed streams →
+    streams_in (packing packed streams) ≡ either_content packed streams
+packing-keeps None None agree = absurd agree
+packing-keeps (Some given) None agree = refl
+packing-keeps None (Some there) agree = agree
+packing-keeps (Some given) (Some there) agree = agree
 
-pub pack-keeps : (h : Holding) → IsHolding h → holding_streams (as_packed h) ≡ holding_streams h
-pack-keeps h agree = packing-keeps h.packed h.unpacked agree
+pub pack-keeps : (holding : Holding) → IsHolding holding → holding_streams (as_packed holding) ≡ holding_streams holding
+pack-keeps holding agree = packing-keeps holding.packed holding.unpacked agree
 
-unpacking-keeps : (p : Option Packing) (u : Option Streams) → either_content p (either_content p u) ≡ either_content p u
-unpacking-keeps p (Some m) = refl
+-- streams that were unpacked are the frame's from then on
+unpacking-keeps : (packing : Option Packing) (streams : Option Streams) →
+    either_content packing (either_content packing streams) ≡ either_content packing streams
+unpacking-keeps packing (Some there) = refl
 unpacking-keeps None None = refl
-unpacking-keeps (Some p) None = kept (Some p) (streams_in p) refl
+unpacking-keeps (Some given) None = kept (Some given) (streams_in given) refl
   where
-    kept : (q : Option Packing) (o : Option Streams) → if_packed q ≡ o → either_content q o ≡ o
-    kept q None e = e
-    kept q (Some m) e = refl
+    kept : (packed : Option Packing) (found : Option Streams) → if_packed packed ≡ found → either_content packed found ≡ found
+    kept packed None same = same
+    kept packed (Some there) same = refl
 
-pub unpack-keeps : (h : Holding) → holding_streams (as_unpacked h) ≡ holding_streams h
-unpack-keeps h = unpacking-keeps h.packed h.unpacked
+pub unpack-keeps : (holding : Holding) → holding_streams (as_unpacked holding) ≡ holding_streams holding
+unpack-keeps holding = unpacking-keeps holding.packed holding.unpacked
 
 -- ---- packed bytes and the streams whose layout they are
 
-streams_from : (o : Option (List (ThreadKey × StreamFacts))) (streams : Streams) → option_map from_sorted o ≡ Some streams → (es : List (ThreadKey × StreamFacts)) × (o ≡ Some es) × (from_sorted es ≡ streams)
-streams_from None streams e = absurd cc
-streams_from (Some es) streams e = (es, refl, same_Some (from_sorted es) streams e)
+streams_from : (decoded : Option (List (ThreadKey × StreamFacts))) (streams : Streams) →
+    option_map from_sorted decoded ≡ Some streams →
+    (pairs : List (ThreadKey × StreamFacts)) × (decoded ≡ Some pairs) × (from_sorted pairs ≡ streams)
+streams_from None streams same = absurd cc
+streams_from (Some pairs) streams same = (pairs, refl, same_Some (from_sorted pairs) streams same)
 
+-- only one kind is uncompressed
 uncompressed : (kind : Kind) → is_uncompressed kind ≡ true → kind ≡ Uncompressed
 uncompressed Uncompressed e = refl
 uncompressed Lz4 e = absurd cc
 uncompressed Zstd e = absurd cc
 
-streams_taken : (p : Packing) (streams : Streams) → IsBytes p.bytes → streams_in p ≡ Some streams → HoldsStreams p streams
-streams_taken p streams is e =
-    let g = cond_option (is_uncompressed p.kind) (option_map from_sorted (whole (streams_at p.form) p.bytes)) streams e in
-    let o = streams_from (whole (streams_at p.form) p.bytes) streams g.1 in
-    let w = whole_taken (AreStreams p.form) (streams_layout p.form) (streams_at p.form) (streams_reader p.form) p.bytes o.0 is o.1 in
-    let back : entries streams ≡ o.0 = ap entries (sym o.2) ∙ entries-from_sorted key_cmp o.0 (holds _ (sorted_in p.form o.0 w.0.1)) in
-    (uncompressed p.kind g.0, subst (λ (es : List (ThreadKey × StreamFacts)). AreStreams p.form es) (sym back) w.0, w.1 ∙ ap (streams_layout p.form) (sym back))
+-- what is read from packed bytes are the streams whose layout they are
+streams_taken : (packing : Packing) (streams : Streams) →
+    IsBytes packing.bytes → streams_in packing ≡ Some streams →
+    HoldsStreams packing streams
+streams_taken packing streams are_bytes read =
+    let (plain, decoded) =
+    cond_option (is_uncompressed packing.kind)
+    (option_map from_sorted (whole (streams_at packing.form) packing.bytes)) streams read in
+    let (pairs, whole_bytes, made) = streams_from (whole (streams_at packing.form) packing.bytes) streams decoded in
+    let (fit, layout) =
+    whole_taken (AreStreams packing.form) (streams_layout packing.form) (streams_at packing.form)
+    (streams_reader packing.form) packing.bytes pairs are_bytes whole_bytes in
+    let back : entries streams ≡ pairs =
+    ap entries (sym made) ∙ entries-from_sorted key_cmp pairs (holds _ (sorted_in packing.form pairs fit.1)) in (
+      uncompressed packing.kind plain,
+      subst (λ (pairs : List (ThreadKey × StreamFacts)). AreStreams packing.form pairs) (sym back) fit,
+      layout ∙ ap (streams_layout packing.form) (sym back),
+    )
   where
-    cond_option : (b : Bool) (o : Option Streams) (streams : Streams) → cond b o None ≡ Some streams → (b ≡ true) × (o ≡ Some streams)
+    cond_option : (b : Bool) (o : Option Streams) (streams : Streams) →
+        cond b o None ≡ Some streams →
+        (b ≡ true) × (o ≡ Some streams)
     cond_option true o streams e = (refl, e)
     cond_option false o streams e = absurd cc
 
-same_packing : (p : Packing) (streams : Streams) → HoldsStreams p streams → p ≡ plainly_packed streams
-same_packing p streams h =
-    let form : p.form ≡ form_of_all (entries streams) = form_stored p.form (entries streams) h.1 in
-    ap (λ (k : Kind). record p { kind = k }) h.0
-    ∙ ap (λ (bytes : List ℕ). record { form = p.form; kind = Uncompressed; bytes = bytes }) h.2
+-- packed bytes that hold streams are what packing them gives
+same_packing : (packing : Packing) (streams : Streams) →
+    HoldsStreams packing streams →
+    packing ≡ plainly_packed streams
+same_packing packing streams (plain, fit, layout) =
+    let form : packing.form ≡ form_of_all (entries streams) = form_stored packing.form (entries streams) fit in
+    ap (λ (kind : Kind). record packing { kind = kind }) plain
+    ∙ ap (λ (bytes : List ℕ). record { form = packing.form; kind = Uncompressed; bytes = bytes }) layout
     ∙ ap (λ (f : Form). record { form = f; kind = Uncompressed; bytes = streams_layout f (entries streams) }) form
 
-streams_given : (p : Packing) (streams : Streams) → HoldsStreams p streams → streams_in p ≡ Some streams
-streams_given p streams h =
-    let fit = subst (λ (f : Form). AreStreams f (entries streams)) (form_stored p.form (entries streams) h.1) h.1 in
-    ap streams_in (same_packing p streams h) ∙ packed_again streams fit
+streams_given : (packing : Packing) (streams : Streams) → HoldsStreams packing streams → streams_in packing ≡ Some streams
+streams_given packing streams holds_them =
+    let fit =
+    subst (λ (f : Form). AreStreams f (entries streams))
+    (form_stored packing.form (entries streams) holds_them.1) holds_them.1 in
+    ap streams_in (same_packing packing streams holds_them) ∙ packed_again streams fit
 
-pub holds_streams : (p : Packing) (streams : Streams) → IsBytes p.bytes → (streams_in p ≡ Some streams) ↔ HoldsStreams p streams
-holds_streams p streams is = (streams_taken p streams is, streams_given p streams)
+pub holds_streams : (packing : Packing) (streams : Streams) →
+    IsBytes packing.bytes →
+    (streams_in packing ≡ Some streams) ↔ HoldsStreams packing streams
+holds_streams packing streams are_bytes = (streams_taken packing streams are_bytes, streams_given packing streams)
 
 -- ---- what unpacking gives
 
-unpacked_so : (b : Bool) (kind : ℕ) (o : Option Streams) (streams : Streams) → cond b (or_bad o) (Err (file.Compressed kind)) ≡ Ok streams → cond b o None ≡ Some streams
-unpacked_so true kind None streams e = absurd cc
-unpacked_so true kind (Some x) streams e = ap Some (same_ok x streams e)
-unpacked_so false kind o streams e = absurd cc
+-- what unpacking gives is what is in the packed bytes
+unpacked_so : (b : Bool) (kind : ℕ) (decoded : Option Streams) (streams : Streams) →
+    cond b (or_bad decoded) (Err (file.Compressed kind)) ≡ Ok streams →
+    cond b decoded None ≡ Some streams
+unpacked_so true kind None streams same = absurd cc
+unpacked_so true kind (Some found) streams same = ap Some (same_ok found streams same)
+unpacked_so false kind decoded streams same = absurd cc
 
 -- what was unpacked is read again, packed as it is
-pub unpacked-again : (p : Packing) (streams : Streams) → IsBytes p.bytes → unpacking p ≡ Ok streams → AreReadAgain streams
-unpacked-again p streams is e =
-    let taken = unpacked_so (is_uncompressed p.kind) (to_byte p.kind) (option_map from_sorted (whole (streams_at p.form) p.bytes)) streams e in
-    ap streams_in (sym (same_packing p streams (streams_taken p streams is taken))) ∙ taken
+pub unpacked-again : (packing : Packing) (streams : Streams) →
+    IsBytes packing.bytes → unpacking packing ≡ Ok streams →
+    AreReadAgain streams
+unpacked-again packing streams are_bytes unpacked =
+    let taken =
+    unpacked_so (is_uncompressed packing.kind) (to_byte packing.kind)
+    (option_map from_sorted (whole (streams_at packing.form) packing.bytes)) streams unpacked in
+    ap streams_in (sym (same_packing packing streams (streams_taken packing streams are_bytes taken))) ∙ taken
 
-bad_so : (b : Bool) (kind : ℕ) (o : Option Streams) (streams : Streams) → cond b (or_bad o) (Err (file.Compressed kind)) ≡ Err file.BadStreams → cond b o None ≡ Some streams → ⊥
-bad_so true kind None streams e some = absurd cc
-bad_so true kind (Some x) streams e some = absurd cc
-bad_so false kind o streams e some = absurd cc
+-- and bytes that are refused hold no streams
+bad_so : (b : Bool) (kind : ℕ) (decoded : Option Streams) (streams : Streams) →
+    cond b (or_bad decoded) (Err (file.Compressed kind)) ≡ Err file.BadStreams → cond b decoded None ≡ Some streams →
+    ⊥
+bad_so true kind None streams bad some = absurd cc
+bad_so true kind (Some found) streams bad some = absurd cc
+bad_so false kind decoded streams bad some = absurd cc
 
-one_answer : (b : Bool) (o : Option Streams) (cause : FileError) (streams : Streams) → cond b o None ≡ Some streams → Ok streams ≡ cond b (or_bad o) (Err cause)
-one_answer true o cause streams e = ap or_bad (sym e)
-one_answer false o cause streams e = absurd cc
+-- streams that are there are what unpacking gives
+one_answer : (b : Bool) (decoded : Option Streams) (cause : FileError) (streams : Streams) →
+    cond b decoded None ≡ Some streams →
+    Ok streams ≡ cond b (or_bad decoded) (Err cause)
+one_answer true decoded cause streams same = ap or_bad (sym same)
+one_answer false decoded cause streams same = absurd cc
 
 -- a frame that is held unpacked has the streams in its packet
-unpacks : (p : Option Packing) (u : Option Streams) → Agree p u → unpacked_of p u ≡ unpacking (packing p u)
+unpacks : (packed : Option Packing) (streams : Option Streams) →
+    Agree packed streams →
+    unpacked_of packed streams ≡ unpacking (packing packed streams)
 unpacks None None agree = absurd agree
-unpacks (Some p) None agree = refl
+unpacks (Some given) None agree = refl
 unpacks None (Some streams) agree = ap or_bad (sym agree)
-unpacks (Some p) (Some streams) agree =
-    one_answer (is_uncompressed p.kind) (option_map from_sorted (whole (streams_at p.form) p.bytes)) (file.Compressed (to_byte p.kind)) streams agree
+unpacks (Some given) (Some streams) agree =
+    one_answer (is_uncompressed given.kind) (option_map from_sorted (whole (streams_at given.form) given.bytes))
+    (file.Compressed (to_byte given.kind)) streams agree
 
-pub unpacks_packing : (h : Holding) → IsHolding h → unpacked_from h ≡ unpacking (packing_of h)
-unpacks_packing h agree = unpacks h.packed h.unpacked agree
+pub unpacks_packing : (holding : Holding) → IsHolding holding → unpacked_from holding ≡ unpacking (packing_of holding)
+unpacks_packing holding agree = unpacks holding.packed holding.unpacked agree
 
 -- the streams that are handed out are those whose layout the packed bytes are
-layout_of : (h : Held) (streams : Streams) → unpacked_from (held_as h) ≡ Ok streams → IfSome (held_as h).packed (λ p. HoldsStreams p streams)
-layout_of (Own u) streams e = tt
-layout_of (Shared u) streams e = tt
-layout_of (Packed p) streams e =
-    let o : Option Streams = option_map from_sorted (whole (streams_at p.form) p.bytes.items) in
-    streams_taken (packed_as p) streams p.are_bytes (unpacked_so (is_uncompressed p.kind) (to_byte p.kind) o streams e)
-layout_of (Both b) streams e =
-    streams_taken (packed_as b.packed) streams b.packed.are_bytes (b.same ∙ ap Some (same_ok _ streams e))
+layout_of : (held : Held) (streams : Streams) →
+    unpacked_from (held_as held) ≡ Ok streams →
+    IfSome (held_as held).packed (λ packing. HoldsStreams packing streams)
+layout_of (Own frame) streams unpacked = tt
+layout_of (Shared frame) streams unpacked = tt
+layout_of (Packed packing) streams unpacked =
+    let decoded : Option Streams = option_map from_sorted (whole (streams_at packing.form) packing.bytes.items) in
+    streams_taken (packed_as packing) streams packing.are_bytes
+    (unpacked_so (is_uncompressed packing.kind) (to_byte packing.kind) decoded streams unpacked)
+layout_of (Both both) streams unpacked =
+    streams_taken (packed_as both.packed) streams both.packed.are_bytes (both.same ∙ ap Some (same_ok _ streams unpacked))
 
-pub unpacked_layout : {X : Type 0} (view : X → Streams) (h : Held) (r : Result X FileError) → DecidedInMemory view r (unpacked_from (held_as h)) → IfOk r (λ x. IfSome (held_as h).packed (λ p. HoldsStreams p (view x)))
-unpacked_layout view h (Ok x) d = layout_of h (view x) d
-unpacked_layout view h (Err e) d = tt
+pub unpacked_layout : {X : Type 0} (view : X → Streams) (held : Held) (result : Result X FileError) →
+    DecidedInMemory view result (unpacked_from (held_as held)) →
+    IfOk result (λ x. IfSome (held_as held).packed (λ packing. HoldsStreams packing (view x)))
+unpacked_layout view held (Ok x) decided = layout_of held (view x) decided
+unpacked_layout view held (Err cause) decided = tt
 
-bad_of : (h : Held) → unpacked_from (held_as h) ≡ Err file.BadStreams → IfSome (held_as h).packed (λ p. (streams : Streams) → HoldsStreams p streams → ⊥)
-bad_of (Own u) e = tt
-bad_of (Shared u) e = tt
-bad_of (Packed p) e = λ streams held.
-    let o : Option Streams = option_map from_sorted (whole (streams_at p.form) p.bytes.items) in
-    bad_so (is_uncompressed p.kind) (to_byte p.kind) o streams e (streams_given (packed_as p) streams held)
-bad_of (Both b) e = absurd cc
+bad_of : (held : Held) →
+    unpacked_from (held_as held) ≡ Err file.BadStreams →
+    IfSome (held_as held).packed (λ packing. (streams : Streams) → HoldsStreams packing streams → ⊥)
+bad_of (Own frame) bad = tt
+bad_of (Shared frame) bad = tt
+bad_of (Packed packing) bad = λ streams held.
+    let decoded : Option Streams = option_map from_sorted (whole (streams_at packing.form) packing.bytes.items) in
+    bad_so (is_uncompressed packing.kind) (to_byte packing.kind) decoded streams bad
+    (streams_given (packed_as packing) streams held)
+bad_of (Both both) bad = absurd cc
 
-pub unpacked_no_layout : {X : Type 0} (view : X → Streams) (h : Held) (r : Result X FileError) → DecidedInMemory view r (unpacked_from (held_as h)) → r ≡ Err file.BadStreams → IfSome (held_as h).packed (λ p. (streams : Streams) → HoldsStreams p streams → ⊥)
-unpacked_no_layout view h r d e = bad_of h (subst (λ (x : Result _ FileError). DecidedInMemory view x (unpacked_from (held_as h))) e d)
+pub unpacked_no_layout : {X : Type 0} (view : X → Streams) (held : Held) (result : Result X FileError) →
+    DecidedInMemory view result (unpacked_from (held_as held)) → result ≡ Err file.BadStreams →
+    IfSome (held_as held).packed (λ packing. (streams : Streams) → HoldsStreams packing streams → ⊥)
+unpacked_no_layout view held result decided bad =
+    bad_of held (subst (λ (x : Result _ FileError). DecidedInMemory view x (unpacked_from (held_as held))) bad decided)

@@ -27,15 +27,25 @@ use Rattle.puffin_threads.specs.Details.{Details, details_of, shared_details}
 use Rattle.puffin_threads.specs.Details.Collection.{ids_seen, by_ids}
 use Rattle.puffin_frames.proofs.Listed.{and-both, entries-sorted_list, no_entries}
 
+-- a prefix of a piece is one of it and another piece
 pub beginning_more : (old new : Option (List ℕ)) (a b : List ℕ) → WritesBeginning old new a → WritesBeginning old new (a ++ b)
-beginning_more old new a b h = (h.0, h.1 ++ b, ap (λ (t : List ℕ). t ++ b) h.2 ∙ append_assoc h.0 h.1 b, h.3)
+beginning_more old new a b (front, left, split, written) =
+    (front, left ++ b, ap (λ (t : List ℕ). t ++ b) split ∙ append_assoc front left b, written)
 
-pub beginning_after : (old mid new : Option (List ℕ)) (a b : List ℕ) → Appends old mid a → WritesBeginning mid new b → WritesBeginning old new (a ++ b)
-beginning_after old mid new a b first h = (a ++ h.0, h.1, ap (λ (t : List ℕ). a ++ t) h.2 ∙ sym (append_assoc a h.0 h.1), Appends-trans old mid new a h.0 first h.3)
+-- a piece and a prefix of the next are a prefix of both
+pub beginning_after : (old mid new : Option (List ℕ)) (a b : List ℕ) →
+    Appends old mid a → WritesBeginning mid new b →
+    WritesBeginning old new (a ++ b)
+beginning_after old mid new a b first (front, left, split, written) = (
+  a ++ front,
+  left,
+  ap (λ (t : List ℕ). a ++ t) split ∙ sym (append_assoc a front left),
+  Appends-trans old mid new a front first written,
+)
 
 pub begun_if : {X P Q : Type 0} (r : Result X FileError) → (P → Q) → OnErr r P → IfErr r (λ e. e ≡ file.Io → Q)
-begun_if (Ok x) f h = tt
-begun_if (Err e) f h = λ _. f h
+begun_if (Ok x) so failed = tt
+begun_if (Err cause) so failed = λ _. so failed
 
 -- ---- a meta part is short
 
@@ -43,6 +53,7 @@ short_if : (b : Bool) (x y : List ℕ) → length x ≤ 9 → length y ≤ 9 →
 short_if true x y p q = p
 short_if false x y p q = q
 
+-- a number takes at most 9 bytes
 pub number_short : (n : ℕ) → length (number n) ≤ 9
 unfolding number
 number_short n =
@@ -50,8 +61,10 @@ number_short n =
     let four : List ℕ = 252 ∷ little_bytes 4 n in
     let two : List ℕ = 251 ∷ little_bytes 2 n in
     short_if (nat_lt n 251) (n ∷ []) (cond (nat_lt n (2 ^ 16)) two (cond (nat_lt n (2 ^ 32)) four eight)) (omega arith)
-    (short_if (nat_lt n (2 ^ 16)) two (cond (nat_lt n (2 ^ 32)) four eight) (omega arith) (short_if (nat_lt n (2 ^ 32)) four eight (omega arith) (omega arith)))
+    (short_if (nat_lt n (2 ^ 16)) two (cond (nat_lt n (2 ^ 32)) four eight) (omega arith)
+    (short_if (nat_lt n (2 ^ 32)) four eight (omega arith) (omega arith)))
 
+-- and at least one
 pub number_long : (n : ℕ) → 0 < length (number n)
 unfolding number
 number_long n =
@@ -59,36 +72,60 @@ number_long n =
     let four : List ℕ = 252 ∷ little_bytes 4 n in
     let two : List ℕ = 251 ∷ little_bytes 2 n in
     long_if (nat_lt n 251) (n ∷ []) (cond (nat_lt n (2 ^ 16)) two (cond (nat_lt n (2 ^ 32)) four eight)) (omega arith)
-    (long_if (nat_lt n (2 ^ 16)) two (cond (nat_lt n (2 ^ 32)) four eight) (omega arith) (long_if (nat_lt n (2 ^ 32)) four eight (omega arith) (omega arith)))
+    (long_if (nat_lt n (2 ^ 16)) two (cond (nat_lt n (2 ^ 32)) four eight) (omega arith)
+    (long_if (nat_lt n (2 ^ 32)) four eight (omega arith) (omega arith)))
   where
     long_if : (b : Bool) (x y : List ℕ) → 0 < length x → 0 < length y → 0 < length (cond b x y)
     long_if true x y p q = p
     long_if false x y p q = q
 
-sum_short : (a b c d e : List ℕ) → length a ≤ 9 → length b ≤ 9 → length c ≤ 9 → length d ≤ 9 → length e ≤ 9 → length (a ++ (b ++ (c ++ (d ++ e)))) < 2 ^ 32
-sum_short a b c d e f g h i j = omega (arith, length-append a (b ++ (c ++ (d ++ e))), length-append b (c ++ (d ++ e)), length-append c (d ++ e), length-append d e)
+-- five numbers are short
+sum_short : (a b c d e : List ℕ) →
+    length a ≤ 9 → length b ≤ 9 → length c ≤ 9 → length d ≤ 9 → length e ≤ 9 →
+    length (a ++ (b ++ (c ++ (d ++ e)))) < 2 ^ 32
+sum_short a b c d e f g h i j =
+    omega (
+      arith,
+      length-append a (b ++ (c ++ (d ++ e))),
+      length-append b (c ++ (d ++ e)),
+      length-append c (d ++ e),
+      length-append d e,
+    )
 
-pub meta_short : (m : FrameMeta) → length (meta_layout m) < 2 ^ 32
-meta_short m =
-    sum_short (number m.frame_index) (signed m.range_ns.0) (signed m.range_ns.1) (number m.num_bytes) (number m.num_scopes)
-    (number_short m.frame_index) (number_short (zigzag m.range_ns.0)) (number_short (zigzag m.range_ns.1)) (number_short m.num_bytes) (number_short m.num_scopes)
-
--- ---- a range that a frame may have
+pub meta_short : (meta : FrameMeta) → length (meta_layout meta) < 2 ^ 32
+meta_short meta =
+    sum_short (number meta.frame_index) (signed meta.range_ns.0) (signed meta.range_ns.1) (number meta.num_bytes)
+    (number meta.num_scopes)
+    (number_short meta.frame_index) (number_short (zigzag meta.range_ns.0)) (number_short (zigzag meta.range_ns.1))
+    (number_short meta.num_bytes) (number_short meta.num_scopes)
 
 -- ---- a collection's details
 
-ids_sorted : {A : Type 0} (es : List (ℕ × Arc ScopeDetails A)) → IsStrictlySortedBy nat_cmp (keys_of es) → is_sorted nat_cmp (ids_seen es) ≡ true
+ids_sorted : {A : Type 0} (es : List (ℕ × Arc ScopeDetails A)) →
+    IsStrictlySortedBy nat_cmp (keys_of es) →
+    is_sorted nat_cmp (ids_seen es) ≡ true
 ids_sorted [] sorted = refl
-ids_sorted (e ∷ es) sorted = and-both (below_all nat_cmp e.0 (ids_seen es)) (is_sorted nat_cmp (ids_seen es)) (ids_below e.0 es (sorted_head nat_cmp e.0 _ sorted)) (ids_sorted es (sorted_tail nat_cmp e.0 _ sorted))
+ids_sorted (entry ∷ es) sorted =
+    and-both (below_all nat_cmp entry.0 (ids_seen es)) (is_sorted nat_cmp (ids_seen es))
+    (ids_below entry.0 es (sorted_head nat_cmp entry.0 _ sorted)) (ids_sorted es (sorted_tail nat_cmp entry.0 _ sorted))
   where
-    ids_below : {A : Type 0} (x : ℕ) (es : List (ℕ × Arc ScopeDetails A)) → AllByRecursion (λ y. nat_cmp x y ≡ Less) (keys_of es) → below_all nat_cmp x (ids_seen es) ≡ true
-    ids_below x [] h = refl
-    ids_below x (e ∷ es) h = and-both (is_lt (nat_cmp x e.0)) (below_all nat_cmp x (ids_seen es)) (ap is_lt h.0) (ids_below x es h.1)
+    ids_below : {A : Type 0} (id : ℕ) (es : List (ℕ × Arc ScopeDetails A)) →
+        AllByRecursion (λ y. nat_cmp id y ≡ Less) (keys_of es) →
+        below_all nat_cmp id (ids_seen es) ≡ true
+    ids_below id [] all_so = refl
+    ids_below id (entry ∷ es) all_so =
+        and-both (is_lt (nat_cmp id entry.0)) (below_all nat_cmp id (ids_seen es)) (ap is_lt all_so.0)
+        (ids_below id es all_so.1)
 
-values_seen : {A : Type 0} (es : List (ℕ × Arc ScopeDetails A)) → map (λ e. e.1) (ids_seen es) ≡ shared_details (values_of es)
+values_seen : {A : Type 0} (es : List (ℕ × Arc ScopeDetails A)) →
+    map (λ entry. entry.1) (ids_seen es) ≡ shared_details (values_of es)
 values_seen [] = refl
-values_seen (e ∷ es) = ap (λ (l : List Details). details_of (arc_value e.1) ∷ l) (values_seen es)
+values_seen (entry ∷ es) = ap (λ (l : List Details). details_of (arc_value entry.1) ∷ l) (values_seen es)
 
 -- the details of a collection are those of its map, by rising id
-pub values-by_ids : {A : Type 0} (es : List (ℕ × Arc ScopeDetails A)) → IsStrictlySortedBy nat_cmp (keys_of es) → values (by_ids es) ≡ shared_details (values_of es)
-values-by_ids es sorted = ap (map (λ e. e.1)) (entries-sorted_list nat_cmp_total (no_entries nat_cmp) (ids_seen es) (ids_sorted es sorted)) ∙ values_seen es
+pub values-by_ids : {A : Type 0} (es : List (ℕ × Arc ScopeDetails A)) →
+    IsStrictlySortedBy nat_cmp (keys_of es) →
+    values (by_ids es) ≡ shared_details (values_of es)
+values-by_ids es sorted =
+    ap (map (λ e. e.1)) (entries-sorted_list nat_cmp_total (no_entries nat_cmp) (ids_seen es) (ids_sorted es sorted))
+    ∙ values_seen es

@@ -39,31 +39,31 @@ pub fn joined_ranges()
         joined_start (info ∷ infos) ≡ int_min info.range_ns.0 (joined_start infos) }
     ensures stop_of_one_more { (info : StreamFacts) (infos : List StreamFacts) →
         joined_stop (info ∷ infos) ≡ int_max info.range_ns.1 (joined_stop infos) }
-    ensures start { (xs ys : List StreamFacts) →
-        joined_start (xs ++ ys) ≡ int_min (joined_start xs) (joined_start ys) }
-    ensures stop { (xs ys : List StreamFacts) →
-        joined_stop (xs ++ ys) ≡ int_max (joined_stop xs) (joined_stop ys) }
+    ensures start { (front rest : List StreamFacts) →
+        joined_start (front ++ rest) ≡ int_min (joined_start front) (joined_start rest) }
+    ensures stop { (front rest : List StreamFacts) →
+        joined_stop (front ++ rest) ≡ int_max (joined_stop front) (joined_stop rest) }
 {}
 
 /// A report adds its bytes and scopes to the totals of all streams, and its range is joined to theirs. The scopes under one
 /// thread are part of the total.
 pub fn reported_streams()
-    ensures bytes { (streams : Streams) (i : ThreadKey) (r : StreamFacts) →
-        total_bytes (map.values (reported_to streams i r))
-        ≡ total_bytes (map.values streams) + length r.bytes }
-    ensures scopes { (streams : Streams) (i : ThreadKey) (r : StreamFacts) →
-        total_scopes (map.values (reported_to streams i r))
-        ≡ total_scopes (map.values streams) + r.num_scopes }
-    ensures start { (streams : Streams) (i : ThreadKey) (r : StreamFacts) →
-        joined_start (map.values (reported_to streams i r))
-        ≡ int_min (joined_start (map.values streams)) r.range_ns.0 }
-    ensures stop { (streams : Streams) (i : ThreadKey) (r : StreamFacts) →
-        joined_stop (map.values (reported_to streams i r))
-        ≡ int_max (joined_stop (map.values streams)) r.range_ns.1 }
+    ensures bytes { (streams : Streams) (thread : ThreadKey) (report : StreamFacts) →
+        total_bytes (map.values (reported_to streams thread report))
+        ≡ total_bytes (map.values streams) + length report.bytes }
+    ensures scopes { (streams : Streams) (thread : ThreadKey) (report : StreamFacts) →
+        total_scopes (map.values (reported_to streams thread report))
+        ≡ total_scopes (map.values streams) + report.num_scopes }
+    ensures start { (streams : Streams) (thread : ThreadKey) (report : StreamFacts) →
+        joined_start (map.values (reported_to streams thread report))
+        ≡ int_min (joined_start (map.values streams)) report.range_ns.0 }
+    ensures stop { (streams : Streams) (thread : ThreadKey) (report : StreamFacts) →
+        joined_stop (map.values (reported_to streams thread report))
+        ≡ int_max (joined_stop (map.values streams)) report.range_ns.1 }
     ensures none { map.values {X = StreamFacts} {R = key_cmp} map.empty ≡ [] }
     // The scopes under one info are part of the total.
-    ensures under_one { (streams : Streams) (i : ThreadKey) →
-        (stream_under streams i).num_scopes ≤ total_scopes (map.values streams) }
+    ensures under_one { (streams : Streams) (thread : ThreadKey) →
+        (stream_under streams thread).num_scopes ≤ total_scopes (map.values streams) }
 {}
 
 /// Honest streams stay honest after an honest report, unless the report and the stream under its thread's info both have bytes
@@ -71,11 +71,13 @@ pub fn reported_streams()
 /// 0, no stream has a scope.
 pub fn honest_streams()
     ensures none { AreHonest map.empty }
-    ensures report { (streams : Streams) (i : ThreadKey) (r : StreamFacts) (f : Forest) →
-        ¬ AreUnlike (stream_under streams i) r → AreHonest streams → AreHonestFacts r f →
-        AreHonest (reported_to streams i r) }
+    ensures report { (streams : Streams) (thread : ThreadKey) (report : StreamFacts) (
+        forest : Forest) →
+        ¬ AreUnlike (stream_under streams thread) report → AreHonest streams →
+        AreHonestFacts report forest → AreHonest (reported_to streams thread report) }
     ensures ordered { (streams : Streams) → AreHonest streams →
         0 < total_scopes (map.values streams) → IsOrdered (joined_range (map.values streams)) }
-    ensures no_scopes { (streams : Streams) (i : ThreadKey) (r : StreamFacts) →
-        total_scopes (map.values streams) ≡ 0 → map.get streams i ≡ Some r → r.num_scopes ≡ 0 }
+    ensures no_scopes { (streams : Streams) (thread : ThreadKey) (info : StreamFacts) →
+        total_scopes (map.values streams) ≡ 0 → map.get streams thread ≡ Some info →
+        info.num_scopes ≡ 0 }
 {}

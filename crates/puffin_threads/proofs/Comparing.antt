@@ -16,12 +16,14 @@ use Rattle.puffin_threads.proofs.lemmas.ThreadKeys.{ties, both}
 bytes_one : IsAntisymmetric (slice_cmp nat_cmp)
 bytes_one = slice_cmp-IsAntisymmetric nat_cmp-IsAntisymmetric
 
+-- each field is ordered totally, and so are details
 pub details_cmp_total : IsTotalOrder details_cmp
 details_cmp_total =
     then_total (on_total (λ (d : Details). d.id) (options_total nat_cmp_total))
     (then_total (on_total (λ (d : Details). d.scope_name) (options_total nat_list_cmp_total))
     (then_total (on_total (λ (d : Details). d.function_name) nat_list_cmp_total)
-    (then_total (on_total (λ (d : Details). d.file_path) nat_list_cmp_total) (on_total (λ (d : Details). d.line_nr) nat_cmp_total))))
+    (then_total (on_total (λ (d : Details). d.file_path) nat_list_cmp_total)
+    (on_total (λ (d : Details). d.line_nr) nat_cmp_total))))
 
 options_one : {A : Type 0} {R : A → A → Ordering} → IsAntisymmetric R → IsAntisymmetric (option_cmp R)
 options_one one None None e = refl
@@ -29,9 +31,10 @@ options_one one None (Some y) e = cc
 options_one one (Some x) None e = cc
 options_one one (Some x) (Some y) e = ap Some (one x y e)
 
+-- details tie only if each of their fields does, and then the fields are equal
 pub details_cmp-one : IsAntisymmetric details_cmp
-details_cmp-one x y e =
-    let by_id = ties (option_cmp nat_cmp x.id y.id) (texts_cmp x y) e in
+details_cmp-one x y tied =
+    let by_id = ties (option_cmp nat_cmp x.id y.id) (texts_cmp x y) tied in
     let by_name = ties (option_cmp (slice_cmp nat_cmp) x.scope_name y.scope_name) _ by_id.1 in
     let by_function = ties (slice_cmp nat_cmp x.function_name y.function_name) _ by_name.1 in
     let by_file = ties (slice_cmp nat_cmp x.file_path y.file_path) (nat_cmp x.line_nr y.line_nr) by_function.1 in
@@ -43,17 +46,20 @@ details_cmp-one x y e =
     λ i. record { id = ids i; scope_name = names i; function_name = functions i; file_path = files i; line_nr = lines i }
 
 pub same_details-one : (x y : Details) → same_details x y ≡ true → x ≡ y
-same_details-one x y e = details_cmp-one x y ((Equal-is (details_cmp x y)).0 e)
+same_details-one x y tied = details_cmp-one x y ((Equal-is (details_cmp x y)).0 tied)
 
 -- ---- equality is a tie
 
+-- equal ids are ids that tie, and so are names
 same_ids : (a b : Option ℕ) → option_eq nat_eq a b ≡ is_eq (option_cmp nat_cmp a b)
 same_ids None None = refl
 same_ids None (Some y) = refl
 same_ids (Some x) None = refl
 same_ids (Some x) (Some y) = unsigned_ties x y
 
-same_names : {Z : Type 0} (a b : Option (CowStr Z)) → option_eq (λ x y. pointwise nat_eq (cow_str_bytes x) (cow_str_bytes y)) a b ≡ is_eq (option_cmp (slice_cmp nat_cmp) (option_map cow_str_bytes a) (option_map cow_str_bytes b))
+same_names : {Z : Type 0} (a b : Option (CowStr Z)) →
+    option_eq (λ x y. pointwise nat_eq (cow_str_bytes x) (cow_str_bytes y)) a b
+    ≡ is_eq (option_cmp (slice_cmp nat_cmp) (option_map cow_str_bytes a) (option_map cow_str_bytes b))
 same_names None None = refl
 same_names None (Some y) = refl
 same_names (Some x) None = refl
@@ -62,10 +68,13 @@ same_names (Some x) (Some y) = texts_ties (cow_str_bytes x) (cow_str_bytes y)
 and_then : {p q : Bool} (r s : Ordering) → p ≡ is_eq r → q ≡ is_eq s → (p && q) ≡ (is_eq r && is_eq s)
 and_then r s first later = λ i. first i && later i
 
-pub same_parts : (a b : ScopeDetails) → (option_eq nat_eq a.scope_id b.scope_id
-    && (option_eq (λ x y. pointwise nat_eq (cow_str_bytes x) (cow_str_bytes y)) a.scope_name b.scope_name
-    && (pointwise nat_eq (cow_str_bytes a.function_name) (cow_str_bytes b.function_name)
-    && (pointwise nat_eq (cow_str_bytes a.file_path) (cow_str_bytes b.file_path) && nat_eq a.line_nr b.line_nr)))) ≡ same_details (details_of a) (details_of b)
+-- details that are equal field by field are details that tie
+pub same_parts : (a b : ScopeDetails) →
+    (option_eq nat_eq a.scope_id b.scope_id &&
+    (option_eq (λ x y. pointwise nat_eq (cow_str_bytes x) (cow_str_bytes y)) a.scope_name b.scope_name &&
+    (pointwise nat_eq (cow_str_bytes a.function_name) (cow_str_bytes b.function_name) &&
+    (pointwise nat_eq (cow_str_bytes a.file_path) (cow_str_bytes b.file_path) && nat_eq a.line_nr b.line_nr))))
+    ≡ same_details (details_of a) (details_of b)
 same_parts a b =
     let x = details_of a in
     let y = details_of b in
@@ -74,7 +83,8 @@ same_parts a b =
     let function = slice_cmp nat_cmp x.function_name y.function_name in
     let name = option_cmp (slice_cmp nat_cmp) x.scope_name y.scope_name in
     let id = option_cmp nat_cmp x.id y.id in
-    let files = and_then file line (texts_ties x.file_path y.file_path) (unsigned_ties x.line_nr y.line_nr) ∙ both file line in
+    let files =
+    and_then file line (texts_ties x.file_path y.file_path) (unsigned_ties x.line_nr y.line_nr) ∙ both file line in
     let functions = and_then function _ (texts_ties x.function_name y.function_name) files ∙ both function _ in
     let names = and_then name _ (same_names a.scope_name b.scope_name) functions ∙ both name _ in
     and_then id (texts_cmp x y) (same_ids x.id y.id) names ∙ both id (texts_cmp x y)

@@ -16,78 +16,140 @@ use Rattle.puffin_threads.proofs.lemmas.EntriesSeen.{get-seen, insert-seen, writ
 use Rattle.std.proofs.lemmas.Option.{same_Some, none-some}
 
 module _ {A : Type 0} where
-  pub get-by_ids : (es : List (ℕ × Arc ScopeDetails A)) (q : ℕ) → get (by_ids es) q ≡ option_map (λ d. details_of (arc_value d)) (lookup (is_at (nat_cmp q)) es)
-  get-by_ids es q = get-seen (λ k. k) (λ d. details_of (arc_value d)) nat_cmp nat_cmp_total es q
+  -- look-ups in and insertions into the entries of a collection's maps, as its maps see them
+  pub get-by_ids : (entries : List (ℕ × Arc ScopeDetails A)) (id : ℕ) →
+      get (by_ids entries) id ≡ option_map (λ d. details_of (arc_value d)) (lookup (is_at (nat_cmp id)) entries)
+  get-by_ids entries id = get-seen (λ k. k) (λ d. details_of (arc_value d)) nat_cmp nat_cmp_total entries id
 
-  pub by_ids-insert : (es : List (ℕ × Arc ScopeDetails A)) (k : ℕ) (d : Arc ScopeDetails A) → by_ids (insert_entry nat_cmp es k d) ≡ insert (by_ids es) k (details_of (arc_value d))
-  by_ids-insert es k d = insert-seen (λ k. k) (λ d. details_of (arc_value d)) nat_cmp nat_cmp_total nat_cmp-IsAntisymmetric es k d
+  pub by_ids-insert : (entries : List (ℕ × Arc ScopeDetails A)) (k : ℕ) (details : Arc ScopeDetails A) →
+      by_ids (insert_entry nat_cmp entries k details) ≡ insert (by_ids entries) k (details_of (arc_value details))
+  by_ids-insert entries k details =
+      insert-seen (λ k. k) (λ details. details_of (arc_value details)) nat_cmp nat_cmp_total nat_cmp-IsAntisymmetric
+      entries k details
 
-  pub get-by_names : (es : List (String A × ℕ)) (q : List ℕ) → get (by_names es) q ≡ lookup (is_at (λ k. bytes_cmp q (string_bytes k))) es
-  get-by_names es q = get-seen (λ k. string_bytes k) (λ n. n) bytes_cmp nat_list_cmp_total es q ∙ same (lookup (is_at (λ k. bytes_cmp q (string_bytes k))) es)
+  pub get-by_names : (entries : List (String A × ℕ)) (name : List ℕ) →
+      get (by_names entries) name ≡ lookup (is_at (λ k. bytes_cmp name (string_bytes k))) entries
+  get-by_names entries name =
+      get-seen (λ k. string_bytes k) (λ id. id) bytes_cmp nat_list_cmp_total entries name
+      ∙ same (lookup (is_at (λ k. bytes_cmp name (string_bytes k))) entries)
     where
-      same : (o : Option ℕ) → option_map (λ n. n) o ≡ o
+      same : (o : Option ℕ) → option_map (λ id. id) o ≡ o
       same None = refl
-      same (Some n) = refl
+      same (Some id) = refl
 
-  pub by_names-insert : (es : List (String A × ℕ)) (k : String A) (n : ℕ) → by_names (insert_entry (λ a b. bytes_cmp (string_bytes a) (string_bytes b)) es k n) ≡ insert (by_names es) (string_bytes k) n
-  by_names-insert es k n = insert-seen (λ k. string_bytes k) (λ n. n) bytes_cmp nat_list_cmp_total (slice_cmp-IsAntisymmetric nat_cmp-IsAntisymmetric) es k n
+  pub by_names-insert : (entries : List (String A × ℕ)) (k : String A) (n : ℕ) →
+      by_names (insert_entry (λ a b. bytes_cmp (string_bytes a) (string_bytes b)) entries k n)
+      ≡ insert (by_names entries) (string_bytes k) n
+  by_names-insert entries k n =
+      insert-seen (λ k. string_bytes k) (λ n. n) bytes_cmp nat_list_cmp_total
+      (slice_cmp-IsAntisymmetric nat_cmp-IsAntisymmetric) entries k n
 
-  pub by_names-write : (es : List (String A × ℕ)) (name : List ℕ) (old n : ℕ) → lookup (is_at (λ k. bytes_cmp name (string_bytes k))) es ≡ Some old → by_names (set_value (is_at (λ k. bytes_cmp name (string_bytes k))) es n) ≡ insert (by_names es) name n
-  by_names-write es name old n found = write-seen (λ k. string_bytes k) (λ n. n) bytes_cmp nat_list_cmp_total (slice_cmp-IsAntisymmetric nat_cmp-IsAntisymmetric) es name old n found
+  pub by_names-write : (entries : List (String A × ℕ)) (name : List ℕ) (old n : ℕ) →
+      lookup (is_at (λ k. bytes_cmp name (string_bytes k))) entries ≡ Some old →
+      by_names (set_value (is_at (λ k. bytes_cmp name (string_bytes k))) entries n) ≡ insert (by_names entries) name n
+  by_names-write entries name old n found =
+      write-seen (λ k. string_bytes k) (λ n. n) bytes_cmp nat_list_cmp_total
+      (slice_cmp-IsAntisymmetric nat_cmp-IsAntisymmetric) entries name old n found
 
   -- an id that is taken out again, where there was none
-  undone_test : (b : Bool) (q k : ℕ) (d : Arc ScopeDetails A) (o : Option (Arc ScopeDetails A)) → (b ≡ true → o ≡ None) → cond b None (cond b (Some d) o) ≡ o
-  undone_test true q k d o none = sym (none refl)
-  undone_test false q k d o none = refl
+  undone_test : (b : Bool) (q k : ℕ) (details : Arc ScopeDetails A) (found : Option (Arc ScopeDetails A)) →
+      (b ≡ true → found ≡ None) →
+      cond b None (cond b (Some details) found) ≡ found
+  undone_test true q k details found none = sym (none refl)
+  undone_test false q k details found none = refl
 
 -- ---- details under their own ids
 
+-- ids tie only if they are equal
 same_ids : (q id : ℕ) → eq_by_cmp nat_cmp q id ≡ true → q ≡ id
 same_ids q id e = nat_cmp-IsAntisymmetric q id ((Equal-is (nat_cmp q id)).0 e)
 
-own_at : (b : Bool) (q id : ℕ) (d x : Details) (o : Option Details) → (b ≡ true → q ≡ id) → d.id ≡ Some id → (o ≡ Some x → x.id ≡ Some q) → cond b (Some d) o ≡ Some x → x.id ≡ Some q
-own_at true q id d x o same is later found = ap (λ (y : Details). y.id) (sym (same_Some d x found)) ∙ is ∙ ap Some (sym (same refl))
-own_at false q id d x o same is later found = later found
+-- what is found after an insertion is the new details, under their own id, or what was there
+own_at : (b : Bool) (other id : ℕ) (details found_details : Details) (o : Option Details) →
+    (b ≡ true → other ≡ id) → details.id ≡ Some id → (o ≡ Some found_details → found_details.id ≡ Some other) →
+    cond b (Some details) o ≡ Some found_details →
+    found_details.id ≡ Some other
+own_at true other id details found_details o same is later found =
+    ap (λ (y : Details). y.id) (sym (same_Some details found_details found)) ∙ is ∙ ap Some (sym (same refl))
+own_at false other id details found_details there_is same is later found = later found
 
-pub own_ids_put : (m : FinMap nat_cmp Details) (id : ℕ) (d : Details) → ((q : ℕ) (x : Details) → get m q ≡ Some x → x.id ≡ Some q) → d.id ≡ Some id → (q : ℕ) (x : Details) → get (insert m id d) q ≡ Some x → x.id ≡ Some q
-own_ids_put m id d own is q x found = own_at (eq_by_cmp nat_cmp q id) q id d x (get m q) (same_ids q id) is (own q x) (sym (get-insert nat_cmp_total m id d q) ∙ found)
+pub own_ids_put : (by_id : FinMap nat_cmp Details) (id : ℕ) (details : Details) →
+    ((other : ℕ) (found_details : Details) → get by_id other ≡ Some found_details → found_details.id ≡ Some other) →
+    details.id ≡ Some id →
+    (other : ℕ) (found_details : Details) →
+    get (insert by_id id details) other ≡ Some found_details →
+    found_details.id ≡ Some other
+own_ids_put by_id id details own is other found_details found =
+    own_at (eq_by_cmp nat_cmp other id) other id details found_details (get by_id other) (same_ids other id) is
+    (own other found_details)
+    (sym (get-insert nat_cmp_total by_id id details other) ∙ found)
 
-own_or : (o : Option Details) (c : Collection) (d : Details) (id : ℕ) → d.id ≡ Some id → KeepsOwnIds c → (q : ℕ) (x : Details) → get (kept_or o c.by_id id d) q ≡ Some x → x.id ≡ Some q
-own_or (Some kept) c d id is own q x found = own q x found
-own_or None c d id is own q x found = own_ids_put c.by_id id d own is q x found
+own_or : (found : Option Details) (collection : Collection) (details : Details) (id : ℕ) →
+    details.id ≡ Some id → KeepsOwnIds collection →
+    (other : ℕ) (found_details : Details) →
+    get (kept_or found collection.by_id id details) other ≡ Some found_details →
+    found_details.id ≡ Some other
+own_or (Some kept) collection details id is own other found_details found = own other found_details found
+own_or None collection details id is own other found_details found =
+    own_ids_put collection.by_id id details own is other found_details found
 
-own_ids_at : (c : Collection) (d : Details) (o : Option ℕ) → d.id ≡ o → KeepsOwnIds c → KeepsOwnIds (with_details_under c d o)
-own_ids_at c d None is own = own
-own_ids_at c d (Some id) is own = own_or (get c.by_id id) c d id is own
+own_ids_at : (collection : Collection) (details : Details) (o : Option ℕ) →
+    details.id ≡ o → KeepsOwnIds collection →
+    KeepsOwnIds (with_details_under collection details o)
+own_ids_at collection details None is own = own
+own_ids_at collection details (Some id) is own = own_or (get collection.by_id id) collection details id is own
 
 pub own_ids_none : KeepsOwnIds no_details
 own_ids_none id d found = absurd (none-some d (sym (get-empty nat_cmp id) ∙ found))
 
-pub own_ids_inserted : (c : Collection) (d : Details) → KeepsOwnIds c → KeepsOwnIds (with_details c d)
-own_ids_inserted c d own = own_ids_at c d d.id refl own
+pub own_ids_inserted : (collection : Collection) (details : Details) →
+    KeepsOwnIds collection →
+    KeepsOwnIds (with_details collection details)
+own_ids_inserted collection details own = own_ids_at collection details details.id refl own
 
 -- ---- what an insertion leaves
 
-pub kept_inserted : (c : Collection) (d : Details) (id : ℕ) (old : Details) (names : FinMap bytes_cmp ℕ) → d.id ≡ Some id → get c.by_id id ≡ Some old → names ≡ insert c.by_name (name_of d) id → ◌≡◌ {A = Collection} (record { by_id = c.by_id; by_name = names }) (with_details c d)
-kept_inserted c d id old names is there named = (λ i. record { by_id = kept_or (sym there i) c.by_id id d; by_name = named i }) ∙ ap (with_details_under c d) (sym is)
+-- under an id that is there only the name is put
+pub kept_inserted : (collection : Collection) (details : Details) (id : ℕ) (old : Details) (names : FinMap bytes_cmp ℕ) →
+    details.id ≡ Some id → get collection.by_id id ≡ Some old → names ≡ insert collection.by_name (name_of details) id →
+    ◌≡◌ {A = Collection} (record { by_id = collection.by_id; by_name = names }) (with_details collection details)
+kept_inserted collection details id old names is there named =
+    (λ i. record { by_id = kept_or (sym there i) collection.by_id id details; by_name = named i })
+    ∙ ap (with_details_under collection details) (sym is)
 
-pub fresh_inserted : (c : Collection) (d : Details) (id : ℕ) (ids : FinMap nat_cmp Details) (names : FinMap bytes_cmp ℕ) → d.id ≡ Some id → get c.by_id id ≡ None → ids ≡ insert c.by_id id d → names ≡ insert c.by_name (name_of d) id
-    → ◌≡◌ {A = Collection} (record { by_id = ids; by_name = names }) (with_details c d)
-fresh_inserted c d id ids names is none put named =
-    let fresh : ids ≡ kept_or (get c.by_id id) c.by_id id d = put ∙ ap (λ o. kept_or o c.by_id id d) (sym none) in
-    (λ i. record { by_id = fresh i; by_name = named i }) ∙ ap (with_details_under c d) (sym is)
+-- under a new id the details are put too
+pub fresh_inserted :
+    (collection : Collection) (details : Details) (id : ℕ) (ids : FinMap nat_cmp Details) (names : FinMap bytes_cmp ℕ) →
+    details.id ≡ Some id → get collection.by_id id ≡ None → ids ≡ insert collection.by_id id details →
+    names ≡ insert collection.by_name (name_of details) id →
+    ◌≡◌ {A = Collection} (record { by_id = ids; by_name = names }) (with_details collection details)
+fresh_inserted collection details id ids names is none put named =
+    let fresh : ids ≡ kept_or (get collection.by_id id) collection.by_id id details =
+    put ∙ ap (λ o. kept_or o collection.by_id id details) (sym none) in
+    (λ i. record { by_id = fresh i; by_name = named i }) ∙ ap (with_details_under collection details) (sym is)
 
-pub kept_is : (c : Collection) (d : Details) (id : ℕ) (kept : Details) → d.id ≡ Some id → get c.by_id id ≡ Some kept → kept_for c d ≡ Some kept
-kept_is c d id kept is there = ap (option_and_then (λ id. get c.by_id id)) is ∙ there
+-- what is under an id is what was kept for details with that id
+pub kept_is : (collection : Collection) (details : Details) (id : ℕ) (kept : Details) →
+    details.id ≡ Some id → get collection.by_id id ≡ Some kept →
+    kept_for collection details ≡ Some kept
+kept_is collection details id kept is there = ap (option_and_then (λ id. get collection.by_id id)) is ∙ there
 
-pub get-put : (m : FinMap nat_cmp Details) (id : ℕ) (d : Details) → get (insert m id d) id ≡ Some d
-get-put m id d = get-insert nat_cmp_total m id d id ∙ ap (λ b. cond b (Some d) (get m id)) ((eq_by_cmp_equiv nat_cmp_total).refl id)
+pub get-put : (by_id : FinMap nat_cmp Details) (id : ℕ) (details : Details) → get (insert by_id id details) id ≡ Some details
+get-put by_id id details =
+    get-insert nat_cmp_total by_id id details id
+    ∙ ap (λ b. cond b (Some details) (get by_id id)) ((eq_by_cmp_equiv nat_cmp_total).refl id)
 
 -- an id that was put where there was none, and was taken out again
 module _ {A : Type 0} where
-  pub undone : (before put after : BTreeMap ℕ (Arc ScopeDetails A)) (id : ℕ) (d : Arc ScopeDetails A) → tree.get nat_cmp before id ≡ None → tree.Updates nat_cmp before put id (Some d) → tree.Updates nat_cmp put after id None → by_ids after.entries ≡ by_ids before.entries
-  undone before put after id d none puts takes =
+  pub undone : (before put after : BTreeMap ℕ (Arc ScopeDetails A)) (id : ℕ) (details : Arc ScopeDetails A) →
+      tree.get nat_cmp before id ≡ None → tree.Updates nat_cmp before put id (Some details) →
+      tree.Updates nat_cmp put after id None →
+      by_ids after.entries ≡ by_ids before.entries
+  undone before put after id details none puts takes =
       same_map nat_cmp_total nat_cmp-IsAntisymmetric (by_ids after.entries) (by_ids before.entries)
-      (λ q. get-by_ids after.entries q
-      ∙ ap (option_map (λ x. details_of (arc_value x))) (takes.0 q ∙ ap (cond (is_at (nat_cmp id) q) None) (puts.0 q) ∙ undone_test (is_at (nat_cmp id) q) q id d (tree.get nat_cmp before q) (λ same. ap (tree.get nat_cmp before) (sym (same_ids id q same)) ∙ none))
-      ∙ sym (get-by_ids before.entries q))
+      (λ other. get-by_ids after.entries other
+      ∙ ap (option_map (λ x. details_of (arc_value x)))
+      (takes.0 other ∙ ap (cond (is_at (nat_cmp id) other) None) (puts.0 other)
+      ∙ undone_test (is_at (nat_cmp id) other) other id details (tree.get nat_cmp before other)
+      (λ same. ap (tree.get nat_cmp before) (sym (same_ids id other same)) ∙ none))
+      ∙ sym (get-by_ids before.entries other))

@@ -16,36 +16,54 @@ use Rattle.puffin_threads.proofs.lemmas.Ids.{none_lacks}
 -- ---- ids
 
 -- the test of shared details, and that of what they say
-any_shared : {A : Type 0} (ds : List (Arc ScopeDetails A)) → list_any (λ d. lacks_id (details_of (arc_value d))) ds ≡ list_any lacks_id (shared_details ds)
+any_shared : {A : Type 0} (details : List (Arc ScopeDetails A)) →
+    list_any (λ d. lacks_id (details_of (arc_value d))) details ≡ list_any lacks_id (shared_details details)
 any_shared [] = refl
-any_shared (d ∷ ds) = ap (λ (b : Bool). lacks_id (details_of (arc_value d)) || b) (any_shared ds)
+any_shared (one ∷ others) = ap (λ (b : Bool). lacks_id (details_of (arc_value one)) || b) (any_shared others)
 
 -- what a test of shared details tells of what they say
-pub tested : {A : Type 0} (b : Bool) (ds : List (Arc ScopeDetails A)) → b ≡ list_any (λ d. lacks_id (details_of (arc_value d))) ds → list_any lacks_id (shared_details ds) ≡ b
-tested b ds is = sym (is ∙ any_shared ds)
+pub tested : {A : Type 0} (b : Bool) (details : List (Arc ScopeDetails A)) →
+    b ≡ list_any (λ d. lacks_id (details_of (arc_value d))) details →
+    list_any lacks_id (shared_details details) ≡ b
+tested b details is = sym (is ∙ any_shared details)
 
 -- the details at a place of a list none of which lacks its id, and a copy of them, have one
-pub id_at : {A : Type 0} (ds : List (Arc ScopeDetails A)) (i : ℕ) (item copy : Arc ScopeDetails A) → list_any lacks_id (shared_details ds) ≡ false → i < length ds → item ≡ get_or ds i item → arc_value copy ≡ arc_value item → IsSome (details_of (arc_value copy)).id
-id_at ds i item copy none lt is same =
+pub id_at : {A : Type 0} (details : List (Arc ScopeDetails A)) (i : ℕ) (item copy : Arc ScopeDetails A) →
+    list_any lacks_id (shared_details details) ≡ false → i < length details → item ≡ get_or details i item →
+    arc_value copy ≡ arc_value item →
+    IsSome (details_of (arc_value copy)).id
+id_at details i item copy none lt is same =
     let f : Arc ScopeDetails _ → Details = λ d. details_of (arc_value d) in
-    let all : AllHaveIds (shared_details ds) = none_lacks (shared_details ds) none in
+    let all : AllHaveIds (shared_details details) = none_lacks (shared_details details) none in
     subst (λ (v : ScopeDetails). IsSome (details_of v).id) (sym same)
-    (subst (λ (e : Details). IsSome e.id) (get_or-map f ds i item (f item) lt ∙ ap f (sym is)) (All-get_or (λ e. IsSome e.id) (shared_details ds) i (f item) (omega (arith, lt, length-map ds f)) all))
+    (subst (λ (e : Details). IsSome e.id) (get_or-map f details i item (f item) lt ∙ ap f (sym is))
+    (All-get_or (λ e. IsSome e.id) (shared_details details) i (f item) (omega (arith, lt, length-map details f)) all))
 
 -- the only refusal of details that have an id
-pub memory_alone : {T : Type 0} (r : Result T Error) (e : Error) (d : Details) → IsSome d.id → r ≡ Err e → ((r ≡ Err MissingId) ↔ (d.id ≡ None)) → (e ≡ MissingId) ⊎ (e ≡ Memory) → e ≡ Memory
-memory_alone r e d some is missing (inl none) = absurd (no_id (subst (λ (o : Option ℕ). IsSome o) (missing.0 (is ∙ ap Err none)) some))
+pub memory_alone : {T : Type 0} (r : Result T Error) (cause : Error) (details : Details) →
+    IsSome details.id → r ≡ Err cause → ((r ≡ Err MissingId) ↔ (details.id ≡ None)) →
+    (cause ≡ MissingId) ⊎ (cause ≡ Memory) →
+    cause ≡ Memory
+memory_alone r cause details some is missing (inl none) =
+    absurd (no_id (subst (λ (o : Option ℕ). IsSome o) (missing.0 (is ∙ ap Err none)) some))
   where
     no_id : IsSome {T = ℕ} None → ⊥
-    no_id e = cc
-memory_alone r e d some is missing (inr memory) = memory
+    no_id cause = cc
+memory_alone r cause details some is missing (inr memory) = memory
 
 -- ---- lists of details
 
-beginning : {A : Type 0} (ds : List (Arc ScopeDetails A)) (i : ℕ) → IsPrefix (shared_details (take i ds)) (shared_details ds)
-beginning ds i = (shared_details (drop i ds), ap shared_details (sym (take-append-drop i ds)) ∙ map-append (λ d. details_of (arc_value d)) (take i ds) (drop i ds))
+beginning : {A : Type 0} (details : List (Arc ScopeDetails A)) (i : ℕ) →
+    IsPrefix (shared_details (take i details)) (shared_details details)
+beginning details i = (
+  shared_details (drop i details),
+  ap shared_details (sym (take-append-drop i details))
+      ∙ map-append (λ d. details_of (arc_value d)) (take i details) (drop i details),
+)
 
 -- what is inserted so far is a prefix of all
-pub learnt_so_far : {A T E : Type 0} (r : Result T E) (ds : List (Arc ScopeDetails A)) (i : ℕ) (old new : Collection) → new ≡ with_all_details old (shared_details (take i ds)) → OnErr r (LearnsSome old (shared_details ds) new)
-learnt_so_far (Ok x) ds i old new is = tt
-learnt_so_far (Err e) ds i old new is = (shared_details (take i ds), beginning ds i, is)
+pub learnt_so_far : {A T E : Type 0} (r : Result T E) (details : List (Arc ScopeDetails A)) (i : ℕ) (old new : Collection) →
+    new ≡ with_all_details old (shared_details (take i details)) →
+    OnErr r (LearnsSome old (shared_details details) new)
+learnt_so_far (Ok x) details i old new is = tt
+learnt_so_far (Err cause) details i old new is = (shared_details (take i details), beginning details i, is)

@@ -26,6 +26,7 @@ use Rattle.puffin_frames.proofs.lemmas.Ranges.{least_start-one, greatest_stop-on
 abbrev pub IsHonestSomehow : StreamFacts → Type 0
 IsHonestSomehow r = ∥ ((f : Forest) × AreHonestFacts r f) ∥₁
 
+-- an info without scopes is honest
 none_honest : AreHonestFacts no_scopes forest.empty
 none_honest = record {
   stream = record { whole = refl; fits = tt };
@@ -35,77 +36,123 @@ none_honest = record {
 pub none_is_honest : AreHonest empty
 none_is_honest i r found = let none = get-empty {X = StreamFacts} key_cmp i in absurd cc
 
-joined_honest : (o : Option StreamFacts) (r : StreamFacts) (f : Forest) → (AreUnlike (unwrap_or o no_scopes) r → ⊥) → AreHonestFacts r f → ((x : StreamFacts) → o ≡ Some x → IsHonestSomehow x) → IsHonestSomehow (joined_facts (unwrap_or o no_scopes) r)
-joined_honest None r f like h before = merely (append forest.empty f, honest_joined no_scopes r forest.empty f like none_honest h)
-joined_honest (Some x) r f like h before = ∥∥₁_map (before x refl) (λ p. (append p.0 f, honest_joined x r p.0 f like p.1 h))
+-- an honest report that is joined to an honest info makes an honest one
+joined_honest : (found : Option StreamFacts) (info : StreamFacts) (f : Forest) →
+    (AreUnlike (unwrap_or found no_scopes) info → ⊥) → AreHonestFacts info f →
+    ((x : StreamFacts) → found ≡ Some x → IsHonestSomehow x) →
+    IsHonestSomehow (joined_facts (unwrap_or found no_scopes) info)
+joined_honest None info f like honest before =
+    merely (append forest.empty f, honest_joined no_scopes info forest.empty f like none_honest honest)
+joined_honest (Some x) info forest like honest before =
+    ∥∥₁_map (before x refl) (λ p. (append p.0 forest, honest_joined x info p.0 forest like p.1 honest))
 
-at_test : (b : Bool) (j x : StreamFacts) (o : Option StreamFacts) → IsHonestSomehow j → (o ≡ Some x → IsHonestSomehow x) → cond b (Some j) o ≡ Some x → IsHonestSomehow x
-at_test true j x o h before found = let same : j ≡ x = cc in subst IsHonestSomehow same h
-at_test false j x o h before found = before found
+-- after a report an info is the joined one, or it was there before
+at_test : (b : Bool) (joined info : StreamFacts) (there : Option StreamFacts) →
+    IsHonestSomehow joined → (there ≡ Some info → IsHonestSomehow info) → cond b (Some joined) there ≡ Some info →
+    IsHonestSomehow info
+at_test true joined info there honest before found = let same : joined ≡ info = cc in subst IsHonestSomehow same honest
+at_test false joined info there honest before found = before found
 
-pub honest-report : (streams : Streams) (i : ThreadKey) (r : StreamFacts) (f : Forest) → (AreUnlike (stream_under streams i) r → ⊥) → AreHonest streams → AreHonestFacts r f → AreHonest (reported_to streams i r)
-honest-report streams i r f like honest h q x found =
-    let more = joined_facts (unwrap_or (get streams i) no_scopes) r in
-    at_test (has_same_key q i) more x (get streams q) (joined_honest (get streams i) r f like h (λ y. honest i y)) (honest q x) (sym (get-insert key_cmp_total streams i more q) ∙ found)
+pub honest-report : (streams : Streams) (thread : ThreadKey) (info : StreamFacts) (forest : Forest) →
+    (AreUnlike (stream_under streams thread) info → ⊥) → AreHonest streams → AreHonestFacts info forest →
+    AreHonest (reported_to streams thread info)
+honest-report streams thread info forest like honest is_honest other found_info found =
+    let more = joined_facts (unwrap_or (get streams thread) no_scopes) info in
+    at_test (has_same_key other thread) more found_info (get streams other)
+    (joined_honest (get streams thread) info forest like is_honest (λ y. honest thread y))
+    (honest other found_info) (sym (get-insert key_cmp_total streams thread more other) ∙ found)
 
 -- ---- what holds at each info holds of each stream
-none_at : (x : ThreadKey) (es : List (ThreadKey × StreamFacts)) → T (below_all key_cmp x es) → find key_cmp x es ≡ None
-none_at x [] below = refl
-none_at x (e ∷ es) below =
-    ap (λ o. cond (is_eq o) (Some e.1) (find key_cmp x es)) (less (key_cmp x e.0) (first _ _ below))
-    ∙ none_at x es (second (is_lt (key_cmp x e.0)) _ below)
+none_at : (least : ThreadKey) (pairs : List (ThreadKey × StreamFacts)) →
+    T (below_all key_cmp least pairs) →
+    find key_cmp least pairs ≡ None
+none_at least [] below = refl
+none_at least (first_pair ∷ others) below =
+    ap (λ o. cond (is_eq o) (Some first_pair.1) (find key_cmp least others))
+    (less (key_cmp least first_pair.0) (first _ _ below))
+    ∙ none_at least others (second (is_lt (key_cmp least first_pair.0)) _ below)
 
-past_first : (o : Ordering) (q : ThreadKey) (x : StreamFacts) (e : ThreadKey × StreamFacts) (es : List (ThreadKey × StreamFacts)) → key_cmp q e.0 ≡ o → T (below_all key_cmp e.0 es) → find key_cmp q es ≡ Some x → cond (is_eq o) (Some e.1) (find key_cmp q es) ≡ Some x
-past_first Less q x e es is below found = found
-past_first Equal q x e es is below found =
-    let none = ap (λ k. find key_cmp k es) (key_cmp-one q e.0 is) ∙ none_at e.0 es below in
+-- what is found behind the first pair is found in the whole list
+past_first : (order : Ordering) (thread : ThreadKey) (info : StreamFacts) (first_pair : ThreadKey × StreamFacts)
+    (pairs : List (ThreadKey × StreamFacts)) →
+    key_cmp thread first_pair.0 ≡ order → T (below_all key_cmp first_pair.0 pairs) →
+    find key_cmp thread pairs ≡ Some info →
+    cond (is_eq order) (Some first_pair.1) (find key_cmp thread pairs) ≡ Some info
+past_first Less thread info first_pair pairs is below found = found
+past_first Equal thread info first_pair pairs is below found =
+    let none = ap (λ k. find key_cmp k pairs) (key_cmp-one thread first_pair.0 is) ∙ none_at first_pair.0 pairs below in
     absurd cc
-past_first Greater q x e es is below found = found
+past_first Greater thread info first_pair pairs is below found = found
 
-all_from_each : (P : StreamFacts → Type 0) (es : List (ThreadKey × StreamFacts)) → T (is_sorted key_cmp es) → ((q : ThreadKey) (x : StreamFacts) → find key_cmp q es ≡ Some x → P x) → AllByRecursion P (map (λ e. e.1) es)
+-- what holds of each info that is found holds of all infos
+all_from_each : (P : StreamFacts → Type 0) (pairs : List (ThreadKey × StreamFacts)) →
+    T (is_sorted key_cmp pairs) →
+    ((thread : ThreadKey) (info : StreamFacts) → find key_cmp thread pairs ≡ Some info → P info) →
+    AllByRecursion P (map (λ pair. pair.1) pairs)
 all_from_each P [] sorted each = tt
-all_from_each P (e ∷ es) sorted each = (
-  each e.0 e.1 (ap (λ o. cond (is_eq o) (Some e.1) (find key_cmp e.0 es)) (tied_itself key_cmp_total e.0)),
-  all_from_each P es (second (below_all key_cmp e.0 es) _ sorted) (λ q x found. each q x (past_first (key_cmp q e.0) q x e es refl (first _ _ sorted) found)),
+all_from_each P (pair ∷ others) sorted each = (
+  each pair.0 pair.1 (ap (λ o. cond (is_eq o) (Some pair.1) (find key_cmp pair.0 others)) (tied_itself key_cmp_total pair.0)),
+  all_from_each P others (second (below_all key_cmp pair.0 others) _ sorted)
+      (λ thread info found. each thread info
+      (past_first (key_cmp thread pair.0) thread info pair others refl (first _ _ sorted) found)),
 )
 
 -- ---- the joined range
-one_ordered : (x : StreamFacts) → IsHonestSomehow x → 0 < x.num_scopes → ¬ (x.range_ns.1 <ℤ x.range_ns.0)
-one_ordered x honest some reversed =
-    not_there honest (λ p.
-    let h = p.1 in
-    let ordered = forest_range.ordered x.form p.0 h.stream.fits (omega (arith, h.counts.num_scopes)) in
-    omega (arith, ints, ordered, h.counts.least_start, h.counts.greatest_stop, reversed))
+one_ordered : (info : StreamFacts) → IsHonestSomehow info → 0 < info.num_scopes → ¬ (info.range_ns.1 <ℤ info.range_ns.0)
+one_ordered info honest some reversed =
+    not_there honest (λ spelled.
+    let is = spelled.1 in
+    let ordered = forest_range.ordered info.form spelled.0 is.stream.fits (omega (arith, is.counts.num_scopes)) in
+    omega (arith, ints, ordered, is.counts.least_start, is.counts.greatest_stop, reversed))
 
 not_above : (a b : ℤ) → ¬ (b <ℤ a) → a ≤ℤ b
-not_above a b h = grind (arith, ints)
+not_above a b not_less = grind (arith, ints)
 
-ordered_from : (n : ℕ) (x : StreamFacts) (xs : List StreamFacts) → x.num_scopes ≡ n → IsHonestSomehow x → 0 < total_scopes (x ∷ xs) → (0 < total_scopes xs → joined_start xs ≤ℤ joined_stop xs) → joined_start (x ∷ xs) ≤ℤ joined_stop (x ∷ xs)
-ordered_from zero x xs is honest some later =
-    let rest = later (omega (arith, total_scopes-one x xs)) in
-    omega (arith, ints, clamps, least_start-one x xs, greatest_stop-one x xs, rest)
-ordered_from (suc n) x xs is honest some later =
-    let here : x.range_ns.0 ≤ℤ x.range_ns.1 = not_above _ _ (one_ordered x honest (omega arith)) in
-    omega (arith, ints, clamps, least_start-one x xs, greatest_stop-one x xs, here)
+-- nor is the joined range, whether or not the first info has a scope
+ordered_from : (n : ℕ) (info : StreamFacts) (infos : List StreamFacts) →
+    info.num_scopes ≡ n → IsHonestSomehow info → 0 < total_scopes (info ∷ infos) →
+    (0 < total_scopes infos → joined_start infos ≤ℤ joined_stop infos) →
+    joined_start (info ∷ infos) ≤ℤ joined_stop (info ∷ infos)
+ordered_from zero info infos is honest some later =
+    let rest = later (omega (arith, total_scopes-one info infos)) in
+    omega (arith, ints, clamps, least_start-one info infos, greatest_stop-one info infos, rest)
+ordered_from (suc n) info infos is honest some later =
+    let here : info.range_ns.0 ≤ℤ info.range_ns.1 = not_above _ _ (one_ordered info honest (omega arith)) in
+    omega (arith, ints, clamps, least_start-one info infos, greatest_stop-one info infos, here)
 
-all_ordered : (xs : List StreamFacts) → AllByRecursion IsHonestSomehow xs → 0 < total_scopes xs → joined_start xs ≤ℤ joined_stop xs
+all_ordered : (infos : List StreamFacts) →
+    AllByRecursion IsHonestSomehow infos → 0 < total_scopes infos →
+    joined_start infos ≤ℤ joined_stop infos
 all_ordered [] all some = absurd (omega arith)
-all_ordered (x ∷ xs) all some = ordered_from x.num_scopes x xs refl all.0 some (all_ordered xs all.1)
+all_ordered (info ∷ infos) all some = ordered_from info.num_scopes info infos refl all.0 some (all_ordered infos all.1)
 
-pub ordered : (streams : Streams) → AreHonest streams → 0 < total_scopes (values streams) → IsOrdered (joined_range (values streams))
+pub ordered : (streams : Streams) →
+    AreHonest streams → 0 < total_scopes (values streams) →
+    IsOrdered (joined_range (values streams))
 ordered streams honest some =
-    all_ordered (values streams) (all_from_each IsHonestSomehow (entries streams) (entries_sorted streams) (λ q x found. honest q x (get-entries streams q ∙ found))) some
+    all_ordered (values streams) (all_from_each IsHonestSomehow (entries streams) (entries_sorted streams)
+    (λ thread info found. honest thread info (get-entries streams thread ∙ found))) some
 
 -- ---- no scope
-none_at_test : (b : Bool) (e : ThreadKey × StreamFacts) (r : StreamFacts) (o : Option StreamFacts) → e.1.num_scopes ≡ 0 → (o ≡ Some r → r.num_scopes ≡ 0) → cond b (Some e.1) o ≡ Some r → r.num_scopes ≡ 0
-none_at_test true e r o nothing later found = let same : e.1 ≡ r = cc in sym (ap (λ x. x.num_scopes) same) ∙ nothing
-none_at_test false e r o nothing later found = later found
+none_at_test : (b : Bool) (pair : ThreadKey × StreamFacts) (info : StreamFacts) (there : Option StreamFacts) →
+    pair.1.num_scopes ≡ 0 → (there ≡ Some info → info.num_scopes ≡ 0) → cond b (Some pair.1) there ≡ Some info →
+    info.num_scopes ≡ 0
+none_at_test true pair info there nothing later found =
+    let same : pair.1 ≡ info = cc in sym (ap (λ x. x.num_scopes) same) ∙ nothing
+none_at_test false pair info there nothing later found = later found
 
-none_of : (es : List (ThreadKey × StreamFacts)) (i : ThreadKey) (r : StreamFacts) → total_scopes (map (λ e. e.1) es) ≡ 0 → find key_cmp i es ≡ Some r → r.num_scopes ≡ 0
-none_of [] i r nothing found = absurd cc
-none_of (e ∷ es) i r nothing found =
-    let sum = total_scopes-one e.1 (map (λ f. f.1) es) in
-    none_at_test (is_eq (key_cmp i e.0)) e r (find key_cmp i es) (omega (arith, sum, nothing)) (none_of es i r (omega (arith, sum, nothing))) found
+-- in a sum of nothing each number is nothing
+none_of : (pairs : List (ThreadKey × StreamFacts)) (thread : ThreadKey) (info : StreamFacts) →
+    total_scopes (map (λ pair. pair.1) pairs) ≡ 0 → find key_cmp thread pairs ≡ Some info →
+    info.num_scopes ≡ 0
+none_of [] thread info nothing found = absurd cc
+none_of (pair ∷ others) thread info nothing found =
+    let sum = total_scopes-one pair.1 (map (λ f. f.1) others) in
+    none_at_test (is_eq (key_cmp thread pair.0)) pair info (find key_cmp thread others)
+    (omega (arith, sum, nothing)) (none_of others thread info (omega (arith, sum, nothing))) found
 
-pub no_scopes_there : (streams : Streams) (i : ThreadKey) (r : StreamFacts) → total_scopes (values streams) ≡ 0 → get streams i ≡ Some r → r.num_scopes ≡ 0
-no_scopes_there streams i r nothing found = none_of (entries streams) i r nothing (sym (get-entries streams i) ∙ found)
+pub no_scopes_there : (streams : Streams) (thread : ThreadKey) (info : StreamFacts) →
+    total_scopes (values streams) ≡ 0 → get streams thread ≡ Some info →
+    info.num_scopes ≡ 0
+no_scopes_there streams thread info nothing found =
+    none_of (entries streams) thread info nothing (sym (get-entries streams thread) ∙ found)

@@ -11,16 +11,26 @@ use Rattle.puffin_frames.proofs.Structs.{streams_reader}
 use Rattle.puffin_frames.proofs.Listed.{is_so}
 use Rattle.puffin_frames.proofs.FormsOfAll.{ordered_in, stored_in}
 
-from_entries_back : (m : Streams) → from_sorted {R = key_cmp} (entries m) ≡ m
-from_entries_back m = same_entries_map (from_sorted (entries m)) m (entries-from_sorted key_cmp (entries m) (entries_sorted m))
+from_entries_back : (streams : Streams) → from_sorted {R = key_cmp} (entries streams) ≡ streams
+from_entries_back streams =
+    same_entries_map (from_sorted (entries streams)) streams
+    (entries-from_sorted key_cmp (entries streams) (entries_sorted streams))
 
-pub packed_again : (m : Streams) → AreStreams (form_of_all (entries m)) (entries m) → streams_in (plainly_packed m) ≡ Some m
-packed_again m h =
-    let packed = form_of_all (entries m) in
-    ap (option_map from_sorted) (whole_again (AreStreams packed) (streams_layout packed) (streams_at packed) (streams_reader packed) (entries m) h) ∙ ap Some (from_entries_back m)
+-- streams that were packed are read from their layout
+pub packed_again : (streams : Streams) →
+    AreStreams (form_of_all (entries streams)) (entries streams) →
+    streams_in (plainly_packed streams) ≡ Some streams
+packed_again streams fit =
+    let packed = form_of_all (entries streams) in
+    ap (option_map from_sorted)
+    (whole_again (AreStreams packed) (streams_layout packed) (streams_at packed) (streams_reader packed) (entries streams) fit)
+    ∙ ap Some (from_entries_back streams)
 
 -- streams that have a layout are stored by it
-pub read_again : (m : Streams) → HaveLayout m → AreReadAgain m
-read_again m h =
-    let packed = form_of_all (entries m) in
-    packed_again m ((h.0, stored_in packed (entries m) refl h.1), ordered_in packed (entries m) refl (is_so _ (entries_sorted m)))
+pub read_again : (streams : Streams) → HaveLayout streams → AreReadAgain streams
+read_again streams laid_out =
+    let packed = form_of_all (entries streams) in
+    packed_again streams (
+      (laid_out.0, stored_in packed (entries streams) refl laid_out.1),
+      ordered_in packed (entries streams) refl (is_so _ (entries_sorted streams)),
+    )

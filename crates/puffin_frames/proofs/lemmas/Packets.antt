@@ -23,23 +23,35 @@ use Rattle.puffin_frames.specs.Packet.Grammar.{counted_part, packet_head, packet
 use Rattle.puffin_frames.proofs.Structs.{meta_reader, details_reader}
 use Rattle.puffin_frames.proofs.Writing.{meta_short}
 
-pub part_again : (n : ℕ) (t rest : List ℕ) → length t ≡ n → part_of n (t ++ rest) ≡ Ok (t, rest)
-part_again n t rest len =
-    let long : ltb (length (t ++ rest)) n ≡ false = le-ltb _ _ (omega (arith, length-append t rest, len)) in
-    rw (long, take_at t rest n len, drop_at t rest n len) refl
+-- a part is taken from the front of what it was put before
+pub part_again : (size : ℕ) (part rest : List ℕ) → length part ≡ size → part_of size (part ++ rest) ≡ Ok (part, rest)
+part_again size part rest len =
+    let long : ltb (length (part ++ rest)) size ≡ false = le-ltb _ _ (omega (arith, length-append part rest, len)) in
+    rw (long, take_at part rest size len, drop_at part rest size len) refl
 
-pub length_again : (n : ℕ) (rest : List ℕ) → n < 2 ^ 32 → part_length_at (little_bytes 4 n ++ rest) ≡ Ok (n, rest)
-length_again n rest h =
-    let back : little_number 4 (little_bytes 4 n ++ []) ≡ n = little_number-reads_back 4 n [] (omega arith) in
-    rw (part_again 4 (little_bytes 4 n) rest refl) (ap (λ (k : ℕ). Ok (k, rest)) back)
+-- so is a length, and a part with its length
+pub length_again : (size : ℕ) (rest : List ℕ) → size < 2 ^ 32 → part_length_at (little_bytes 4 size ++ rest) ≡ Ok (size, rest)
+length_again size rest fits =
+    let back : little_number 4 (little_bytes 4 size ++ []) ≡ size = little_number-reads_back 4 size [] (omega arith) in
+    rw (part_again 4 (little_bytes 4 size) rest refl) (ap (λ (read : ℕ). Ok (read, rest)) back)
 
-pub counted_again : (t rest : List ℕ) → length t < 2 ^ 32 → counted_part_at (counted_part t ++ rest) ≡ Ok (t, rest)
-counted_again t rest h =
-    ap counted_part_at (append_assoc (little_bytes 4 (length t)) t rest) ∙ rw (length_again (length t) (t ++ rest) h) (part_again (length t) t rest refl)
+pub counted_again : (part rest : List ℕ) →
+    length part < 2 ^ 32 →
+    counted_part_at (counted_part part ++ rest) ≡ Ok (part, rest)
+counted_again part rest short =
+    ap counted_part_at (append_assoc (little_bytes 4 (length part)) part rest)
+    ∙ rw (length_again (length part) (part ++ rest) short) (part_again (length part) part rest refl)
 
-pub meta_again : (p : PacketFields) (rest : List ℕ) → IsPacked p → meta_part_at (counted_part (meta_layout p.meta) ++ rest) ≡ Ok (p.meta, rest)
-meta_again p rest h =
-    rw (counted_again (meta_layout p.meta) rest (meta_short p.meta), whole_again IsMeta meta_layout meta_at meta_reader p.meta h.meta, h.range) refl
+-- each part of a packet is read again
+pub meta_again : (fields : PacketFields) (rest : List ℕ) →
+    IsPacked fields →
+    meta_part_at (counted_part (meta_layout fields.meta) ++ rest) ≡ Ok (fields.meta, rest)
+meta_again fields rest fits =
+    rw (
+      counted_again (meta_layout fields.meta) rest (meta_short fields.meta),
+      whole_again IsMeta meta_layout meta_at meta_reader fields.meta fits.meta,
+      fits.range,
+    ) refl
 
 -- a version that is written, with all parts, of streams of this form
 pub record IsWritten (form : Form) (version : Version) : Type 0 where
@@ -51,21 +63,49 @@ pub written : (form : Form) → IsWritten form (for_form form)
 written Short = record { kind = refl; details = refl; texts = refl }
 written Long = record { kind = refl; details = refl; texts = refl }
 
-streams_again : (p : PacketFields) (rest : List ℕ) → IsPacked p → streams_part_at (for_form p.form) (little_bytes 4 (length p.streams) ++ (to_byte p.kind ∷ (p.streams ++ rest))) ≡ Ok ((p.kind, p.streams), rest)
-streams_again p rest h =
-    rw ((written p.form).kind, length_again (length p.streams) (to_byte p.kind ∷ (p.streams ++ rest)) h.short, part_again 1 (to_byte p.kind ∷ []) (p.streams ++ rest) refl, from_byte-reads_back p.kind, part_again (length p.streams) p.streams rest refl) refl
+streams_again : (fields : PacketFields) (rest : List ℕ) →
+    IsPacked fields →
+    streams_part_at (for_form fields.form)
+    (little_bytes 4 (length fields.streams) ++ (to_byte fields.kind ∷ (fields.streams ++ rest)))
+    ≡ Ok ((fields.kind, fields.streams), rest)
+streams_again fields rest fits =
+    rw (
+      (written fields.form).kind,
+      length_again (length fields.streams) (to_byte fields.kind ∷ (fields.streams ++ rest)) fits.short,
+      part_again 1 (to_byte fields.kind ∷ []) (fields.streams ++ rest) refl,
+      from_byte-reads_back fields.kind,
+      part_again (length fields.streams) fields.streams rest refl,
+    ) refl
 
-details_again : (p : PacketFields) (rest : List ℕ) → IsPacked p → details_part_at (for_form p.form) (counted_part (details_layout p.details) ++ rest) ≡ Ok (p.details, rest)
-details_again p rest h =
-    rw ((written p.form).details, counted_again (details_layout p.details) rest h.details_short, whole_again AreDetails details_layout details_at details_reader p.details h.details) refl
+details_again : (fields : PacketFields) (rest : List ℕ) →
+    IsPacked fields →
+    details_part_at (for_form fields.form) (counted_part (details_layout fields.details) ++ rest)
+    ≡ Ok (fields.details, rest)
+details_again fields rest fits =
+    rw (
+      (written fields.form).details,
+      counted_again (details_layout fields.details) rest fits.details_short,
+      whole_again AreDetails details_layout details_at details_reader fields.details fits.details,
+    ) refl
 
-parts_again : (p : PacketFields) (rest : List ℕ) → IsPacked p
-    → packet_at (for_form p.form) (counted_part (meta_layout p.meta) ++ (little_bytes 4 (length p.streams) ++ (to_byte p.kind ∷ (p.streams ++ (counted_part (details_layout p.details) ++ rest))))) ≡ Ok (p, rest)
-parts_again p rest h =
-    let d = counted_part (details_layout p.details) ++ rest in
-    rw (meta_again p (little_bytes 4 (length p.streams) ++ (to_byte p.kind ∷ (p.streams ++ d))) h, streams_again p d h, details_again p rest h) (ap (λ (form : Form). Ok (record p { form = form }, rest)) (written p.form).texts)
+-- and so are all of them, one after the other
+parts_again : (fields : PacketFields) (rest : List ℕ) →
+    IsPacked fields →
+    packet_at (for_form fields.form) (counted_part (meta_layout fields.meta)
+    ++ (little_bytes 4 (length fields.streams)
+    ++ (to_byte fields.kind ∷ (fields.streams ++ (counted_part (details_layout fields.details) ++ rest)))))
+    ≡ Ok (fields, rest)
+parts_again fields rest fits =
+    let details = counted_part (details_layout fields.details) ++ rest in
+    rw (
+      meta_again fields (little_bytes 4 (length fields.streams) ++ (to_byte fields.kind ∷ (fields.streams ++ details))) fits,
+      streams_again fields details fits,
+      details_again fields rest fits,
+    ) (ap (λ (form : Form). Ok (record fields { form = form }, rest)) (written fields.form).texts)
 
-pub after_letters : (version : Version) (xs : List ℕ) → next_at (80 ∷ 70 ∷ 68 ∷ last_letter version ∷ xs) ≡ as_stored packed (packet_at version xs)
+-- the letters say in which version the rest is read
+pub after_letters : (version : Version) (xs : List ℕ) →
+    next_at (80 ∷ 70 ∷ 68 ∷ last_letter version ∷ xs) ≡ as_stored packed (packet_at version xs)
 unfolding next_at
 after_letters Pfd2 xs =
     let long : ltb (length (80 ∷ 70 ∷ 68 ∷ 50 ∷ xs)) 4 ≡ false = le-ltb _ _ (omega arith) in
@@ -81,35 +121,46 @@ after_letters PfdL xs =
     rw long refl
 
 -- a packet with its parts in a row
-pub in_a_row : (m l s d rest : List ℕ) (letter kind : ℕ) → ((((80 ∷ 70 ∷ 68 ∷ letter ∷ []) ++ (m ++ (l ++ (kind ∷ [])))) ++ s) ++ d) ++ rest ≡ 80 ∷ 70 ∷ 68 ∷ letter ∷ (m ++ (l ++ (kind ∷ (s ++ (d ++ rest)))))
-in_a_row m l s d rest letter kind = simp append_assoc
+pub in_a_row : (meta size streams details rest : List ℕ) (letter kind : ℕ) →
+    ((((80 ∷ 70 ∷ 68 ∷ letter ∷ []) ++ (meta ++ (size ++ (kind ∷ [])))) ++ streams) ++ details) ++ rest
+    ≡ 80 ∷ 70 ∷ 68 ∷ letter ∷ (meta ++ (size ++ (kind ∷ (streams ++ (details ++ rest)))))
+in_a_row meta size streams details rest letter kind = simp append_assoc
 
-pub packet_again : (p : PacketFields) (rest : List ℕ) → IsPacked p → next_at (packet p ++ rest) ≡ Ok (Some (packed p), rest)
+pub packet_again : (fields : PacketFields) (rest : List ℕ) →
+    IsPacked fields →
+    next_at (packet fields ++ rest) ≡ Ok (Some (packed fields), rest)
 unfolding packet_head
-packet_again p rest h =
-    let m = counted_part (meta_layout p.meta) in
-    let l = little_bytes 4 (length p.streams) in
-    let d = counted_part (details_layout p.details) in
-    ap next_at (in_a_row m l p.streams d rest (last_letter (for_form p.form)) (to_byte p.kind)) ∙ (after_letters (for_form p.form) (m ++ (l ++ (to_byte p.kind ∷ (p.streams ++ (d ++ rest))))) ∙ ap (as_stored packed) (parts_again p rest h))
+packet_again fields rest fits =
+    let meta = counted_part (meta_layout fields.meta) in
+    let size = little_bytes 4 (length fields.streams) in
+    let details = counted_part (details_layout fields.details) in
+    ap next_at (in_a_row meta size fields.streams details rest (last_letter (for_form fields.form)) (to_byte fields.kind))
+    ∙ (after_letters (for_form fields.form) (meta ++ (size ++ (to_byte fields.kind ∷ (fields.streams ++ (details ++ rest)))))
+    ∙ ap (as_stored packed) (parts_again fields rest fits))
 
+-- a reading gives one frame, so no packet begins another
 said_is : (a b : PacketFields) → packed a ≡ packed b → a ≡ b
-said_is a b e = cc
+said_is a b same = cc
 
 some_is : (a b : Stored) → Some a ≡ Some b → a ≡ b
-some_is a b e = cc
+some_is a b same = cc
 
+-- a reading's answer, closed so that it is compared as a whole
 found : Option Stored × List ℕ → Result (Option Stored × List ℕ) FileError
 found o = Ok o
 
-pair_is : (u v : Option Stored × List ℕ) → found u ≡ found v → u ≡ v
+pair_is : (one other : Option Stored × List ℕ) → found one ≡ found other → one ≡ other
 unfolding found
-pair_is u v e = cc
+pair_is one other same = cc
 
 one_frame : (a b : PacketFields) (x y : List ℕ) → found (Some (packed a), x) ≡ found (Some (packed b), y) → (a ≡ b) × (x ≡ y)
-one_frame a b x y e =
-    let same = pair_is (Some (packed a), x) (Some (packed b), y) e in
-    (said_is a b (some_is (packed a) (packed b) (ap (λ (t : Option Stored × List ℕ). t.0) same)), ap (λ (t : Option Stored × List ℕ). t.1) same)
+one_frame a b x y read =
+    let same = pair_is (Some (packed a), x) (Some (packed b), y) read in (
+      said_is a b (some_is (packed a) (packed b) (ap (λ (t : Option Stored × List ℕ). t.0) same)),
+      ap (λ (t : Option Stored × List ℕ). t.1) same,
+    )
 
 pub no_packet_begins_another : NoneBeginsAnother IsPacked packet
 unfolding found
-no_packet_begins_another a b x y fa fb e = one_frame a b x y (sym (packet_again a x fa) ∙ (ap next_at e ∙ packet_again b y fb))
+no_packet_begins_another a b x y fa fb e =
+    one_frame a b x y (sym (packet_again a x fa) ∙ (ap next_at e ∙ packet_again b y fb))

@@ -22,20 +22,29 @@ frame_streams frame = holding_streams (holding_of frame)
 abbrev pub frame_meta : FrameData → FrameMeta
 frame_meta frame = frame.meta
 
+-- the details of the scopes that are new in a frame
 abbrev pub frame_details : FrameData → List Details
 frame_details frame = shared_details frame.scope_delta.items
 
+-- the fields of a packet of these parts
 abbrev pub fields_from : FrameMeta → Packing → List Details → PacketFields
-fields_from meta p details =
-    record { meta = meta; form = p.form; kind = p.kind; streams = p.bytes; details = details }
+fields_from meta packed details = record {
+  meta = meta;
+  form = packed.form;
+  kind = packed.kind;
+  streams = packed.bytes;
+  details = details;
+}
 
 -- the fields of a frame's packet, however it is held
 abbrev pub packet_fields : FrameData → PacketFields
-packet_fields frame = fields_from (frame_meta frame) (packing_of (holding_of frame)) (frame_details frame)
+packet_fields frame =
+    fields_from (frame_meta frame) (packing_of (holding_of frame)) (frame_details frame)
 
 -- the streams in a packet, or why they can't be unpacked
 abbrev pub streams_in_fields : PacketFields → Result Streams FileError
-streams_in_fields c = unpacking (record { form = c.form; kind = c.kind; bytes = c.streams })
+streams_in_fields fields =
+    unpacking (record { form = fields.form; kind = fields.kind; bytes = fields.streams })
 
 -- whether a frame is held unpacked, and shares its data with no other
 abbrev pub is_alone : FrameData → Bool

@@ -16,27 +16,29 @@ use Rattle.puffin_frames.specs.Frame.Streams.{Streams}
 use Rattle.puffin_frames.specs.Packet.Kinds.{to_byte, is_uncompressed}
 use Rattle.puffin_frames.specs.Packet.Structs.{IsThreadKey, AreCounts, form_of_all, streams_layout, streams_at, AreStreams}
 
--- packed streams: the form of their packet, the kind, and the bytes
+-- packed streams: the form of their packet, how they are compressed, and their bytes
 pub record Packing : Type 0 where
   pub form : Form
   pub kind : Kind
   pub bytes : List ℕ
 
--- packed, unpacked, or both
+-- how streams are held: packed, unpacked, or both
 pub record Holding : Type 0 where
   pub packed : Option Packing
   pub unpacked : Option Streams
 
 -- the bytes are the layout of these streams, uncompressed
 abbrev pub HoldsStreams : Packing → Streams → Type 0
-HoldsStreams p streams =
-    (p.kind ≡ Uncompressed) × AreStreams p.form (entries streams)
-    × (p.bytes ≡ streams_layout p.form (entries streams))
+HoldsStreams packed streams =
+    (packed.kind ≡ Uncompressed)
+    × AreStreams packed.form (entries streams)
+    × (packed.bytes ≡ streams_layout packed.form (entries streams))
 
 -- the streams whose layout packed bytes are; none if they are compressed
 abbrev pub streams_in : Packing → Option Streams
-streams_in p =
-    if is_uncompressed p.kind then option_map from_sorted (whole (streams_at p.form) p.bytes)
+streams_in packed =
+    if is_uncompressed packed.kind
+    then option_map from_sorted (whole (streams_at packed.form) packed.bytes)
     else None
 
 -- streams packed, uncompressed
@@ -49,66 +51,75 @@ plainly_packed streams = record {
 
 -- streams that have a layout: their count and the numbers in each fit, names are UTF-8, and streams are bytes
 abbrev pub HaveLayout : Streams → Type 0
-HaveLayout streams = AreItems (λ (e : ThreadKey × StreamFacts). IsThreadKey e.0 × AreCounts e.1) (entries streams)
+HaveLayout streams =
+    AreItems (λ (entry : ThreadKey × StreamFacts). IsThreadKey entry.0 × AreCounts entry.1)
+    (entries streams)
 
 -- when packed, they are read back as the same streams
 abbrev pub AreReadAgain : Streams → Type 0
 AreReadAgain streams = streams_in (plainly_packed streams) ≡ Some streams
 
+-- the streams in what is packed, if anything is
 abbrev pub if_packed : Option Packing → Option Streams
 if_packed None = None
-if_packed (Some p) = streams_in p
+if_packed (Some packed) = streams_in packed
 
+-- the unpacked streams, or else those in what is packed
 abbrev pub either_content : Option Packing → Option Streams → Option Streams
-either_content p None = if_packed p
-either_content p (Some streams) = Some streams
+either_content packed None = if_packed packed
+either_content packed (Some streams) = Some streams
 
 -- the streams, whichever way they are held
 abbrev pub holding_streams : Holding → Option Streams
-holding_streams h = either_content h.packed h.unpacked
+holding_streams holding = either_content holding.packed holding.unpacked
 
 -- a frame is held in some way, and reading its packing gives its unpacked streams, if it has any
 abbrev pub Agree : Option Packing → Option Streams → Type 0
 Agree None None = ⊥
-Agree (Some p) None = Unit {0}
+Agree (Some packed) None = Unit {0}
 Agree None (Some streams) = AreReadAgain streams
-Agree (Some p) (Some streams) = streams_in p ≡ Some streams
+Agree (Some packed) (Some streams) = streams_in packed ≡ Some streams
 
+-- a way in which a frame can be held: the parts of it agree
 abbrev pub IsHolding : Holding → Type 0
-IsHolding h = Agree h.packed h.unpacked
+IsHolding holding = Agree holding.packed holding.unpacked
 
 -- the streams as a packet has them: packed ones are taken as they are
 abbrev pub packing : Option Packing → Option Streams → Packing
-packing (Some p) u = p
+packing (Some packed) unpacked = packed
 packing None (Some streams) = plainly_packed streams
 packing None None = record { form = Short; kind = Uncompressed; bytes = [] }
 
+-- the streams as the packet of a frame that is held so has them
 abbrev pub packing_of : Holding → Packing
-packing_of h = packing h.packed h.unpacked
+packing_of holding = packing holding.packed holding.unpacked
 
 -- held packed only
 abbrev pub as_packed : Holding → Holding
-as_packed h = record { packed = Some (packing_of h); unpacked = None }
+as_packed holding = record { packed = Some (packing_of holding); unpacked = None }
 
 -- also held unpacked, if there are contents
 abbrev pub as_unpacked : Holding → Holding
-as_unpacked h = record { packed = h.packed; unpacked = holding_streams h }
+as_unpacked holding = record { packed = holding.packed; unpacked = holding_streams holding }
 
--- the result of unpacking: the streams, or why there are none
+-- streams that were decoded, or the fault if there are none
 abbrev pub or_bad : Option Streams → Result Streams FileError
 or_bad None = Err file.BadStreams
 or_bad (Some streams) = Ok streams
 
+-- the streams in what is packed, or why they can't be unpacked: they are compressed, or their bytes are no layout
 abbrev pub unpacking : Packing → Result Streams FileError
-unpacking p =
-    if is_uncompressed p.kind
-    then or_bad (option_map from_sorted (whole (streams_at p.form) p.bytes))
-    else Err (file.Compressed (to_byte p.kind))
+unpacking packed =
+    if is_uncompressed packed.kind
+    then or_bad (option_map from_sorted (whole (streams_at packed.form) packed.bytes))
+    else Err (file.Compressed (to_byte packed.kind))
 
+-- the unpacked streams, or else what unpacking gives
 abbrev pub unpacked_of : Option Packing → Option Streams → Result Streams FileError
-unpacked_of p (Some streams) = Ok streams
-unpacked_of (Some p) None = unpacking p
+unpacked_of packed (Some streams) = Ok streams
+unpacked_of (Some packed) None = unpacking packed
 unpacked_of None None = Err file.BadStreams
 
+-- the streams that a frame returns which is held so, or why it can't
 abbrev pub unpacked_from : Holding → Result Streams FileError
-unpacked_from h = unpacked_of h.packed h.unpacked
+unpacked_from holding = unpacked_of holding.packed holding.unpacked

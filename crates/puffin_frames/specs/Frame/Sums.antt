@@ -24,6 +24,7 @@ abbrev pub joined_stop : List StreamFacts → ℤ
 joined_stop infos =
     fold (λ greatest info. int_max greatest info.range_ns.1) (negsuc (2 ^ 63 - 1)) infos
 
+-- the range from the least start to the greatest stop
 abbrev pub joined_range : List StreamFacts → ℤ × ℤ
 joined_range infos = (joined_start infos, joined_stop infos)
 
@@ -44,7 +45,7 @@ DurationFits range = FitsSigned w64 (range.1 -ℤ range.0)
 abbrev pub IsRange : ℤ × ℤ → Type 0
 IsRange range = IsOrdered range × DurationFits range
 
--- the infos make a frame
+-- a frame can be made of these infos: their totals fit, and their joined range is one that a frame can have
 pub record MakeFrame (infos : List StreamFacts) : Type 0 where
   pub totals : TotalsFit infos
   pub ordered : IsOrdered (joined_range infos)
@@ -52,12 +53,12 @@ pub record MakeFrame (infos : List StreamFacts) : Type 0 where
 
 -- Why no frame can be made from these infos: the first cause that applies.
 abbrev pub RefusesFrame : List StreamFacts → Error → Type 0
-RefusesFrame infos e =
-    ((e ≡ TooLarge) × ¬ TotalsFit infos)
-    ⊎ ((e ≡ Empty) × TotalsFit infos × ¬ IsOrdered (joined_range infos))
-    ⊎ ((e ≡ RangeTooLong) × TotalsFit infos × IsOrdered (joined_range infos)
+RefusesFrame infos cause =
+    ((cause ≡ TooLarge) × ¬ TotalsFit infos)
+    ⊎ ((cause ≡ Empty) × TotalsFit infos × ¬ IsOrdered (joined_range infos))
+    ⊎ ((cause ≡ RangeTooLong) × TotalsFit infos × IsOrdered (joined_range infos)
     × ¬ DurationFits (joined_range infos))
-    ⊎ ((e ≡ Memory) × MakeFrame infos)
+    ⊎ ((cause ≡ Memory) × MakeFrame infos)
 
 -- the meta of a frame with this index, made from these infos
 abbrev pub meta_of : ℕ → List StreamFacts → FrameMeta

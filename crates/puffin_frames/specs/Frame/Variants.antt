@@ -10,33 +10,39 @@ use Rattle.puffin_frames.specs.declared.frame_data.meta.FrameMeta.{FrameMeta}
 use Rattle.puffin_frames.specs.Frame.Holding.{Packing, Holding}
 use Rattle.puffin_frames.specs.Frame.Unpacked.{streams_held}
 
+-- packed streams as contracts see them
 abbrev pub packed_as : PackedStreams → Packing
-packed_as p = record { form = p.form; kind = p.kind; bytes = p.bytes.items }
+packed_as packed = record { form = packed.form; kind = packed.kind; bytes = packed.bytes.items }
 
+-- how a frame's streams are held, as contracts see it
 abbrev pub held_as : Held → Holding
-held_as (Own u) = record { packed = None; unpacked = Some (streams_held u) }
-held_as (Shared u) = record { packed = None; unpacked = Some (streams_held (arc_value u)) }
-held_as (Packed p) = record { packed = Some (packed_as p); unpacked = None }
-held_as (Both b) =
-    record { packed = Some (packed_as b.packed); unpacked = Some (streams_held (arc_value b.unpacked)) }
+held_as (Own frame) = record { packed = None; unpacked = Some (streams_held frame) }
+held_as (Shared frame) = record { packed = None; unpacked = Some (streams_held (arc_value frame)) }
+held_as (Packed packed) = record { packed = Some (packed_as packed); unpacked = None }
+held_as (Both both) = record {
+  packed = Some (packed_as both.packed);
+  unpacked = Some (streams_held (arc_value both.unpacked));
+}
 
 -- the meta of the unpacked data, if there is any
 abbrev pub held_meta : Held → Option FrameMeta
-held_meta (Own u) = Some u.meta
-held_meta (Shared u) = Some (arc_value u).meta
-held_meta (Packed p) = None
-held_meta (Both b) = Some (arc_value b.unpacked).meta
+held_meta (Own frame) = Some frame.meta
+held_meta (Shared frame) = Some (arc_value frame).meta
+held_meta (Packed packed) = None
+held_meta (Both both) = Some (arc_value both.unpacked).meta
 
--- unpacked data has this meta
+-- the unpacked data, if there is any, has this meta
 abbrev pub HasMeta : Held → FrameMeta → Type 0
-HasMeta h meta = IfSome (held_meta h) (λ m. m ≡ meta)
+HasMeta held meta = IfSome (held_meta held) (λ own_meta. own_meta ≡ meta)
 
+-- whether the streams are held unpacked, by this frame alone
 abbrev pub is_own : Held → Bool
-is_own (Own u) = true
+is_own (Own frame) = true
 is_own _ = false
 
-pub HasMeta-prop : (h : Held) (meta : FrameMeta) → IsProp (HasMeta h meta)
-HasMeta-prop (Own u) meta = Prim.hlevel props
-HasMeta-prop (Shared u) meta = Prim.hlevel props
-HasMeta-prop (Packed p) meta = Unit-prop
-HasMeta-prop (Both b) meta = Prim.hlevel props
+-- `HasMeta` has one proof at most, as a ghost field needs it
+pub HasMeta-prop : (held : Held) (meta : FrameMeta) → IsProp (HasMeta held meta)
+HasMeta-prop (Own frame) meta = Prim.hlevel props
+HasMeta-prop (Shared frame) meta = Prim.hlevel props
+HasMeta-prop (Packed packed) meta = Unit-prop
+HasMeta-prop (Both both) meta = Prim.hlevel props

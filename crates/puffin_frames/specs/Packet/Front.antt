@@ -6,7 +6,7 @@ use Rattle.puffin_data.specs.declared.file_error.FileError.{FileError}
 use Rattle.puffin_frames.specs.Packet.Stored.{Stored}
 use Rattle.puffin_frames.specs.Packet.Versions.{stored_after}
 
--- fewer than four bytes, or four zeros
+-- whether bytes are read as the end: fewer than four bytes, or four zeros
 abbrev pub is_end : List ℕ → Bool
 is_end bytes = nat_lt (length bytes) 4 || (little_number 4 bytes == 0)
 

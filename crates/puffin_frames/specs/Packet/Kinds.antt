@@ -18,20 +18,24 @@ from_byte byte =
     else if byte == 2 then Some Zstd
     else None
 
+-- whether packed bytes of this kind are the layout of the streams
 abbrev pub is_uncompressed : Kind → Bool
 is_uncompressed Uncompressed = true
 is_uncompressed Lz4 = false
 is_uncompressed Zstd = false
 
+-- a kind is read back from its byte
 pub from_byte-reads_back : (kind : Kind) → from_byte (to_byte kind) ≡ Some kind
 from_byte-reads_back Uncompressed = refl
 from_byte-reads_back Lz4 = refl
 from_byte-reads_back Zstd = refl
 
+-- the same where a byte of no kind stands for `Uncompressed`
 pub kind_again : (kind : Kind) → unwrap_or (from_byte (to_byte kind)) Uncompressed ≡ kind
 kind_again Uncompressed = refl
 kind_again Lz4 = refl
 kind_again Zstd = refl
 
+-- a kind as its byte, and back
 abbrev pub kind_code : Coded Kind
 kind_code = code_by ℕ coded_ℕ to_byte (λ byte. unwrap_or (from_byte byte) Uncompressed) kind_again

@@ -5,33 +5,43 @@ use Rattle.puffin_data.specs.declared.data.form.Form.TheVariants.{Short, Long}
 use Rattle.puffin_frames.specs.declared.frame_data.version.Version.{Version}
 use Rattle.puffin_frames.specs.declared.frame_data.version.Version.TheVariants.{Pfd2, Pfd3, Pfd4, PfdL}
 
+-- the letters and digits that versions begin with, as bytes: first `P`
 abbrev pub letter_p : ℕ
 letter_p = 80
 
+-- `F`
 abbrev pub letter_f : ℕ
 letter_f = 70
 
+-- `D`
 abbrev pub letter_d : ℕ
 letter_d = 68
 
+-- `0`
 abbrev pub digit_0 : ℕ
 digit_0 = 48
 
+-- `1`
 abbrev pub digit_1 : ℕ
 digit_1 = 49
 
+-- `2`
 abbrev pub digit_2 : ℕ
 digit_2 = 50
 
+-- `3`
 abbrev pub digit_3 : ℕ
 digit_3 = 51
 
+-- `4`
 abbrev pub digit_4 : ℕ
 digit_4 = 52
 
+-- `L`
 abbrev pub letter_l : ℕ
 letter_l = 76
 
+-- the letter after `PFD`
 abbrev pub last_letter : Version → ℕ
 last_letter Pfd2 = digit_2
 last_letter Pfd3 = digit_3
@@ -77,7 +87,7 @@ abbrev pub for_form : Form → Version
 for_form Short = Pfd4
 for_form Long = PfdL
 
--- a header begins with `PFD`
+-- whether a header begins with `PFD`
 abbrev pub is_packet : List ℕ → Bool
 is_packet header =
     (slice_index header 0 == letter_p) && (slice_index header 1 == letter_f) && (

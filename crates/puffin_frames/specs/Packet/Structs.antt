@@ -12,26 +12,35 @@ use Rattle.puffin_frames.specs.declared.frame_data.meta.FrameMeta.{FrameMeta}
 use Rattle.puffin_threads.specs.Thread.ThreadKey.{ThreadKey, key_cmp}
 use Rattle.puffin_threads.specs.Details.{Details}
 
+-- Of each struct: its bytes are `.._layout`. It has a layout if its numbers fit and its texts are UTF-8, as `Is..` and `Are..` say.
+-- `.._at` reads it at the front of bytes, and gives it with the bytes after it, or nothing. `made_..` makes it from its fields.
+
 -- ---- meta
 
+-- the bytes of a meta
 abbrev pub meta_layout : FrameMeta → List ℕ
-meta_layout m =
-    number m.frame_index
-    ++ (signed m.range_ns.0 ++ (signed m.range_ns.1 ++ (number m.num_bytes ++ number m.num_scopes)))
+meta_layout meta =
+    number meta.frame_index
+    ++ (signed meta.range_ns.0
+    ++ (signed meta.range_ns.1 ++ (number meta.num_bytes ++ number meta.num_scopes)))
 
+-- a meta that has a layout
 abbrev pub IsMeta : FrameMeta → Type 0
-IsMeta m =
-    IsLong m.frame_index
-    × (IsSigned m.range_ns.0 × (IsSigned m.range_ns.1 × (IsLong m.num_bytes × IsLong m.num_scopes)))
+IsMeta meta =
+    IsLong meta.frame_index
+    × (IsSigned meta.range_ns.0
+    × (IsSigned meta.range_ns.1 × (IsLong meta.num_bytes × IsLong meta.num_scopes)))
 
+-- a meta from its fields
 abbrev pub made_meta : ℕ × (ℤ × (ℤ × (ℕ × ℕ))) → FrameMeta
-made_meta p = record {
-  frame_index = p.0;
-  range_ns = (p.1.0, p.1.1.0);
-  num_bytes = p.1.1.1.0;
-  num_scopes = p.1.1.1.1;
+made_meta fields = record {
+  frame_index = fields.0;
+  range_ns = (fields.1.0, fields.1.1.0);
+  num_bytes = fields.1.1.1.0;
+  num_scopes = fields.1.1.1.1;
 }
 
+-- a meta at the front of bytes, and the bytes after it
 unfoldable pub meta_at : List ℕ → Option (FrameMeta × List ℕ)
 meta_at =
     seen_as made_meta (
@@ -39,58 +48,71 @@ meta_at =
 
 -- ---- a thread's info
 
+-- the bytes of a thread's info
 abbrev pub key_layout : ThreadKey → List ℕ
-key_layout t = optional signed t.start ++ block t.name
+key_layout thread = optional signed thread.start ++ block thread.name
 
+-- a thread whose info has a layout
 abbrev pub IsThreadKey : ThreadKey → Type 0
-IsThreadKey t = IfAny IsSigned t.start × IsText t.name
+IsThreadKey thread = IfAny IsSigned thread.start × IsText thread.name
 
+-- a thread's info from its fields
 abbrev pub made_key : Option ℤ × List ℕ → ThreadKey
-made_key p = record { start = p.0; name = p.1 }
+made_key fields = record { start = fields.0; name = fields.1 }
 
+-- a thread's info at the front of bytes, and the bytes after it
 unfoldable pub key_at : List ℕ → Option (ThreadKey × List ℕ)
 key_at = seen_as made_key (pair_at (optional_at signed_at) text_at)
 
 -- ---- a stream's form: one byte in packets of the long form, nothing in those of the short form, where all streams are short
 
+-- the form of a stream in a packet whose form comes first
 abbrev pub form_layout : Form → Form → List ℕ
 form_layout Short form = []
 form_layout Long form = flag (is_long form)
 
+-- a stream of this form may be in a packet of that form
 abbrev pub IsFormIn : Form → Form → Type 0
 IsFormIn Short form = form ≡ Short
 IsFormIn Long form = Unit {0}
 
+-- a stream's form at the front of bytes, and the bytes after it
 abbrev pub form_in_at : Form → List ℕ → Option (Form × List ℕ)
 form_in_at Short bytes = Some (Short, bytes)
 form_in_at Long bytes = seen_as form_of_flag flag_at bytes
 
--- ---- the info of a thread's scopes, in packets of a form
+-- ---- the info of a thread's scopes, in packets of the form `packed`
 
+-- the bytes of an info
 abbrev pub facts_layout : Form → StreamFacts → List ℕ
-facts_layout packed r =
-    form_layout packed r.form
-    ++ (block r.bytes
-    ++ (number r.num_scopes ++ (number r.depth ++ (signed r.range_ns.0 ++ signed r.range_ns.1))))
+facts_layout packed info =
+    form_layout packed info.form
+    ++ (block info.bytes
+    ++ (number info.num_scopes
+    ++ (number info.depth ++ (signed info.range_ns.0 ++ signed info.range_ns.1))))
 
--- its counts and its bytes
+-- the counts and the bytes of an info have a layout
 abbrev pub AreCounts : StreamFacts → Type 0
-AreCounts r =
-    IsBlock r.bytes
-    × (IsLong r.num_scopes × (IsLong r.depth × (IsSigned r.range_ns.0 × IsSigned r.range_ns.1)))
+AreCounts info =
+    IsBlock info.bytes
+    × (IsLong info.num_scopes
+    × (IsLong info.depth × (IsSigned info.range_ns.0 × IsSigned info.range_ns.1)))
 
+-- all of an info has a layout
 abbrev pub AreStreamFacts : Form → StreamFacts → Type 0
-AreStreamFacts packed r = IsFormIn packed r.form × AreCounts r
+AreStreamFacts packed info = IsFormIn packed info.form × AreCounts info
 
+-- an info from its fields
 abbrev pub made_facts : Form × (List ℕ × (ℕ × (ℕ × (ℤ × ℤ)))) → StreamFacts
-made_facts p = record {
-  form = p.0;
-  bytes = p.1.0;
-  num_scopes = p.1.1.0;
-  depth = p.1.1.1.0;
-  range_ns = p.1.1.1.1;
+made_facts fields = record {
+  form = fields.0;
+  bytes = fields.1.0;
+  num_scopes = fields.1.1.0;
+  depth = fields.1.1.1.0;
+  range_ns = fields.1.1.1.1;
 }
 
+-- an info at the front of bytes, and the bytes after it
 unfoldable pub facts_at : Form → List ℕ → Option (StreamFacts × List ℕ)
 facts_at packed =
     seen_as made_facts (
@@ -99,105 +121,129 @@ facts_at packed =
 
 -- ---- the streams of a frame: a map, as the list of its pairs in ascending order of key
 
--- whether some stream is long, and the form of packets that store all of them
+-- whether some stream is long
 abbrev pub some_long : List (ThreadKey × StreamFacts) → Bool
-some_long es = list_any (λ (e : ThreadKey × StreamFacts). is_long e.1.form) es
+some_long pairs = list_any (λ (entry : ThreadKey × StreamFacts). is_long entry.1.form) pairs
 
+-- the form of packets that store all of these streams
 abbrev pub form_of_all : List (ThreadKey × StreamFacts) → Form
-form_of_all es = form_of_flag (some_long es)
+form_of_all pairs = form_of_flag (some_long pairs)
 
 -- sorted, and in packets of the long form at least one is long
 abbrev pub are_ordered : Form → List (ThreadKey × StreamFacts) → Bool
-are_ordered Short es = is_sorted key_cmp es
-are_ordered Long es = is_sorted key_cmp es && some_long es
+are_ordered Short pairs = is_sorted key_cmp pairs
+are_ordered Long pairs = is_sorted key_cmp pairs && some_long pairs
 
+-- the bytes of streams
 abbrev pub streams_layout : Form → List (ThreadKey × StreamFacts) → List ℕ
 streams_layout packed = items (pair key_layout (facts_layout packed))
 
+-- streams that have a layout in packets of this form
 abbrev pub AreStreams : Form → List (ThreadKey × StreamFacts) → Type 0
-AreStreams packed es =
-    AreItems (λ (e : ThreadKey × StreamFacts). IsThreadKey e.0 × AreStreamFacts packed e.1) es
-    × (are_ordered packed es ≡ true)
+AreStreams packed pairs =
+    AreItems (λ (entry : ThreadKey × StreamFacts). IsThreadKey entry.0 × AreStreamFacts packed entry.1)
+    pairs
+    × (are_ordered packed pairs ≡ true)
 
+-- one stream, with its thread
 abbrev pub stream_at : Form → List ℕ → Option ((ThreadKey × StreamFacts) × List ℕ)
 stream_at packed = pair_at key_at (facts_at packed)
 
+-- streams at the front of bytes, and the bytes after them
 unfoldable pub streams_at : Form → List ℕ → Option (List (ThreadKey × StreamFacts) × List ℕ)
 streams_at packed = with_test (are_ordered packed) (items_at (stream_at packed))
 
 -- ---- scope details
 
+-- an id: a number from 1 on that fits 32 bits
 abbrev pub IsId : ℕ → Type 0
-IsId n = IsU32 n × (nat_lt 0 n ≡ true)
+IsId id = IsU32 id × (nat_lt 0 id ≡ true)
 
+-- an id at the front of bytes, and the bytes after it
 abbrev pub id_at : List ℕ → Option (ℕ × List ℕ)
-id_at = with_test (λ n. nat_lt 0 n) u32_at
+id_at = with_test (λ id. nat_lt 0 id) u32_at
 
+-- the bytes of one scope's details
 abbrev pub detail_layout : Details → List ℕ
-detail_layout d =
-    optional number d.id ++ (optional block d.scope_name
-    ++ (block d.function_name ++ (block d.file_path ++ number d.line_nr)))
+detail_layout details =
+    optional number details.id
+    ++ (optional block details.scope_name
+    ++ (block details.function_name ++ (block details.file_path ++ number details.line_nr)))
 
+-- details that have a layout
 abbrev pub IsDetail : Details → Type 0
-IsDetail d =
-    IfAny IsId d.id
-    × (IfAny IsText d.scope_name
-    × (IsText d.function_name × (IsText d.file_path × IsU32 d.line_nr)))
+IsDetail details =
+    IfAny IsId details.id
+    × (IfAny IsText details.scope_name
+    × (IsText details.function_name × (IsText details.file_path × IsU32 details.line_nr)))
 
+-- one scope's details from its fields
 abbrev pub made_detail : Option ℕ × (Option (List ℕ) × (List ℕ × (List ℕ × ℕ))) → Details
-made_detail p = record {
-  id = p.0;
-  scope_name = p.1.0;
-  function_name = p.1.1.0;
-  file_path = p.1.1.1.0;
-  line_nr = p.1.1.1.1;
+made_detail fields = record {
+  id = fields.0;
+  scope_name = fields.1.0;
+  function_name = fields.1.1.0;
+  file_path = fields.1.1.1.0;
+  line_nr = fields.1.1.1.1;
 }
 
+-- one scope's details at the front of bytes, and the bytes after it
 unfoldable pub detail_at : List ℕ → Option (Details × List ℕ)
 detail_at =
     seen_as made_detail (
     pair_at (optional_at id_at) (
     pair_at (optional_at text_at) (pair_at text_at (pair_at text_at u32_at))))
 
+-- the bytes of a list of details
 abbrev pub details_layout : List Details → List ℕ
 details_layout = items detail_layout
 
+-- a list of details that has a layout
 abbrev pub AreDetails : List Details → Type 0
 AreDetails = AreItems IsDetail
 
+-- a list of details at the front of bytes, and the bytes after it
 unfoldable pub details_at : List ℕ → Option (List Details × List ℕ)
 details_at = items_at detail_at
 
--- ---- a legacy frame: meta and streams in one, and all streams short
+-- ---- a legacy frame
 
+-- what a legacy frame stores: meta and streams in one part, where all streams are short
 pub record Legacy : Type 0 where
   pub meta : FrameMeta
   pub streams : List (ThreadKey × StreamFacts)
 
+-- the bytes of a legacy frame
 abbrev pub legacy_layout : Legacy → List ℕ
-legacy_layout l =
-    number l.meta.frame_index
-    ++ (streams_layout Short l.streams ++ (signed l.meta.range_ns.0 ++ (signed l.meta.range_ns.1
-    ++ (number l.meta.num_bytes ++ number l.meta.num_scopes))))
+legacy_layout frame =
+    number frame.meta.frame_index
+    ++ (streams_layout Short frame.streams
+    ++ (signed frame.meta.range_ns.0
+    ++ (signed frame.meta.range_ns.1
+    ++ (number frame.meta.num_bytes ++ number frame.meta.num_scopes))))
 
+-- a legacy frame that has a layout
 abbrev pub IsLegacy : Legacy → Type 0
-IsLegacy l =
-    IsLong l.meta.frame_index
-    × (AreStreams Short l.streams
-    × (IsSigned l.meta.range_ns.0
-    × (IsSigned l.meta.range_ns.1 × (IsLong l.meta.num_bytes × IsLong l.meta.num_scopes))))
+IsLegacy frame =
+    IsLong frame.meta.frame_index
+    × (AreStreams Short frame.streams
+    × (IsSigned frame.meta.range_ns.0
+    × (IsSigned frame.meta.range_ns.1
+    × (IsLong frame.meta.num_bytes × IsLong frame.meta.num_scopes))))
 
+-- a legacy frame from its fields
 abbrev pub made_legacy : ℕ × (List (ThreadKey × StreamFacts) × (ℤ × (ℤ × (ℕ × ℕ)))) → Legacy
-made_legacy p = record {
+made_legacy fields = record {
   meta = record {
-    frame_index = p.0;
-    range_ns = (p.1.1.0, p.1.1.1.0);
-    num_bytes = p.1.1.1.1.0;
-    num_scopes = p.1.1.1.1.1;
+    frame_index = fields.0;
+    range_ns = (fields.1.1.0, fields.1.1.1.0);
+    num_bytes = fields.1.1.1.1.0;
+    num_scopes = fields.1.1.1.1.1;
   };
-  streams = p.1.0;
+  streams = fields.1.0;
 }
 
+-- a legacy frame at the front of bytes, and the bytes after it
 unfoldable pub legacy_at : List ℕ → Option (Legacy × List ℕ)
 legacy_at =
     seen_as made_legacy (

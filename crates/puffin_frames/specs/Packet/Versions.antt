@@ -9,6 +9,7 @@ use Rattle.puffin_frames.specs.Packet.Stored.{PacketFields, Stored, packed, lega
 use Rattle.puffin_frames.specs.Packet.Letters.{digit_0, digit_1, from_letter, text_form, is_packet}
 use Rattle.puffin_frames.specs.Packet.Parts.{meta_part_at, streams_part_at, details_part_at, legacy_part_at}
 
+-- a packet of this version, from its meta on, and the bytes after it
 abbrev pub packet_at : Version → List ℕ → Result (PacketFields × List ℕ) FileError
 packet_at version bytes = do
   meta ← meta_part_at bytes
@@ -35,10 +36,11 @@ packet_if_read letter None bytes =
 abbrev pub version_at : ℕ → List ℕ → Result (PacketFields × List ℕ) FileError
 version_at letter bytes = packet_if_read letter (from_letter letter) bytes
 
+-- a reading of a packet or of a legacy frame as one of a stored frame
 abbrev pub as_stored : {A : Type 0} → (A → Stored) → Result (A × List ℕ) FileError →
     Result (Option Stored × List ℕ) FileError
-as_stored form (Ok p) = Ok (Some (form p.0), p.1)
-as_stored form (Err e) = Err e
+as_stored form (Ok read) = Ok (Some (form read.0), read.1)
+as_stored form (Err fault) = Err fault
 
 -- the frame that follows a header of four bytes other than four zeros
 abbrev pub stored_after : List ℕ → List ℕ → Result (Option Stored × List ℕ) FileError

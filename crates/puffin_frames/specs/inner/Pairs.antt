@@ -10,12 +10,13 @@ use Rattle.puffin_threads.specs.Thread.ThreadKey.{ThreadKey, key_cmp, key_entrie
 use Rattle.puffin_frames.specs.Frame.Streams.{records, without_sharing}
 
 -- what threads recorded, as a list of pairs in the order of the map's entries
-abbrev pub pairs_of : {A : Type 0} → List (ThreadInfo × Arc StreamInfo A) → List (ThreadKey × StreamFacts)
+abbrev pub pairs_of : {A : Type 0} → List (ThreadInfo × Arc StreamInfo A) →
+    List (ThreadKey × StreamFacts)
 pairs_of entries = key_entries (records (without_sharing entries))
 
--- what was read, if the keys are in ascending order
-abbrev pub rising : Option (List (ThreadKey × StreamFacts) × List ℕ) →
+-- the pairs that were read and the bytes after them, if the threads are in ascending order
+abbrev pub only_sorted : Option (List (ThreadKey × StreamFacts) × List ℕ) →
     Option (List (ThreadKey × StreamFacts) × List ℕ)
-rising read = do
-  es ← read
-  if is_sorted key_cmp es.0 then Some es else None
+only_sorted read = do
+  pairs ← read
+  if is_sorted key_cmp pairs.0 then Some pairs else None

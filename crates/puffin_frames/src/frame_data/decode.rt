@@ -1,4 +1,4 @@
-//! Decoding the parts of a packet.
+//! Decoding the parts of a packet: `read_` functions read at a cursor, and `_in` functions decode bytes that are one value alone.
 
 ghost use Rattle.std.specs.Prelude.{◌≡◌, ◌-◌, ℕ, ◌∷◌, ◌++◌, [], List, Option, Err, is_some, string_bytes, true, false, IfOk, IsTrue};
 ghost use Rattle.std.specs.Option.{option_map};
@@ -6,12 +6,12 @@ ghost use Rattle.std.specs.Cow.{cow_str_bytes};
 ghost use Rattle.std.specs.FinMap.{is_sorted};
 ghost use Rattle.puffin_data.specs.Honesty.{StreamFacts, facts_of};
 ghost use Rattle.puffin_data.specs.Value.Decoding.{whole, optional_at, signed_at, text_at, times_at};
-ghost use Rattle.puffin_frames.specs.inner.Stopping.{IfSomeGives, Passes, SeenAs, TriesToGive, Tries};
+ghost use Rattle.puffin_frames.specs.inner.Stopping.{DecodesOrStops, Reads, ReadsOrStops, Skips, legacy_from_parts};
 ghost use Rattle.puffin_frames.specs.declared.frame_data.decode.Stop.TheVariants.{Memory};
 ghost use Rattle.puffin_threads.specs.Thread.ThreadKey.{ThreadKey, key_of, key_cmp};
 ghost use Rattle.puffin_threads.specs.Details.{details_of, shared_details};
-ghost use Rattle.puffin_frames.specs.inner.Pairs.{pairs_of, rising};
-ghost use Rattle.puffin_frames.specs.Packet.Structs.{meta_at, key_at, form_in_at, facts_at, stream_at, streams_at, id_at, detail_at, details_at, legacy_at, Legacy};
+ghost use Rattle.puffin_frames.specs.inner.Pairs.{pairs_of, only_sorted};
+ghost use Rattle.puffin_frames.specs.Packet.Structs.{meta_at, key_at, form_in_at, facts_at, stream_at, streams_at, id_at, detail_at, details_at, legacy_at};
 
 use crate::frame_data::encode::packed_form;
 use crate::frame_data::meta::FrameMeta;
@@ -51,9 +51,10 @@ impl<T: Drop> From<AllocFailed<T>> for Stop {
     }
 }
 
+/// Reads a meta. Returns `None` if the bytes don't begin with its layout.
 #[tactic(auto, unfolding(crate::specs::Packet::Structs::meta_at))]
 fn read_meta(cursor: &mut Cursor) -> Option<FrameMeta>
-    ensures { IfSomeGives (λ m. m) result cursor.new (meta_at cursor.old) }
+    ensures { Reads result cursor.new (meta_at cursor.old) }
 {
     let frame_index = cursor.u64()?;
     let start = cursor.i64()?;
@@ -68,24 +69,26 @@ fn read_meta(cursor: &mut Cursor) -> Option<FrameMeta>
     })
 }
 
-/// Decodes a meta. All of the bytes must be its layout.
+/// Decodes a meta. Returns `None` unless all of the bytes are its layout.
 pub(crate) fn meta_in(bytes: &[u8]) -> Option<FrameMeta>
-    ensures { SeenAs (λ m. m) result (whole meta_at bytes.now) }
+    ensures { result ≡ whole meta_at bytes.now }
 {
     let mut cursor = Cursor::new(bytes);
     let meta = read_meta(&mut cursor)?;
     if cursor.rest() == 0 { Some(meta) } else { None }
 }
 
+/// Reads a text, and copies it.
 fn read_string(alloc: Global, cursor: &mut Cursor) -> Result<String, Stop>
-    ensures { TriesToGive (λ t. string_bytes t) result cursor.new (text_at cursor.old) }
+    ensures { ReadsOrStops (λ text. string_bytes text) result cursor.new (text_at cursor.old) }
 {
     let text = cursor.text().ok_or(Stop::NoLayout)?;
     Ok(String::from_str(alloc, text)?)
 }
 
+/// Reads a thread's start, which may be missing.
 fn read_start(cursor: &mut Cursor) -> Result<Option<NanoSecond>, Stop>
-    ensures { TriesToGive (λ o. o) result cursor.new (optional_at signed_at cursor.old) }
+    ensures { ReadsOrStops (λ start. start) result cursor.new (optional_at signed_at cursor.old) }
 {
     let given = cursor.flag().ok_or(Stop::NoLayout)?;
     if !given {
@@ -95,9 +98,10 @@ fn read_start(cursor: &mut Cursor) -> Result<Option<NanoSecond>, Stop>
     Ok(Some(start))
 }
 
+/// Reads a thread's info: its start, and then its name.
 #[tactic(auto, unfolding(crate::specs::Packet::Structs::key_at))]
 fn read_thread(alloc: Global, cursor: &mut Cursor) -> Result<ThreadInfo, Stop>
-    ensures { TriesToGive key_of result cursor.new (key_at cursor.old) }
+    ensures { ReadsOrStops key_of result cursor.new (key_at cursor.old) }
 {
     let start_time_ns = read_start(cursor)?;
     let name = read_string(alloc, cursor)?;
@@ -109,7 +113,7 @@ fn read_thread(alloc: Global, cursor: &mut Cursor) -> Result<ThreadInfo, Stop>
 
 /// Reads the form of a stream in a packet of form `packed`: a packet of the short form doesn't store it.
 fn read_form(cursor: &mut Cursor, packed: Form) -> Option<Form>
-    ensures { IfSomeGives (λ f. f) result cursor.new (form_in_at packed cursor.old) }
+    ensures { Reads result cursor.new (form_in_at packed cursor.old) }
 {
     match packed {
         Form::Short => Some(Form::Short),
@@ -120,10 +124,10 @@ fn read_form(cursor: &mut Cursor, packed: Form) -> Option<Form>
     }
 }
 
-/// Reads the info of a thread's scopes. Copies the stream as one block.
+/// Reads the info of a thread's scopes in a packet of form `packed`. Copies the stream as one block.
 #[tactic(auto, unfolding(crate::specs::Packet::Structs::facts_at))]
 fn read_facts(alloc: Global, cursor: &mut Cursor, packed: Form) -> Result<StreamInfo, Stop>
-    ensures { TriesToGive facts_of result cursor.new (facts_at packed cursor.old) }
+    ensures { ReadsOrStops facts_of result cursor.new (facts_at packed cursor.old) }
 {
     let form = read_form(cursor, packed).ok_or(Stop::NoLayout)?;
     let bytes = cursor.bytes().ok_or(Stop::NoLayout)?;
@@ -141,11 +145,11 @@ fn read_facts(alloc: Global, cursor: &mut Cursor, packed: Form) -> Result<Stream
 
 /// Returns whether a thread is ordered after all threads of the map.
 fn comes_last(streams: &ThreadStreams, thread: &ThreadInfo) -> bool
-    ensures yes { (r : StreamFacts) → is_sorted key_cmp (pairs_of streams.now.entries) ≡ true →
+    ensures yes { (info : StreamFacts) → is_sorted key_cmp (pairs_of streams.now.entries) ≡ true →
         IsTrue result →
-        is_sorted key_cmp (pairs_of streams.now.entries ++ (key_of thread.now, r) ∷ []) ≡ true }
-    ensures no { (r : StreamFacts) (rest : List (ThreadKey × StreamFacts)) → result ≡ false →
-        is_sorted key_cmp (pairs_of streams.now.entries ++ (key_of thread.now, r) ∷ rest)
+        is_sorted key_cmp (pairs_of streams.now.entries ++ (key_of thread.now, info) ∷ []) ≡ true }
+    ensures no { (info : StreamFacts) (rest : List (ThreadKey × StreamFacts)) → result ≡ false →
+        is_sorted key_cmp (pairs_of streams.now.entries ++ (key_of thread.now, info) ∷ rest)
         ≡ false }
 {
     match streams.last_key_value() {
@@ -154,12 +158,13 @@ fn comes_last(streams: &ThreadStreams, thread: &ThreadInfo) -> bool
     }
 }
 
+/// Reads a thread and the info of its scopes in a packet of form `packed`.
 fn read_stream(
     alloc: Global,
     cursor: &mut Cursor,
     packed: Form,
 ) -> Result<(ThreadInfo, StreamInfo), Stop>
-    ensures { TriesToGive (λ p. (key_of p.0, facts_of p.1)) result cursor.new (
+    ensures { ReadsOrStops (λ entry. (key_of entry.0, facts_of entry.1)) result cursor.new (
         stream_at packed cursor.old) }
 {
     let thread = read_thread(alloc, cursor)?;
@@ -167,15 +172,16 @@ fn read_stream(
     Ok((thread, info))
 }
 
+/// Reads `count` streams. Stops at a thread that isn't ordered after those before it.
 fn read_counted_streams(
     alloc: Global,
     cursor: &mut Cursor,
     packed: Form,
     count: u64,
 ) -> Result<ThreadStreams, Stop>
-    ensures given { TriesToGive (λ m. pairs_of m.entries) result cursor.new (
-        rising (times_at (stream_at packed) count cursor.old)) }
-    ensures sorted { IfOk result (λ m. is_sorted key_cmp (pairs_of m.entries) ≡ true) }
+    ensures given { ReadsOrStops (λ streams. pairs_of streams.entries) result cursor.new (
+        only_sorted (times_at (stream_at packed) count cursor.old)) }
+    ensures sorted { IfOk result (λ streams. is_sorted key_cmp (pairs_of streams.entries) ≡ true) }
 {
     let mut streams = BTreeMap::new(alloc);
     'streams: for _ in 0..count {
@@ -191,9 +197,9 @@ fn read_counted_streams(
 /// Reads streams in a packet of form `packed`. In a packet of the long form at least one stream must be long.
 #[tactic(auto, unfolding(crate::specs::Packet::Structs::streams_at))]
 fn read_streams(alloc: Global, cursor: &mut Cursor, packed: Form) -> Result<ThreadStreams, Stop>
-    ensures given { TriesToGive (λ m. pairs_of m.entries) result cursor.new (
+    ensures given { ReadsOrStops (λ streams. pairs_of streams.entries) result cursor.new (
         streams_at packed cursor.old) }
-    ensures sorted { IfOk result (λ m. is_sorted key_cmp (pairs_of m.entries) ≡ true) }
+    ensures sorted { IfOk result (λ streams. is_sorted key_cmp (pairs_of streams.entries) ≡ true) }
 {
     let count = cursor.u64().ok_or(Stop::NoLayout)?;
     let streams = read_counted_streams(alloc, cursor, packed, count)?;
@@ -208,8 +214,9 @@ fn read_streams(alloc: Global, cursor: &mut Cursor, packed: Form) -> Result<Thre
 
 /// Decodes streams of a packet of form `packed`. All of the bytes must be their layout.
 pub(crate) fn streams_in(alloc: Global, packed: Form, bytes: &[u8]) -> Result<ThreadStreams, Stop>
-    ensures given { Tries (λ m. pairs_of m.entries) result (whole (streams_at packed) bytes.now) }
-    ensures sorted { IfOk result (λ m. is_sorted key_cmp (pairs_of m.entries) ≡ true) }
+    ensures given { DecodesOrStops (λ streams. pairs_of streams.entries) result
+        (whole (streams_at packed) bytes.now) }
+    ensures sorted { IfOk result (λ streams. is_sorted key_cmp (pairs_of streams.entries) ≡ true) }
 {
     let mut cursor = Cursor::new(bytes);
     let streams = read_streams(alloc, &mut cursor, packed)?;
@@ -220,8 +227,9 @@ pub(crate) fn streams_in(alloc: Global, packed: Form, bytes: &[u8]) -> Result<Th
     }
 }
 
+/// Reads a scope's id, which may be missing. Returns `None` if the bytes don't begin with its layout.
 fn read_id(cursor: &mut Cursor) -> Option<Option<ScopeId>>
-    ensures { IfSomeGives (λ o. o) result cursor.new (optional_at id_at cursor.old) }
+    ensures { Reads result cursor.new (optional_at id_at cursor.old) }
 {
     if !cursor.flag()? {
         return Some(None);
@@ -230,8 +238,9 @@ fn read_id(cursor: &mut Cursor) -> Option<Option<ScopeId>>
     Some(Some(id))
 }
 
+/// Reads a scope's name, which may be missing, and copies it.
 fn read_name(alloc: Global, cursor: &mut Cursor) -> Result<Option<CowStr<'static>>, Stop>
-    ensures { TriesToGive (λ o. option_map cow_str_bytes o) result cursor.new (
+    ensures { ReadsOrStops (λ name. option_map cow_str_bytes name) result cursor.new (
         optional_at text_at cursor.old) }
 {
     let given = cursor.flag().ok_or(Stop::NoLayout)?;
@@ -242,9 +251,10 @@ fn read_name(alloc: Global, cursor: &mut Cursor) -> Result<Option<CowStr<'static
     Ok(Some(CowStr::Owned(name)))
 }
 
+/// Reads the details of one scope.
 #[tactic(auto, unfolding(crate::specs::Packet::Structs::detail_at))]
 fn read_detail(alloc: Global, cursor: &mut Cursor) -> Result<ScopeDetails, Stop>
-    ensures { TriesToGive details_of result cursor.new (detail_at cursor.old) }
+    ensures { ReadsOrStops details_of result cursor.new (detail_at cursor.old) }
 {
     let scope_id = read_id(cursor).ok_or(Stop::NoLayout)?;
     let scope_name = read_name(alloc, cursor)?;
@@ -265,12 +275,13 @@ fn read_detail(alloc: Global, cursor: &mut Cursor) -> Result<ScopeDetails, Stop>
     })
 }
 
+/// Reads the details of `count` scopes.
 fn read_counted_details(
     alloc: Global,
     cursor: &mut Cursor,
     count: u64,
 ) -> Result<Vec<Arc<ScopeDetails>>, Stop>
-    ensures { TriesToGive (λ v. shared_details v.items) result cursor.new (
+    ensures { ReadsOrStops (λ details. shared_details details.items) result cursor.new (
         times_at detail_at count cursor.old) }
 {
     let mut all = Vec::new(alloc);
@@ -281,17 +292,19 @@ fn read_counted_details(
     Ok(all)
 }
 
+/// Reads a list of scope details: their number, and then each of them.
 #[tactic(auto, unfolding(crate::specs::Packet::Structs::details_at))]
 fn read_details(alloc: Global, cursor: &mut Cursor) -> Result<Vec<Arc<ScopeDetails>>, Stop>
-    ensures { TriesToGive (λ v. shared_details v.items) result cursor.new (details_at cursor.old) }
+    ensures { ReadsOrStops (λ details. shared_details details.items) result cursor.new (
+        details_at cursor.old) }
 {
     let count = cursor.u64().ok_or(Stop::NoLayout)?;
     read_counted_details(alloc, cursor, count)
 }
 
-/// Skips an optional text. Like everything that skips here, allocates nothing.
+/// Skips a scope's name, which may be missing. Like everything that skips here, allocates nothing.
 fn pass_name(cursor: &mut Cursor) -> Option<()>
-    ensures { Passes result cursor.new (optional_at text_at cursor.old) }
+    ensures { Skips result cursor.new (optional_at text_at cursor.old) }
 {
     if cursor.flag()? {
         cursor.text()?;
@@ -302,7 +315,7 @@ fn pass_name(cursor: &mut Cursor) -> Option<()>
 /// Skips the details of one scope.
 #[tactic(auto, unfolding(crate::specs::Packet::Structs::detail_at))]
 fn pass_detail(cursor: &mut Cursor) -> Option<()>
-    ensures { Passes result cursor.new (detail_at cursor.old) }
+    ensures { Skips result cursor.new (detail_at cursor.old) }
 {
     read_id(cursor)?;
     pass_name(cursor)?;
@@ -314,7 +327,7 @@ fn pass_detail(cursor: &mut Cursor) -> Option<()>
 
 /// Skips the details of `count` scopes.
 fn pass_details(cursor: &mut Cursor, count: u64) -> Option<()>
-    ensures { Passes result cursor.new (times_at detail_at count cursor.old) }
+    ensures { Skips result cursor.new (times_at detail_at count cursor.old) }
 {
     'details: for _ in 0..count {
         pass_detail(cursor)?;
@@ -336,7 +349,8 @@ fn are_details(bytes: &[u8]) -> bool
 
 /// Decodes a list of scope details. All of the bytes must be its layout; other bytes are refused before any memory is taken.
 pub(crate) fn details_in(alloc: Global, bytes: &[u8]) -> Result<Vec<Arc<ScopeDetails>>, Stop>
-    ensures given { Tries (λ v. shared_details v.items) result (whole details_at bytes.now) }
+    ensures given { DecodesOrStops (λ details. shared_details details.items) result
+        (whole details_at bytes.now) }
     ensures memory { result ≡ Err Memory → is_some (whole details_at bytes.now) ≡ true }
 {
     if !are_details(bytes) {
@@ -345,11 +359,11 @@ pub(crate) fn details_in(alloc: Global, bytes: &[u8]) -> Result<Vec<Arc<ScopeDet
     read_details(alloc, &mut Cursor::new(bytes))
 }
 
+/// Reads the meta and the streams of a legacy frame. The streams come right after the number of the frame.
 #[tactic(auto, unfolding(crate::specs::Packet::Structs::legacy_at))]
 fn read_legacy(alloc: Global, cursor: &mut Cursor) -> Result<(FrameMeta, ThreadStreams), Stop>
-    ensures given { TriesToGive (λ p. record { meta = p.0; streams = pairs_of p.1.entries }) result
-        cursor.new (legacy_at cursor.old) }
-    ensures sorted { IfOk result (λ p. is_sorted key_cmp (pairs_of p.1.entries) ≡ true) }
+    ensures given { ReadsOrStops legacy_from_parts result cursor.new (legacy_at cursor.old) }
+    ensures sorted { IfOk result (λ frame. is_sorted key_cmp (pairs_of frame.1.entries) ≡ true) }
 {
     let frame_index = cursor.u64().ok_or(Stop::NoLayout)?;
     let streams = read_streams(alloc, cursor, Form::Short)?;
@@ -368,9 +382,8 @@ fn read_legacy(alloc: Global, cursor: &mut Cursor) -> Result<(FrameMeta, ThreadS
 
 /// Decodes the meta and the streams of a legacy frame. All of the bytes must be their layout.
 pub(crate) fn legacy_in(alloc: Global, bytes: &[u8]) -> Result<(FrameMeta, ThreadStreams), Stop>
-    ensures given { Tries (λ p. record { meta = p.0; streams = pairs_of p.1.entries }) result
-        (whole legacy_at bytes.now) }
-    ensures sorted { IfOk result (λ p. is_sorted key_cmp (pairs_of p.1.entries) ≡ true) }
+    ensures given { DecodesOrStops legacy_from_parts result (whole legacy_at bytes.now) }
+    ensures sorted { IfOk result (λ frame. is_sorted key_cmp (pairs_of frame.1.entries) ≡ true) }
 {
     let mut cursor = Cursor::new(bytes);
     let frame = read_legacy(alloc, &mut cursor)?;

@@ -30,7 +30,9 @@ pub struct FrameData {
     pub scope_delta: Vec<Arc<ScopeDetails>>,
     /// Whether `scope_delta` also has the details of all scopes known before.
     pub full_delta: bool,
+    /// The index and the totals, which stay the same however the streams are held.
     pub(crate) meta: FrameMeta,
+    /// The streams.
     pub(crate) held: Held,
     ghost ordered: { meta.range_ns.0 ≤ℤ meta.range_ns.1 },
     ghost duration_fits: { FitsSigned w64 (meta.range_ns.1 -ℤ meta.range_ns.0) },
@@ -84,7 +86,7 @@ impl FrameData {
             frame_meta frame
             ≡ meta_of frame_index (map.values (streams_of thread_streams.entries))) }
         ensures makes { OnOk result (MakeFrame (all_facts thread_streams)) }
-        ensures refusal { IfErr result (λ e. RefusesFrame (all_facts thread_streams) e) }
+        ensures refusal { IfErr result (λ cause. RefusesFrame (all_facts thread_streams) cause) }
     {
         let unpacked = UnpackedFrameData::new(alloc, frame_index, thread_streams)?;
         Ok(FrameData::from_unpacked(unpacked, scope_delta, full_delta))
@@ -229,11 +231,11 @@ impl FrameData {
             streams_in_fields (packet_fields self.old)) }
         // Unpacking gives the streams whose layout the packed bytes are.
         ensures layout { IfOk result (λ frame.
-            IfSome (holding_of self.old).packed (λ p.
-            HoldsStreams p (streams_held (arc_value frame)))) }
+            IfSome (holding_of self.old).packed (λ packed.
+            HoldsStreams packed (streams_held (arc_value frame)))) }
         ensures no_layout { result ≡ Err FileError.BadStreams →
-            IfSome (holding_of self.old).packed (λ p.
-            (streams : Streams) → HoldsStreams p streams → ⊥) }
+            IfSome (holding_of self.old).packed (λ packed.
+            (streams : Streams) → HoldsStreams packed streams → ⊥) }
         ensures meta { IfOk result (λ frame. (arc_value frame).meta ≡ frame_meta self.old) }
 
         // Only how the frame is held changes.
@@ -252,7 +254,7 @@ impl FrameData {
 
     /// Returns the size of the packed streams in bytes, or `None` if the frame isn't held packed.
     pub fn packed_size(&self) -> Option<usize>
-        ensures { result ≡ option_map (λ p. length p.bytes) (holding_of self.now).packed }
+        ensures { result ≡ option_map (λ packed. length packed.bytes) (holding_of self.now).packed }
     {
         match &self.held {
             Held::Own(_) | Held::Shared(_) => None,
@@ -277,7 +279,7 @@ impl FrameData {
             (option_map (λ _. (frame_meta self.now).num_bytes)
             (holding_of self.now).unpacked)
             0
-            + unwrap_or (option_map (λ p. length p.bytes) (holding_of self.now).packed) 0)
+            + unwrap_or (option_map (λ packed. length packed.bytes) (holding_of self.now).packed) 0)
             (2 ^ 64 - 1) }
     {
         let unpacked_size = self.unpacked_size().unwrap_or(0);
@@ -289,7 +291,7 @@ impl FrameData {
         ensures unpacked_size { result.unpacked_size
             ≡ option_map (λ _. (frame_meta self.now).num_bytes) (holding_of self.now).unpacked }
         ensures packed_size { result.packed_size
-            ≡ option_map (λ p. length p.bytes) (holding_of self.now).packed }
+            ≡ option_map (λ packed. length packed.bytes) (holding_of self.now).packed }
     {
         PackingInfo {
             unpacked_size: self.unpacked_size(),

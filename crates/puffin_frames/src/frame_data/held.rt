@@ -25,8 +25,11 @@ use std::sync::Arc;
 /// form, in which each stream's form comes before it.
 #[derive(Drop)]
 pub(crate) struct PackedStreams {
+    /// The form of their packet.
     pub(crate) form: Form,
+    /// How they are compressed.
     pub(crate) kind: Kind,
+    /// Their bytes in that packet.
     pub(crate) bytes: Vec<u8>,
     ghost are_bytes: { IsBytes bytes.items },
 }
@@ -34,7 +37,9 @@ pub(crate) struct PackedStreams {
 /// A frame that was packed and is held unpacked too.
 #[derive(Drop)]
 pub(crate) struct BothWays {
+    /// The unpacked data, shared with those who asked for it.
     pub(crate) unpacked: Arc<UnpackedFrameData>,
+    /// The same streams, packed.
     pub(crate) packed: PackedStreams,
     ghost same: { streams_in (record {
       form = packed.form;
@@ -168,7 +173,7 @@ impl Held {
         ensures streams { holding_streams (held_as result.0) ≡ holding_streams (held_as self) }
         ensures err { OnErr result.1 (result.0 ≡ self) }
         ensures meta { OnOk result.1 (held_meta result.0 ≡ None) }
-        ensures memory { IfErr result.1 (λ e. e ≡ Error.Memory) }
+        ensures memory { IfErr result.1 (λ cause. cause ≡ Error.Memory) }
     {
         match self {
             Held::Packed(packed) => (Held::Packed(packed), Ok(())),
@@ -203,12 +208,12 @@ impl Held {
         match self {
             Held::Own(frame) => Held::share(alloc, frame),
             Held::Shared(frame) => {
-                let same = Held::lent(&frame);
+                let same = Held::lend(&frame);
                 (Held::Shared(frame), same)
             }
             Held::Packed(packed) => Held::unpack_too(alloc, meta, packed),
             Held::Both(both) => {
-                let same = Held::lent(&both.unpacked);
+                let same = Held::lend(&both.unpacked);
                 (Held::Both(both), same)
             }
         }
@@ -228,8 +233,8 @@ impl Held {
         })
     }
 
-    /// Clones an `Arc` of unpacked data. Fails only with `Memory`.
-    fn lent(
+    /// Returns another `Arc` of the same unpacked data. Fails only with `Memory`.
+    fn lend(
         frame: &Arc<UnpackedFrameData>,
     ) -> std::result::Result<Arc<UnpackedFrameData>, FileError>
         ensures ok { IfOk result (λ same. arc_value same ≡ arc_value frame.now) }
@@ -248,11 +253,11 @@ impl Held {
             ≡ record { packed = None; unpacked = Some (streams_held frame) } }
         ensures meta { held_meta result.0 ≡ Some frame.meta }
         ensures ok { IfOk result.1 (λ same. arc_value same ≡ frame) }
-        ensures memory { IfErr result.1 (λ e. e ≡ FileError.Memory) }
+        ensures memory { IfErr result.1 (λ cause. cause ≡ FileError.Memory) }
     {
         match Arc::new(alloc, frame) {
             Ok(shared) => {
-                let same = Held::lent(&shared);
+                let same = Held::lend(&shared);
                 (Held::Shared(shared), same)
             }
             Err(refused) => (Held::Own(refused.value), Err(FileError::Memory)),
@@ -283,7 +288,7 @@ impl Held {
             Ok(unpacked) => unpacked,
             Err(cause) => return (Held::Packed(packed), Err(cause)),
         };
-        match Held::lent(&unpacked) {
+        match Held::lend(&unpacked) {
             Ok(same) => (Held::Both(BothWays { unpacked, packed }), Ok(same)),
             Err(cause) => (Held::Packed(packed), Err(cause)),
         }

@@ -41,22 +41,22 @@ pub fn only_layouts_are_read()
 /// Reading from the front of some bytes gives a frame exactly when they begin with bytes that store that frame: a packet as
 /// this crate writes it (`PFD4` or `PFDL`), a packet of an older version, or a legacy frame.
 pub fn only_packets_are_read()
-    ensures { (bytes rest : List ℕ) (s : Stored) → IsBytes bytes →
-        (next_at bytes ≡ Ok (Some s, rest))
-        ↔ ((front : List ℕ) × Stores front s × (bytes ≡ front ++ rest)) }
+    ensures { (bytes rest : List ℕ) (stored : Stored) → IsBytes bytes →
+        (next_at bytes ≡ Ok (Some stored, rest))
+        ↔ ((front : List ℕ) × Stores front stored × (bytes ≡ front ++ rest)) }
 {}
 
 /// Reading packed bytes gives streams exactly when the bytes are uncompressed and are the layout of those streams.
 pub fn packed_contents()
-    ensures { (p : Packing) (streams : Streams) → IsBytes p.bytes →
-        (streams_in p ≡ Some streams) ↔ HoldsStreams p streams }
+    ensures { (packing : Packing) (streams : Streams) → IsBytes packing.bytes →
+        (streams_in packing ≡ Some streams) ↔ HoldsStreams packing streams }
 {}
 
 /// Reading a written packet returns what was stored, whatever bytes follow it. No `PFD4` or `PFDL` packet is a prefix of
 /// another such packet.
 pub fn written_is_read()
-    ensures again { (p : PacketFields) (rest : List ℕ) → IsPacked p →
-        next_at (packet p ++ rest) ≡ Ok (Some (packed p), rest) }
+    ensures again { (fields : PacketFields) (rest : List ℕ) → IsPacked fields →
+        next_at (packet fields ++ rest) ≡ Ok (Some (packed fields), rest) }
     ensures alone { NoneBeginsAnother IsPacked packet }
 {}
 
@@ -76,8 +76,9 @@ pub fn each_frame_is_read_again()
 
 /// Packing and unpacking don't change a frame's streams. Packing a second time changes nothing.
 pub fn packing_keeps()
-    ensures packs { (h : Holding) → IsHolding h →
-        holding_streams (as_packed h) ≡ holding_streams h }
-    ensures unpacks { (h : Holding) → holding_streams (as_unpacked h) ≡ holding_streams h }
-    ensures twice { (h : Holding) → as_packed (as_packed h) ≡ as_packed h }
+    ensures packs { (holding : Holding) → IsHolding holding →
+        holding_streams (as_packed holding) ≡ holding_streams holding }
+    ensures unpacks { (holding : Holding) →
+        holding_streams (as_unpacked holding) ≡ holding_streams holding }
+    ensures twice { (holding : Holding) → as_packed (as_packed holding) ≡ as_packed holding }
 {}

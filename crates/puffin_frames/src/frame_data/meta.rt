@@ -77,8 +77,8 @@ impl FrameMeta {
         ensures ok { IfOk result (λ meta. meta ≡ meta_of frame_index (all_facts streams.now)) }
         ensures sorted { IsStrictlySortedBy thread_cmp (keys_of streams.now.entries) }
         ensures totals { IfOk result (λ _. TotalsFit (all_facts streams.now)) }
-        ensures err { IfErr result (λ e.
-            (e ≡ Error.TooLarge) × ¬ TotalsFit (all_facts streams.now)) }
+        ensures err { IfErr result (λ cause.
+            (cause ≡ Error.TooLarge) × ¬ TotalsFit (all_facts streams.now)) }
     {
         let mut meta = FrameMeta::empty(frame_index);
         for info in streams.values() {

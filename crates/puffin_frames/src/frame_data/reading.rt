@@ -9,7 +9,7 @@ ghost use Rattle.puffin_frames.specs.Packet.Structs.{details_at};
 ghost use Rattle.puffin_threads.specs.Details.{shared_details};
 ghost use Rattle.puffin_frames.specs.Frame.Contents.{holding_of, packet_fields};
 ghost use Rattle.puffin_frames.specs.Packet.Tries.{DecidedInMemory};
-ghost use Rattle.puffin_frames.specs.inner.Stopping.{Decided, HeaderFrom};
+ghost use Rattle.puffin_frames.specs.inner.Stopping.{GivesHeaderOrEnds};
 ghost use Rattle.puffin_frames.specs.Packet.Letters.{is_packet};
 ghost use Rattle.puffin_frames.specs.Packet.Parts.{meta_from, meta_part_at, kind_from, kind_at, details_from, details_part_at, streams_part_at, legacy_from, legacy_part_at};
 ghost use Rattle.puffin_frames.specs.Packet.Versions.{packet_at, version_at, stored_after};
@@ -32,10 +32,13 @@ use puffin_threads::scope_details::ScopeDetails;
 use std::alloc::Global;
 use std::sync::Arc;
 
-fn parsed_meta(bytes: &[u8]) -> Result<FrameMeta, FileError>
-    ensures decided { Decided (λ m. m) result (meta_from bytes.now) }
-    ensures ordered { IfOk result (λ m. m.range_ns.0 ≤ℤ m.range_ns.1) }
-    ensures duration_fits { IfOk result (λ m. FitsSigned w64 (m.range_ns.1 -ℤ m.range_ns.0)) }
+/// Decodes a meta. Fails with `BadMeta` unless all of the bytes are its layout, and with `BadRange` if its range is reversed or too
+/// long.
+fn parse_meta(bytes: &[u8]) -> Result<FrameMeta, FileError>
+    ensures decided { result ≡ meta_from bytes.now }
+    ensures ordered { IfOk result (λ meta. meta.range_ns.0 ≤ℤ meta.range_ns.1) }
+    ensures duration_fits { IfOk result (λ meta.
+        FitsSigned w64 (meta.range_ns.1 -ℤ meta.range_ns.0)) }
 {
     match meta_in(bytes) {
         None => Err(FileError::BadMeta),
@@ -49,22 +52,24 @@ fn parsed_meta(bytes: &[u8]) -> Result<FrameMeta, FileError>
     }
 }
 
-/// Reads a meta part.
+/// Reads the meta part of a packet.
 fn read_meta_part<S: Source>(alloc: Global, source: &mut S) -> Result<FrameMeta, FileError>
     requires { CanFail S.failures source.old }
-    ensures part { FromDevice (λ m. m) (S.remaining source.old) (S.remaining source.new) result
-        meta_part_at }
-    ensures ordered { IfOk result (λ m. m.range_ns.0 ≤ℤ m.range_ns.1) }
-    ensures duration_fits { IfOk result (λ m. FitsSigned w64 (m.range_ns.1 -ℤ m.range_ns.0)) }
+    ensures part { FromDevice (λ meta. meta) (S.remaining source.old) (S.remaining source.new)
+        result meta_part_at }
+    ensures ordered { IfOk result (λ meta. meta.range_ns.0 ≤ℤ meta.range_ns.1) }
+    ensures duration_fits { IfOk result (λ meta.
+        FitsSigned w64 (meta.range_ns.1 -ℤ meta.range_ns.0)) }
     ensures failures { S.failures source.new ≡ failures_after (S.failures source.old) result }
 {
     let bytes = read_counted_part(alloc, source)?;
-    let meta = parsed_meta(&bytes)?;
+    let meta = parse_meta(&bytes)?;
     Ok(meta)
 }
 
-fn kind_of(byte: u8) -> Result<Kind, FileError>
-    ensures { Decided (λ k. k) result (kind_from byte) }
+/// Returns the kind that packets store as this byte. Fails with `UnknownKind` if there is none.
+fn parse_kind(byte: u8) -> Result<Kind, FileError>
+    ensures { result ≡ kind_from byte }
 {
     match Kind::from_byte(byte) {
         Some(kind) => Ok(kind),
@@ -75,15 +80,15 @@ fn kind_of(byte: u8) -> Result<Kind, FileError>
 /// Reads the kind of the packed streams. A packet that doesn't store it has streams that were compressed by zstd.
 fn read_kind<S: Source>(source: &mut S, version: Version) -> Result<Kind, FileError>
     requires { CanFail S.failures source.old }
-    ensures part { FromDevice (λ k. k) (S.remaining source.old) (S.remaining source.new) result
-        (kind_at version) }
+    ensures part { FromDevice (λ kind. kind) (S.remaining source.old) (S.remaining source.new)
+        result (kind_at version) }
     ensures failures { S.failures source.new ≡ failures_after (S.failures source.old) result }
 {
     if !version.has_kind() {
         return Ok(Kind::Zstd);
     }
     let byte = read_byte(source)?;
-    kind_of(byte)
+    parse_kind(byte)
 }
 
 /// Reads the packed streams: their length, their kind and their bytes.
@@ -93,7 +98,7 @@ fn read_streams_part<S: Source>(
     version: Version,
 ) -> Result<(Kind, Vec<u8>), FileError>
     requires { CanFail S.failures source.old }
-    ensures part { FromDevice (λ p. (p.0, p.1.items)) (S.remaining source.old)
+    ensures part { FromDevice (λ streams. (streams.0, streams.1.items)) (S.remaining source.old)
         (S.remaining source.new) result (streams_part_at version) }
     ensures failures { S.failures source.new ≡ failures_after (S.failures source.old) result }
 {
@@ -103,8 +108,9 @@ fn read_streams_part<S: Source>(
     Ok((kind, streams))
 }
 
-fn parsed_details(alloc: Global, bytes: &[u8]) -> Result<Vec<Arc<ScopeDetails>>, FileError>
-    ensures { DecidedInMemory (λ v. shared_details v.items) result (
+/// Decodes a list of scope details. Fails with `BadScopes` unless all of the bytes are its layout, and with `Memory`.
+fn parse_details(alloc: Global, bytes: &[u8]) -> Result<Vec<Arc<ScopeDetails>>, FileError>
+    ensures { DecidedInMemory (λ details. shared_details details.items) result (
         details_from (whole details_at bytes.now)) }
 {
     match details_in(alloc, bytes) {
@@ -121,7 +127,7 @@ fn read_details_part<S: Source>(
     version: Version,
 ) -> Result<Vec<Arc<ScopeDetails>>, FileError>
     requires { CanFail S.failures source.old }
-    ensures part { FromDevice (λ v. shared_details v.items) (S.remaining source.old)
+    ensures part { FromDevice (λ details. shared_details details.items) (S.remaining source.old)
         (S.remaining source.new) result (details_part_at version) }
     ensures failures { S.failures source.new ≡ failures_after (S.failures source.old) result }
 {
@@ -129,7 +135,7 @@ fn read_details_part<S: Source>(
         return Ok(Vec::new(alloc));
     }
     let part = read_counted_part(alloc, source)?;
-    parsed_details(alloc, &part)
+    parse_details(alloc, &part)
 }
 
 /// Reads the parts of a packet of this version, whose letters have been read already.
@@ -182,7 +188,9 @@ fn read_version<S: Source>(
     }
 }
 
-fn parsed_legacy(alloc: Global, bytes: &[u8]) -> Result<FrameData, FileError>
+/// Decodes a legacy frame. Fails with `BadStreams` unless all of the bytes are its layout, with `BadRange` if its range is reversed
+/// or too long, and with `Memory`.
+fn parse_legacy(alloc: Global, bytes: &[u8]) -> Result<FrameData, FileError>
     ensures decided { DecidedInMemory legacy_of result (legacy_from bytes.now) }
     ensures unpacked { IfOk result (λ frame. (holding_of frame).packed ≡ None) }
     ensures fresh { IfOk result IsFresh }
@@ -216,14 +224,14 @@ fn read_legacy_part<S: Source>(
     ensures failures { S.failures source.new ≡ failures_after (S.failures source.old) result }
 {
     let part = read_part(alloc, source, len)?;
-    parsed_legacy(alloc, &part)
+    parse_legacy(alloc, &part)
 }
 
-/// Reads the four bytes before a frame. Returns `None` at the end.
+/// Reads a header, the four bytes before a frame. Returns `None` at the end: if fewer are left, or they are zeros.
 fn read_header<S: Source>(source: &mut S) -> Result<Option<[u8; 4]>, FileError>
     requires { CanFail S.failures source.old }
-    ensures header { IfOk result (λ o.
-        HeaderFrom (S.remaining source.old) (S.remaining source.new) o) }
+    ensures header { IfOk result (λ header.
+        GivesHeaderOrEnds (S.remaining source.old) (S.remaining source.new) header) }
     ensures io { IsOkUnless result FileError.Io }
     ensures failures { S.failures source.new ≡ failures_after (S.failures source.old) result }
 {
@@ -244,7 +252,7 @@ fn is_packet_header(header: [u8; 4]) -> bool
     header[0] == b'P' && header[1] == b'F' && header[2] == b'D'
 }
 
-/// Reads the frame that follows a header.
+/// Reads the frame that follows a header: the rest of a packet, or a legacy frame of the length that the header gives.
 fn read_stored<S: Source>(
     alloc: Global,
     source: &mut S,

@@ -28,7 +28,7 @@ const FIRST_ROOM: usize = 256;
 pub type ThreadStreams = BTreeMap<ThreadInfo, Arc<StreamInfo>>;
 
 /// Moves each stream into an `Arc`. Fails only with `Memory`.
-pub(crate) fn shared(
+pub(crate) fn share_streams(
     alloc: Global,
     streams: BTreeMap<ThreadInfo, StreamInfo>,
 ) -> Result<ThreadStreams>
@@ -75,22 +75,22 @@ fn extend_shared(alloc: Global, shared: &mut Arc<StreamInfo>, times: &StreamInfo
         × (2 ^ 64 ≤ (arc_value shared.old).num_scopes + times.now.num_scopes)) }
     ensures err { OnErr result (
         facts_of (arc_value shared.new) ≡ facts_of (arc_value shared.old)) }
-    ensures cause { IfErr result (λ e.
-        (e ≡ Error.UnlikeForms) ⊎ (e ≡ Error.TooLarge) ⊎ (e ≡ Error.Memory)) }
+    ensures cause { IfErr result (λ cause.
+        (cause ≡ Error.UnlikeForms) ⊎ (cause ≡ Error.TooLarge) ⊎ (cause ≡ Error.Memory)) }
 {
     if let Some(alone) = Arc::get_mut(shared) {
         alone.extend(times)?;
         counts_fit(alone);
         return Ok(());
     }
-    *shared = extended(alloc, shared, times)?;
+    *shared = extend_copy(alloc, shared, times)?;
     Ok(())
 }
 
 /// Copies an info and appends another's scopes to the copy. Fails as [`StreamInfo::extend`] does.
 #[cold]
 #[inline(never)]
-fn extended(alloc: Global, info: &StreamInfo, times: &StreamInfoRef) -> Result<Arc<StreamInfo>>
+fn extend_copy(alloc: Global, info: &StreamInfo, times: &StreamInfoRef) -> Result<Arc<StreamInfo>>
     ensures ok { IfOk result (λ copy.
         facts_of (arc_value copy)
         ≡ joined_facts (facts_of info.now) (facts_of_ref times.now)) }
@@ -100,8 +100,8 @@ fn extended(alloc: Global, info: &StreamInfo, times: &StreamInfoRef) -> Result<A
     ensures too_large { (result ≡ Err Error.TooLarge)
         ↔ ((¬ AreUnlike (facts_of info.now) (facts_of_ref times.now))
         × (2 ^ 64 ≤ info.now.num_scopes + times.now.num_scopes)) }
-    ensures cause { IfErr result (λ e.
-        (e ≡ Error.UnlikeForms) ⊎ (e ≡ Error.TooLarge) ⊎ (e ≡ Error.Memory)) }
+    ensures cause { IfErr result (λ cause.
+        (cause ≡ Error.UnlikeForms) ⊎ (cause ≡ Error.TooLarge) ⊎ (cause ≡ Error.Memory)) }
 {
     if info.is_unlike(times) {
         return Err(Error::UnlikeForms);
@@ -140,7 +140,7 @@ fn fresh_info(alloc: Global, bytes: usize) -> StreamInfo
     fresh
 }
 
-/// A law: a number fits its type.
+/// Does nothing. The contract states what the type guarantees: a number fits `usize`.
 fn fits(number: usize)
     ensures { number < 2 ^ 64 }
 {}
@@ -215,8 +215,8 @@ pub fn report_to(
         + times.now.num_scopes)) }
     ensures err { OnErr result (
         shared_streams streams.new.entries ≡ shared_streams streams.old.entries) }
-    ensures cause { IfErr result (λ e.
-        (e ≡ Error.UnlikeForms) ⊎ (e ≡ Error.TooLarge) ⊎ (e ≡ Error.Memory)) }
+    ensures cause { IfErr result (λ cause.
+        (cause ≡ Error.UnlikeForms) ⊎ (cause ≡ Error.TooLarge) ⊎ (cause ≡ Error.Memory)) }
 {
     if let Some(shared) = streams.get_mut(&info) {
         return extend_shared(alloc, shared, times);

@@ -5,7 +5,7 @@ ghost use Rattle.puffin_frames.specs.Frame.Streams.{shared_streams, streams_code
 ghost use Rattle.puffin_frames.specs.Frame.Holding.{AreReadAgain};
 
 use crate::frame_data::meta::FrameMeta;
-use crate::frame_data::thread_streams::{ThreadStreams, shared, streams_copy};
+use crate::frame_data::thread_streams::{ThreadStreams, share_streams, streams_copy};
 use puffin_data::data::{StreamInfo, is_valid_range};
 use puffin_data::{Error, FrameIndex, NanoSecond, Result};
 use puffin_threads::thread_profiler::ThreadInfo;
@@ -54,7 +54,7 @@ impl UnpackedFrameData {
             frame.meta ≡ meta_of frame_index (map.values (streams_held frame))) }
 
         ensures makes { OnOk result (MakeFrame (all_facts thread_streams)) }
-        ensures refusal { IfErr result (λ e. RefusesFrame (all_facts thread_streams) e) }
+        ensures refusal { IfErr result (λ cause. RefusesFrame (all_facts thread_streams) cause) }
     {
         let meta = FrameMeta::from_streams(frame_index, &thread_streams)?;
         let (start, stop) = meta.range_ns;
@@ -66,7 +66,7 @@ impl UnpackedFrameData {
         }
         Ok(UnpackedFrameData {
             meta,
-            thread_streams: shared(alloc, thread_streams)?,
+            thread_streams: share_streams(alloc, thread_streams)?,
         })
     }
 

@@ -37,8 +37,8 @@ fn write_both<D: Drain>(drain: &mut D, first: &[u8], second: &[u8]) -> Result<()
     ensures err { OnErr result (
         WritesBeginning (D.contents drain.old) (D.contents drain.new) (
         first.now ++ second.now)) }
-    ensures io { IfErr result (λ e.
-        (e ≡ FileError.Io)
+    ensures io { IfErr result (λ cause.
+        (cause ≡ FileError.Io)
         × ((D.failures drain.new ≡ D.failures drain.old + 1) ⊎ TookNothing D.takes drain.new)) }
     ensures failures { OnOk result (D.failures drain.new ≡ D.failures drain.old) }
 {
@@ -159,10 +159,10 @@ impl FrameData {
         ensures ok { IfOk result (λ bytes.
             bytes.items ≡ details_layout (
             details_or (frame_details self.now) (
-            option_map (λ c. c.now) scopes.entry))) }
+            option_map (λ given. given.now) scopes.entry))) }
         ensures fit { OnOk result (
             AreDetails (
-            details_or (frame_details self.now) (option_map (λ c. c.now) scopes.entry))) }
+            details_or (frame_details self.now) (option_map (λ given. given.now) scopes.entry))) }
         ensures memory { IsOkUnless result FileError.Memory }
     {
         let alloc = *self.scope_delta.allocator();
@@ -190,11 +190,12 @@ impl FrameData {
     ) -> Result<(), FileError>
         requires { CanFail D.failures drain.old }
         ensures written { WritesPacket D.contents D.failures D.takes drain.old drain.new
-            (packet (fields_with self.now (option_map (λ c. c.now) scopes.entry)))
-            (HasLongPart (fields_with self.now (option_map (λ c. c.now) scopes.entry))) result }
+            (packet (fields_with self.now (option_map (λ given. given.now) scopes.entry)))
+            (HasLongPart (fields_with self.now (option_map (λ given. given.now) scopes.entry)))
+            result }
         // A packet that is written can be read again.
         ensures packed { OnOk result (
-            IsPacked (fields_with self.now (option_map (λ c. c.now) scopes.entry))) }
+            IsPacked (fields_with self.now (option_map (λ given. given.now) scopes.entry))) }
     {
         let alloc = *self.scope_delta.allocator();
         let details = self.details_part(scopes)?;

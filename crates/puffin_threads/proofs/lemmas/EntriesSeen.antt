@@ -23,63 +23,98 @@ pub entries-empty : {L Y : Type 0} (R : L → L → Ordering) → entries (empty
 entries-empty {Y = Y} R = no_length _ (sym (len-entries (empty {X = Y} {R = R})) ∙ len-empty R Y)
 
 module _ {K L X Y : Type 0} (f : K → L) (g : X → Y) where
+  -- the entries, with their keys and values read
   abbrev pub seen : List (K × X) → List (L × Y)
   seen es = map (λ e. (f e.0, g e.1)) es
 
   -- clones are seen alike
-  pub seen_from_clone : (C : K → K → Type 0) (D : X → X → Type 0) → ((a b : K) → C a b → f b ≡ f a) → ((v w : X) → D v w → g w ≡ g v) → (es fs : List (K × X)) → AllZip (λ p q. C p.0 q.0 × D p.1 q.1) es fs → seen fs ≡ seen es
+  pub seen_from_clone :
+      (C : K → K → Type 0) (D : X → X → Type 0) → ((a b : K) → C a b → f b ≡ f a) → ((v w : X) → D v w → g w ≡ g v) →
+      (entries fs : List (K × X)) →
+      AllZip (λ p q. C p.0 q.0 × D p.1 q.1) entries fs →
+      seen fs ≡ seen entries
   seen_from_clone C D keys values [] [] a = refl
   seen_from_clone C D keys values [] (y ∷ ys) a = absurd a
   seen_from_clone C D keys values (x ∷ xs) [] a = absurd a
-  seen_from_clone C D keys values (x ∷ xs) (y ∷ ys) a = λ i. (keys x.0 y.0 a.0.0 i, values x.1 y.1 a.0.1 i) ∷ seen_from_clone C D keys values xs ys a.1 i
+  seen_from_clone C D keys values (x ∷ xs) (y ∷ ys) a =
+      λ i. (keys x.0 y.0 a.0.0 i, values x.1 y.1 a.0.1 i) ∷ seen_from_clone C D keys values xs ys a.1 i
 
   module _ (R : L → L → Ordering) where
-    at_order : (r : Ordering) (k : K) (v : X) (e : K × X) (es : List (K × X)) → seen (insert_entry (λ a b. R (f a) (f b)) es k v) ≡ put R (f k) (g v) (seen es)
-        → seen (match_ordering r ((k, v) ∷ (e ∷ es)) ((e.0, v) ∷ es) (e ∷ insert_entry (λ a b. R (f a) (f b)) es k v)) ≡ by_order r ((f k, g v) ∷ ((f e.0, g e.1) ∷ seen es)) ((f e.0, g v) ∷ seen es) ((f e.0, g e.1) ∷ put R (f k) (g v) (seen es))
-    at_order Less k v e es later = refl
-    at_order Equal k v e es later = refl
-    at_order Greater k v e es later = ap (λ fs. (f e.0, g e.1) ∷ fs) later
+    -- an insertion among the entries is one among those that are seen, whatever the order of the first key
+    at_order : (order : Ordering) (key : K) (value : X) (entry : K × X) (entries : List (K × X)) →
+        seen (insert_entry (λ a b. R (f a) (f b)) entries key value) ≡ put R (f key) (g value) (seen entries) →
+        seen (match_ordering order ((key, value) ∷ (entry ∷ entries)) ((entry.0, value) ∷ entries)
+        (entry ∷ insert_entry (λ a b. R (f a) (f b)) entries key value))
+        ≡ by_order order ((f key, g value) ∷ ((f entry.0, g entry.1) ∷ seen entries))
+        ((f entry.0, g value) ∷ seen entries) ((f entry.0, g entry.1) ∷ put R (f key) (g value) (seen entries))
+    at_order Less key value entry entries later = refl
+    at_order Equal key value entry entries later = refl
+    at_order Greater key value entry entries later = ap (λ seen_later. (f entry.0, g entry.1) ∷ seen_later) later
 
-    seen-insert : (es : List (K × X)) (k : K) (v : X) → seen (insert_entry (λ a b. R (f a) (f b)) es k v) ≡ put R (f k) (g v) (seen es)
-    seen-insert [] k v = refl
-    seen-insert (e ∷ es) k v = at_order (R (f k) (f e.0)) k v e es (seen-insert es k v)
+    seen-insert : (entries : List (K × X)) (key : K) (value : X) →
+        seen (insert_entry (λ a b. R (f a) (f b)) entries key value) ≡ put R (f key) (g value) (seen entries)
+    seen-insert [] key value = refl
+    seen-insert (entry ∷ es) key value = at_order (R (f key) (f entry.0)) key value entry es (seen-insert es key value)
 
-    find-seen : (es : List (K × X)) (q : L) → find R q (seen es) ≡ option_map g (lookup (is_at (λ k. R q (f k))) es)
+    -- a look-up among the entries is one among those that are seen
+    find-seen : (entries : List (K × X)) (q : L) →
+        find R q (seen entries) ≡ option_map g (lookup (is_at (λ k. R q (f k))) entries)
     find-seen [] q = refl
     find-seen (e ∷ es) q = at_test (is_eq (R q (f e.0))) e es q (find-seen es q)
       where
-        at_test : (b : Bool) (e : K × X) (es : List (K × X)) (q : L) → find R q (seen es) ≡ option_map g (lookup (is_at (λ k. R q (f k))) es) → cond b (Some (g e.1)) (find R q (seen es)) ≡ option_map g (cond b (Some e.1) (lookup (is_at (λ k. R q (f k))) es))
-        at_test true e es q later = refl
-        at_test false e es q later = later
+        at_test : (b : Bool) (e : K × X) (entries : List (K × X)) (q : L) →
+            find R q (seen entries) ≡ option_map g (lookup (is_at (λ k. R q (f k))) entries) →
+            cond b (Some (g e.1)) (find R q (seen entries))
+            ≡ option_map g (cond b (Some e.1) (lookup (is_at (λ k. R q (f k))) entries))
+        at_test true e entries q later = refl
+        at_test false e entries q later = later
 
-    put_first : (k : K) (v : X) (es : List (K × X)) → AllByRecursion (λ y. R (f k) (f y) ≡ Less) (keys_of es) → put R (f k) (g v) (seen es) ≡ (f k, g v) ∷ seen es
-    put_first k v [] below = refl
-    put_first k v (e ∷ es) below = ap (λ r. by_order r ((f k, g v) ∷ ((f e.0, g e.1) ∷ seen es)) ((f e.0, g v) ∷ seen es) ((f e.0, g e.1) ∷ put R (f k) (g v) (seen es))) below.0
+    -- a key below all others comes first
+    put_first : (k : K) (value : X) (entries : List (K × X)) →
+        AllByRecursion (λ y. R (f k) (f y) ≡ Less) (keys_of entries) →
+        put R (f k) (g value) (seen entries) ≡ (f k, g value) ∷ seen entries
+    put_first k value [] below = refl
+    put_first k value (entry ∷ es) below =
+        ap (λ r. by_order r ((f k, g value) ∷ ((f entry.0, g entry.1) ∷ seen es)) ((f entry.0, g value) ∷ seen es)
+        ((f entry.0, g entry.1) ∷ put R (f k) (g value) (seen es))) below.0
 
     module _ (total : IsTotalOrder R) where
-      pub get-seen : (es : List (K × X)) (q : L) → get (from_entries {R = R} (seen es)) q ≡ option_map g (lookup (is_at (λ k. R q (f k))) es)
-      get-seen es q = get-from_entries total (seen es) q ∙ find-seen es q
+      pub get-seen : (entries : List (K × X)) (q : L) →
+          get (from_entries {R = R} (seen entries)) q ≡ option_map g (lookup (is_at (λ k. R q (f k))) entries)
+      get-seen entries q = get-from_entries total (seen entries) q ∙ find-seen entries q
 
       -- an insertion among the entries is one into the map that they are seen as
-      pub insert-seen : IsAntisymmetric R → (es : List (K × X)) (k : K) (v : X) → from_entries {R = R} (seen (insert_entry (λ a b. R (f a) (f b)) es k v)) ≡ insert (from_entries (seen es)) (f k) (g v)
-      insert-seen one es k v =
-          same_map total one (from_entries (seen (insert_entry (λ a b. R (f a) (f b)) es k v))) (insert (from_entries (seen es)) (f k) (g v))
-          (λ q. get-from_entries total (seen (insert_entry (λ a b. R (f a) (f b)) es k v)) q ∙ ap (find R q) (seen-insert es k v)
-          ∙ find-put R total q (f k) (g v) (seen es)
-          ∙ sym (get-insert total (from_entries (seen es)) (f k) (g v) q ∙ ap (cond (eq_by_cmp R q (f k)) (Some (g v))) (get-from_entries total (seen es) q)))
+      pub insert-seen : IsAntisymmetric R →
+          (entries : List (K × X)) (k : K) (value : X) →
+          from_entries {R = R} (seen (insert_entry (λ a b. R (f a) (f b)) entries k value))
+          ≡ insert (from_entries (seen entries)) (f k) (g value)
+      insert-seen one entries k value =
+          same_map total one (from_entries (seen (insert_entry (λ a b. R (f a) (f b)) entries k value)))
+          (insert (from_entries (seen entries)) (f k) (g value))
+          (λ other. get-from_entries total (seen (insert_entry (λ a b. R (f a) (f b)) entries k value)) other
+          ∙ ap (find R other) (seen-insert entries k value)
+          ∙ find-put R total other (f k) (g value) (seen entries)
+          ∙ sym (get-insert total (from_entries (seen entries)) (f k) (g value) other
+          ∙ ap (cond (eq_by_cmp R other (f k)) (Some (g value))) (get-from_entries total (seen entries) other)))
 
       -- what is in order stays so
-      pub entries-seen : (es : List (K × X)) → IsStrictlySortedBy (λ a b. R (f a) (f b)) (keys_of es) → entries (from_entries {R = R} (seen es)) ≡ seen es
+      pub entries-seen : (es : List (K × X)) →
+          IsStrictlySortedBy (λ a b. R (f a) (f b)) (keys_of es) →
+          entries (from_entries {R = R} (seen es)) ≡ seen es
       entries-seen [] sorted = entries-empty R
       entries-seen (e ∷ es) sorted =
-          entries-insert total (from_entries (seen es)) (f e.0) (g e.1) ∙ ap (put R (f e.0) (g e.1)) (entries-seen es (sorted_tail (λ a b. R (f a) (f b)) e.0 _ sorted)) ∙ put_first e.0 e.1 es (sorted_head (λ a b. R (f a) (f b)) e.0 _ sorted)
+          entries-insert total (from_entries (seen es)) (f e.0) (g e.1)
+          ∙ ap (put R (f e.0) (g e.1)) (entries-seen es (sorted_tail (λ a b. R (f a) (f b)) e.0 _ sorted))
+          ∙ put_first e.0 e.1 es (sorted_head (λ a b. R (f a) (f b)) e.0 _ sorted)
 
       -- a write over a value that is there is an insertion into the map that is seen
       twice : (b : Bool) (x y : Y) (o : Option Y) → cond b (Some x) o ≡ cond b (Some x) (cond b (Some y) o)
       twice true x y o = refl
       twice false x y o = refl
 
-      apart : (b c : Bool) (x y : Y) (o : Option Y) → (b ≡ true → c ≡ true → ⊥) → cond c (Some y) (cond b (Some x) o) ≡ cond b (Some x) (cond c (Some y) o)
+      apart : (b c : Bool) (x y : Y) (o : Option Y) →
+          (b ≡ true → c ≡ true → ⊥) →
+          cond c (Some y) (cond b (Some x) o) ≡ cond b (Some x) (cond c (Some y) o)
       apart true true x y o never = absurd (never refl refl)
       apart true false x y o never = refl
       apart false c x y o never = refl
@@ -87,28 +122,52 @@ module _ {K L X Y : Type 0} (f : K → L) (g : X → Y) where
       tied_to : IsAntisymmetric R → (a b : L) → is_eq (R a b) ≡ true → a ≡ b
       tied_to one a b e = one a b ((Equal-is (R a b)).0 e)
 
-      both_tied : IsAntisymmetric R → (q n k : L) → is_eq (R n k) ≡ false → is_eq (R q n) ≡ true → is_eq (R q k) ≡ true → ⊥
-      both_tied one q n k differ to_n to_k = true≢false (sym (ap is_eq (tied_itself total n)) ∙ ap (λ x. is_eq (R n x)) (sym (tied_to one q n to_n) ∙ tied_to one q k to_k) ∙ differ)
+      both_tied : IsAntisymmetric R →
+          (other key k : L) →
+          is_eq (R key k) ≡ false → is_eq (R other key) ≡ true → is_eq (R other k) ≡ true →
+          ⊥
+      both_tied one other key k differ to_n to_k =
+          true≢false (sym (ap is_eq (tied_itself total key))
+          ∙ ap (λ x. is_eq (R key x)) (sym (tied_to one other key to_n) ∙ tied_to one other k to_k) ∙ differ)
 
-      find-write : IsAntisymmetric R → (es : List (K × X)) (n : L) (old w : X) → lookup (is_at (λ k. R n (f k))) es ≡ Some old → (q : L)
-          → find R q (seen (set_value (is_at (λ k. R n (f k))) es w)) ≡ cond (is_eq (R q n)) (Some (g w)) (find R q (seen es))
-      find-write one [] n old w found q = absurd (none-some old found)
-      find-write one (e ∷ es) n old w found q = at_test (is_eq (R n (f e.0))) refl found (λ there. find-write one es n old w there q)
+      -- so what is found after the write is what is found after the insertion
+      find-write : IsAntisymmetric R →
+          (entries : List (K × X)) (key : L) (old new : X) →
+          lookup (is_at (λ k. R key (f k))) entries ≡ Some old →
+          (other : L) →
+          find R other (seen (set_value (is_at (λ k. R key (f k))) entries new))
+          ≡ cond (is_eq (R other key)) (Some (g new)) (find R other (seen entries))
+      find-write one [] key old new found other = absurd (none-some old found)
+      find-write one (entry ∷ es) key old new found other =
+          at_test (is_eq (R key (f entry.0))) refl found (λ there. find-write one es key old new there other)
         where
-          at_test : (b : Bool) → is_eq (R n (f e.0)) ≡ b → cond b (Some e.1) (lookup (is_at (λ k. R n (f k))) es) ≡ Some old
-              → (lookup (is_at (λ k. R n (f k))) es ≡ Some old → find R q (seen (set_value (is_at (λ k. R n (f k))) es w)) ≡ cond (is_eq (R q n)) (Some (g w)) (find R q (seen es)))
-              → find R q (seen (cond b ((e.0, w) ∷ es) (e ∷ set_value (is_at (λ k. R n (f k))) es w))) ≡ cond (is_eq (R q n)) (Some (g w)) (find R q (seen (e ∷ es)))
+          at_test : (b : Bool) →
+              is_eq (R key (f entry.0)) ≡ b → cond b (Some entry.1) (lookup (is_at (λ k. R key (f k))) es) ≡ Some old →
+              (lookup (is_at (λ k. R key (f k))) es ≡ Some old →
+              find R other (seen (set_value (is_at (λ k. R key (f k))) es new))
+              ≡ cond (is_eq (R other key)) (Some (g new)) (find R other (seen es))) →
+              find R other (seen (cond b ((entry.0, new) ∷ es) (entry ∷ set_value (is_at (λ k. R key (f k))) es new)))
+              ≡ cond (is_eq (R other key)) (Some (g new)) (find R other (seen (entry ∷ es)))
           at_test true is there later =
-              let same = tied_to one n (f e.0) is in
-              ap (λ x. cond (is_eq (R q x)) (Some (g w)) (find R q (seen es))) (sym same)
-              ∙ twice (is_eq (R q n)) (g w) (g e.1) (find R q (seen es))
-              ∙ ap (λ x. cond (is_eq (R q n)) (Some (g w)) (cond (is_eq (R q x)) (Some (g e.1)) (find R q (seen es)))) same
+              let same = tied_to one key (f entry.0) is in
+              ap (λ x. cond (is_eq (R other x)) (Some (g new)) (find R other (seen es))) (sym same)
+              ∙ twice (is_eq (R other key)) (g new) (g entry.1) (find R other (seen es))
+              ∙ ap (λ x. cond (is_eq (R other key)) (Some (g new))
+              (cond (is_eq (R other x)) (Some (g entry.1)) (find R other (seen es)))) same
           at_test false is there later =
-              ap (cond (is_eq (R q (f e.0))) (Some (g e.1))) (later there)
-              ∙ apart (is_eq (R q n)) (is_eq (R q (f e.0))) (g w) (g e.1) (find R q (seen es)) (both_tied one q n (f e.0) is)
+              ap (cond (is_eq (R other (f entry.0))) (Some (g entry.1))) (later there)
+              ∙ apart (is_eq (R other key)) (is_eq (R other (f entry.0))) (g new) (g entry.1) (find R other (seen es))
+              (both_tied one other key (f entry.0) is)
 
-      pub write-seen : IsAntisymmetric R → (es : List (K × X)) (n : L) (old w : X) → lookup (is_at (λ k. R n (f k))) es ≡ Some old → from_entries {R = R} (seen (set_value (is_at (λ k. R n (f k))) es w)) ≡ insert (from_entries (seen es)) n (g w)
-      write-seen one es n old w found =
-          same_map total one (from_entries (seen (set_value (is_at (λ k. R n (f k))) es w))) (insert (from_entries (seen es)) n (g w))
-          (λ q. get-from_entries total (seen (set_value (is_at (λ k. R n (f k))) es w)) q ∙ find-write one es n old w found q
-          ∙ sym (get-insert total (from_entries (seen es)) n (g w) q ∙ ap (cond (eq_by_cmp R q n) (Some (g w))) (get-from_entries total (seen es) q)))
+      pub write-seen : IsAntisymmetric R →
+          (entries : List (K × X)) (key : L) (old new : X) →
+          lookup (is_at (λ k. R key (f k))) entries ≡ Some old →
+          from_entries {R = R} (seen (set_value (is_at (λ k. R key (f k))) entries new))
+          ≡ insert (from_entries (seen entries)) key (g new)
+      write-seen one entries key old new found =
+          same_map total one (from_entries (seen (set_value (is_at (λ k. R key (f k))) entries new)))
+          (insert (from_entries (seen entries)) key (g new))
+          (λ other. get-from_entries total (seen (set_value (is_at (λ k. R key (f k))) entries new)) other
+          ∙ find-write one entries key old new found other
+          ∙ sym (get-insert total (from_entries (seen entries)) key (g new) other
+          ∙ ap (cond (eq_by_cmp R other key) (Some (g new))) (get-from_entries total (seen entries) other)))

@@ -9,22 +9,29 @@ use Rattle.puffin_data.specs.declared.error.Error.TheVariants.{MissingId, Memory
 use Rattle.puffin_threads.specs.Details.{Details, lacks_id, AllHaveIds}
 
 -- where none lacks its id, all have one
-pub none_lacks : (ds : List Details) → list_any lacks_id ds ≡ false → AllHaveIds ds
-none_lacks [] h = All-nil (λ d. IsSome d.id)
-none_lacks (d ∷ ds) h = by_id d.id refl h (none_lacks ds) where
-  by_id : (o : Option ℕ) → d.id ≡ o → (is_none o || list_any lacks_id ds) ≡ false → (list_any lacks_id ds ≡ false → AllHaveIds ds) → AllHaveIds (d ∷ ds)
+pub none_lacks : (details : List Details) → list_any lacks_id details ≡ false → AllHaveIds details
+none_lacks [] none = All-nil (λ d. IsSome d.id)
+none_lacks (one ∷ others) none = by_id one.id refl none (none_lacks others) where
+  by_id : (o : Option ℕ) →
+      one.id ≡ o → (is_none o || list_any lacks_id others) ≡ false →
+      (list_any lacks_id others ≡ false → AllHaveIds others) →
+      AllHaveIds (one ∷ others)
   by_id None e k later = absurd (cc)
-  by_id (Some i) e k later = All-cons (λ d. IsSome d.id) d ds (rw e refl) (later k)
+  by_id (Some i) e k later = All-cons (λ one. IsSome one.id) one others (rw e refl) (later k)
 
 -- where all have one, none lacks it
-pub all_have : (ds : List Details) → AllHaveIds ds → list_any lacks_id ds ≡ false
+pub all_have : (details : List Details) → AllHaveIds details → list_any lacks_id details ≡ false
 all_have [] all = refl
-all_have (d ∷ ds) all = by_id d.id (All-head (λ d. IsSome d.id) d ds all) (all_have ds (All-tail (λ d. IsSome d.id) d ds all)) where
-  by_id : (o : Option ℕ) → IsSome o → list_any lacks_id ds ≡ false → (is_none o || list_any lacks_id ds) ≡ false
-  by_id None some later = absurd (cc)
-  by_id (Some i) some later = later
+all_have (one ∷ others) all =
+    by_id one.id (All-head (λ one. IsSome one.id) one others all)
+    (all_have others (All-tail (λ one. IsSome one.id) one others all)) where
+      by_id : (o : Option ℕ) → IsSome o → list_any lacks_id others ≡ false → (is_none o || list_any lacks_id others) ≡ false
+      by_id None some later = absurd (cc)
+      by_id (Some i) some later = later
 
 -- a call that is refused for memory alone doesn't miss an id
-pub never_missing : {T : Type 0} (r : Result T Error) (b : Bool) → IfErr r (λ e. e ≡ Memory) → b ≡ false → (r ≡ Err MissingId) ↔ (b ≡ true)
+pub never_missing : {T : Type 0} (r : Result T Error) (b : Bool) →
+    IfErr r (λ e. e ≡ Memory) → b ≡ false →
+    (r ≡ Err MissingId) ↔ (b ≡ true)
 never_missing (Ok x) b memory all = (λ e. absurd (cc), λ e. absurd (cc))
-never_missing (Err e) b memory all = (λ e. absurd (cc), λ e. absurd (cc))
+never_missing (Err cause) b memory all = (λ cause. absurd (cc), λ cause. absurd (cc))

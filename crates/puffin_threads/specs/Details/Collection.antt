@@ -15,41 +15,45 @@ use Rattle.puffin_threads.specs.Details.{Details, details_code, details_of, name
 abbrev pub bytes_cmp : List ℕ → List ℕ → Ordering
 bytes_cmp = slice_cmp nat_cmp
 
+-- a collection: the details under each id, and the id under each name
 pub record Collection : Type 0 where
   pub by_id : map.FinMap nat_cmp Details
   pub by_name : map.FinMap bytes_cmp ℕ
 
--- the encoding of a collection for contracts: the pair of its maps
+-- a collection as the pair of its maps, and back: two are equal if their maps are
 abbrev pub collection_code : Coded Collection
 collection_code =
     code_by (map.FinMap nat_cmp Details × map.FinMap bytes_cmp ℕ)
     (coded× (map.code coded_ℕ details_code) (map.code (coded_list coded_ℕ) coded_ℕ))
-    (λ c. (c.by_id, c.by_name))
-    (λ p. record { by_id = p.0; by_name = p.1 })
+    (λ collection. (collection.by_id, collection.by_name))
+    (λ maps. record { by_id = maps.0; by_name = maps.1 })
     (λ _. refl)
 
+-- the empty collection
 abbrev pub no_details : Collection
 no_details = record { by_id = map.empty; by_name = map.empty }
 
--- keeps what is under an id, or else inserts the given details
+-- the details by id after an insertion: what was kept under the id stays, and otherwise the given details are put there
 abbrev pub kept_or : Option Details → map.FinMap nat_cmp Details → ℕ → Details →
     map.FinMap nat_cmp Details
-kept_or (Some kept) by_id id d = by_id
-kept_or None by_id id d = map.insert by_id id d
+kept_or (Some kept) by_id id details = by_id
+kept_or None by_id id details = map.insert by_id id details
 
--- inserts details under their id and their name; details without an id change nothing
+-- a collection after details are inserted under this id, if there is one, and their name
 abbrev pub with_details_under : Collection → Details → Option ℕ → Collection
-with_details_under collection d None = collection
-with_details_under collection d (Some id) = record {
-  by_id = kept_or (map.get collection.by_id id) collection.by_id id d;
-  by_name = map.insert collection.by_name (name_of d) id;
+with_details_under collection details None = collection
+with_details_under collection details (Some id) = record {
+  by_id = kept_or (map.get collection.by_id id) collection.by_id id details;
+  by_name = map.insert collection.by_name (name_of details) id;
 }
 
+-- the same under their own id; details without an id change nothing
 abbrev pub with_details : Collection → Details → Collection
-with_details collection d = with_details_under collection d d.id
+with_details collection details = with_details_under collection details details.id
 
+-- the same for a list of details, one after the other
 abbrev pub with_all_details : Collection → List Details → Collection
-with_all_details collection ds = fold with_details collection ds
+with_all_details collection details = fold with_details collection details
 
 -- `some` is a prefix of `all`
 abbrev pub IsPrefix : List Details → List Details → Type 0
@@ -57,40 +61,46 @@ IsPrefix some all = (rest : List Details) × (all ≡ some ++ rest)
 
 -- a prefix of the details was inserted
 abbrev pub LearnsSome : Collection → List Details → Collection → Type 0
-LearnsSome old ds new =
-    (learnt : List Details) × IsPrefix learnt ds × (new ≡ with_all_details old learnt)
+LearnsSome old details new =
+    (learnt : List Details) × IsPrefix learnt details × (new ≡ with_all_details old learnt)
 
 -- what a collection has under the id of these details
 abbrev pub kept_for : Collection → Details → Option Details
-kept_for collection d = option_and_then (λ id. map.get collection.by_id id) d.id
+kept_for collection details =
+    option_and_then (λ id. map.get collection.by_id id) details.id
 
 -- all details are under their own ids
 abbrev pub KeepsOwnIds : Collection → Type 0
 KeepsOwnIds collection =
-    (id : ℕ) (d : Details) → map.get collection.by_id id ≡ Some d → d.id ≡ Some id
+    (id : ℕ) (details : Details) → map.get collection.by_id id ≡ Some details →
+    details.id ≡ Some id
 
 -- the first of a list of details with this id
 abbrev pub first_with_id : ℕ → List Details → Option Details
-first_with_id id ds = find (λ d. option_eq nat_eq d.id (Some id)) ds
+first_with_id id details = find (λ one. option_eq nat_eq one.id (Some id)) details
 
 -- the id of details if this is their name
 abbrev pub id_under : List ℕ → Details → Option ℕ
-id_under name d = if eq_by_cmp bytes_cmp name (name_of d) then d.id else None
+id_under name details =
+    if eq_by_cmp bytes_cmp name (name_of details) then details.id else None
 
 -- the last id that a list of details has with this name
 abbrev pub last_id_of : List ℕ → List Details → Option ℕ
 last_id_of name [] = None
-last_id_of name (d ∷ ds) = option_or (last_id_of name ds) (id_under name d)
+last_id_of name (details ∷ later) = option_or (last_id_of name later) (id_under name details)
 
--- the entries of the two maps, as contracts see them
+-- the entries of a stored map from ids to details, as contracts see them
 abbrev pub ids_seen : {A : Type 0} → List (ℕ × Arc ScopeDetails A) → List (ℕ × Details)
-ids_seen entries = map (λ e. (e.0, details_of (arc_value e.1))) entries
+ids_seen entries = map (λ entry. (entry.0, details_of (arc_value entry.1))) entries
 
+-- the same of a stored map from names to ids
 abbrev pub names_seen : {A : Type 0} → List (String A × ℕ) → List (List ℕ × ℕ)
-names_seen entries = map (λ e. (string_bytes e.0, e.1)) entries
+names_seen entries = map (λ entry. (string_bytes entry.0, entry.1)) entries
 
+-- the map of entries from ids to details
 abbrev pub by_ids : {A : Type 0} → List (ℕ × Arc ScopeDetails A) → map.FinMap nat_cmp Details
 by_ids entries = map.from_entries (ids_seen entries)
 
+-- the map of entries from names to ids
 abbrev pub by_names : {A : Type 0} → List (String A × ℕ) → map.FinMap bytes_cmp ℕ
 by_names entries = map.from_entries (names_seen entries)

@@ -5,11 +5,12 @@ use Rattle.std.specs.declared.cmp.Ordering.TheVariants.{Less, Equal, Greater}
 use Rattle.puffin_threads.specs.declared.scope_details.scope_type.ScopeType.{ScopeType}
 use Rattle.puffin_threads.specs.declared.scope_details.scope_type.ScopeType.TheVariants.{Function, Named}
 
+-- the name of a type of scopes
 abbrev pub type_text : ScopeType → List ℕ
 type_text Function = codes "function scope"
 type_text Named = codes "named"
 
--- whole functions first
+-- the order of the types: whole functions first
 abbrev pub type_cmp : ScopeType → ScopeType → Ordering
 type_cmp Function Function = Equal
 type_cmp Function Named = Less

@@ -11,7 +11,8 @@ use Rattle.puffin_data.specs.Text.{cut_text}
 use Rattle.puffin_threads.specs.Thread.ThreadKey.{ThreadKey}
 use Rattle.puffin_threads.specs.Details.{Details, with_id, IsAddingCause}
 
--- a thread: its name and form, the start of its first scope, its greatest time so far, and its events and registered details that no accepted report has handed over
+-- a thread: its name and form, the start of its first scope, its greatest time so far, and its events and registered details that no
+-- accepted report has handed over
 pub record Thread : Type 0 where
   pub name : List ℕ
   pub form : Form
@@ -52,12 +53,12 @@ after_end thread at = record thread {
 
 -- after registering details
 abbrev pub after_registering : Thread → Details → Thread
-after_registering thread d = record thread { details = thread.details ++ (d ∷ []) }
+after_registering thread details = record thread { details = thread.details ++ (details ∷ []) }
 
 -- Registers a scope with these details and the id drawn for it, for the next accepted report; or nothing changes.
 abbrev pub RegistersScope : Thread → Details → Result ℕ Error → Thread → Type 0
-RegistersScope old d (Ok id) new = new ≡ after_registering old (with_id d id)
-RegistersScope old d (Err e) new = (new ≡ old) × IsAddingCause e
+RegistersScope old details (Ok id) new = new ≡ after_registering old (with_id details id)
+RegistersScope old details (Err cause) new = (new ≡ old) × IsAddingCause cause
 
 -- after an accepted report, which hands over all of its events and details
 abbrev pub after_handing : Thread → Thread
@@ -73,12 +74,13 @@ num_ended [] = 0
 num_ended (Open id text start ∷ word) = num_ended word
 num_ended (Close stop ∷ word) = 1 + num_ended word
 
--- the number of bytes so far, and the offsets of the open scopes' sizes, the innermost first
+-- after one more event: the number of bytes so far, and the offsets of the open scopes' sizes, the innermost first
 abbrev pub opened_after : Form → ℕ × List ℕ → Event → ℕ × List ℕ
 opened_after form sofar (Open id text start) =
     (sofar.0 + head_size form text, (sofar.0 + size_offset form text) ∷ sofar.1)
 opened_after form sofar (Close stop) = (sofar.0 + end_size, drop 1 sofar.1)
 
+-- the offsets of the scopes that are open after a word, the innermost first
 abbrev pub open_offsets : Form → List Event → List ℕ
 open_offsets form word = (fold (opened_after form) (0, []) word).1
 

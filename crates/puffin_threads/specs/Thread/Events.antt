@@ -12,7 +12,7 @@ open_in form region =
     (take (text_size_in form region) (drop (text_begin_in form region) region))
     (time_in region 5)
 
--- at most n events
+-- the events at the front of a region, at most as many as the number says
 unfoldable pub events_from : Form → ℕ → List ℕ → List Event
 events_from form zero region = []
 events_from form (suc n) region = elim (slice_index region 0 == begin_mark) [
@@ -23,5 +23,6 @@ events_from form (suc n) region = elim (slice_index region 0 == begin_mark) [
   ]
 ]
 
+-- all events that bytes spell
 unfoldable pub events_in : Form → List ℕ → List Event
 events_in form bytes = events_from form (length bytes) bytes

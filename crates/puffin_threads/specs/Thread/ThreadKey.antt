@@ -13,28 +13,36 @@ pub record ThreadKey : Type 0 where
   pub start : Option ℤ
   pub name : List ℕ
 
+-- what contracts see of a thread's info
 abbrev pub key_of : ThreadInfo → ThreadKey
 key_of thread = record { start = thread.start_time_ns; name = string_bytes thread.name }
 
--- by start, none first, then by the name's bytes
+-- the order of infos: by start, none first, then by the name's bytes
 abbrev pub key_cmp : ThreadKey → ThreadKey → Ordering
-key_cmp = then_cmp (on (λ i. i.start) (option_cmp int_cmp)) (on (λ i. i.name) (slice_cmp nat_cmp))
+key_cmp =
+    then_cmp (on (λ thread. thread.start) (option_cmp int_cmp))
+    (on (λ thread. thread.name) (slice_cmp nat_cmp))
 
+-- the same order of threads
 abbrev pub thread_cmp : ThreadInfo → ThreadInfo → Ordering
 thread_cmp = on key_of key_cmp
 
+-- whether two infos are equal
 abbrev pub has_same_key : ThreadKey → ThreadKey → Bool
 has_same_key = eq_by_cmp key_cmp
 
--- the encoding of an info for contracts: the pair of its fields
+-- an info as the pair of its fields, and back: two are equal if their pairs are
 abbrev pub key_code : Coded ThreadKey
 key_code =
     code_by (Option ℤ × List ℕ) (coded× (coded_option coded_ℤ) (coded_list coded_ℕ))
-    (λ i. (i.start, i.name)) (λ p. record { start = p.0; name = p.1 }) (λ _. refl)
+    (λ thread. (thread.start, thread.name))
+    (λ fields. record { start = fields.0; name = fields.1 })
+    (λ _. refl)
 
 -- the entries of a map of threads, keyed by the threads' infos
 abbrev pub key_entries : {X : Type 0} → List (ThreadInfo × X) → List (ThreadKey × X)
-key_entries entries = map (λ e. (key_of e.0, e.1)) entries
+key_entries entries = map (λ entry. (key_of entry.0, entry.1)) entries
 
+-- the map of these entries
 abbrev pub by_key : {X : Type 0} → List (ThreadInfo × X) → FinMap key_cmp X
 by_key entries = from_entries (key_entries entries)

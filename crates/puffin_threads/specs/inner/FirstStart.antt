@@ -14,12 +14,12 @@ first_open (Close stop ∷ word) = first_open word
 abbrev pub start_in : List ℕ → Option ℤ
 start_in bytes = if nat_lt (length bytes) 13 then None else Some (time_in bytes 5)
 
--- the range of scopes whose times never fall, if there are any
+-- the range of scopes of which the first has this start, if it is known, and whose times never fall until the latest
 abbrev pub range_until : Option ℤ → ℤ → ℤ × ℤ → ℤ × ℤ
 range_until None latest range = range
 range_until (Some start) latest range = (start, latest)
 
--- an info of scopes that have all ended, by this time
-abbrev pub completed : StreamInfo → ℤ → StreamInfo
-completed info latest =
+-- an info with its range set, once all scopes have ended and `latest` is their greatest time
+abbrev pub completed_info : StreamInfo → ℤ → StreamInfo
+completed_info info latest =
     record info { range_ns = range_until (start_in info.stream.bytes) latest info.range_ns }

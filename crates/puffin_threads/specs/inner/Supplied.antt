@@ -20,13 +20,15 @@ pub record IsSupplied (supply : Supply) (stream : StreamState) : Type 0 where
 -- There is a copy of the name: the one that was there, or a new one.
 abbrev pub HasCopy : Option (String Global) → Option (String Global) → String Global → Type 0
 HasCopy old new name =
-    option_map (λ s. string_bytes s) new
-    ≡ Some (unwrap_or (option_map (λ s. string_bytes s) old) (string_bytes name))
+    option_map (λ copy. string_bytes copy) new
+    ≡ Some (unwrap_or (option_map (λ copy. string_bytes copy) old) (string_bytes name))
 
 -- There are a copy of the name and room for the beginning of a scope with this text, its end and the ends of the open scopes; or
--- memory is missing. The bytes don't change.
-pub record Prepares (old new : Supply) (name : String Global) (stream stream' : StreamState) (num_open : ℕ) (text : List ℕ) (result : Result (Unit {0}) Error) : Type 0 where
-  pub enough : OnOk result (head_size stream.form (cut_text stream.form text) + end_size * (num_open + 1) ≤ stream'.room)
+-- memory is missing. The bytes don't change. `stream` is the stream before the call, and `stream'` after it.
+pub record Prepares (old new : Supply) (name : String Global) (stream stream' : StreamState)
+    (num_open : ℕ) (text : List ℕ) (result : Result (Unit {0}) Error) : Type 0 where
+  pub enough : OnOk result (
+      head_size stream.form (cut_text stream.form text) + end_size * (num_open + 1) ≤ stream'.room)
   pub copied : OnOk result (HasCopy old.copy new.copy name)
   pub err : OnErr result ((new.copy ≡ old.copy) ⊎ HasCopy old.copy new.copy name)
   pub supplied : IsSupplied new stream'

@@ -71,7 +71,7 @@ impl ScopeCollection {
 
     /// Returns the first details that were inserted under an id.
     pub fn fetch_by_id(&self, id: &ScopeId) -> Option<&Arc<ScopeDetails>>
-        ensures { option_map (λ d. details_of (arc_value d)) (option_copied result)
+        ensures { option_map (λ found. details_of (arc_value found)) (option_copied result)
             ≡ map.get self.now.by_id id.now }
     {
         self.by_id.get(id)
@@ -102,7 +102,8 @@ impl ScopeCollection {
         ensures missing { (result ≡ Err Error.MissingId)
             ↔ ((details_of (arc_value details)).id ≡ None) }
         ensures err { OnErr result (self.new ≡ self.old) }
-        ensures cause { IfErr result (λ e. (e ≡ Error.MissingId) ⊎ (e ≡ Error.Memory)) }
+        ensures cause { IfErr result (λ cause.
+            (cause ≡ Error.MissingId) ⊎ (cause ≡ Error.Memory)) }
     {
         let Some(id) = details.scope_id() else {
             return Err(Error::MissingId);
@@ -132,7 +133,8 @@ impl ScopeCollection {
             ↔ IsTrue (list_any lacks_id (shared_details details.now)) }
         ensures unchanged { (result ≡ Err Error.MissingId) → self.new ≡ self.old }
         ensures err { OnErr result (LearnsSome self.old (shared_details details.now) self.new) }
-        ensures cause { IfErr result (λ e. (e ≡ Error.MissingId) ⊎ (e ≡ Error.Memory)) }
+        ensures cause { IfErr result (λ cause.
+            (cause ≡ Error.MissingId) ⊎ (cause ≡ Error.Memory)) }
     {
         if any_lacks_id(details) {
             return Err(Error::MissingId);

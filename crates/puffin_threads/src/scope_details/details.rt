@@ -148,7 +148,7 @@ impl Default for ScopeDetails {
 
 /// Returns whether any of these details have no id.
 pub fn any_lacks_id(details: &[Arc<ScopeDetails>]) -> bool
-    ensures { result ≡ list_any (λ d. lacks_id (details_of (arc_value d))) details.now }
+    ensures { result ≡ list_any (λ one. lacks_id (details_of (arc_value one))) details.now }
 {
     details.iter().any(|details| details.scope_id().is_none())
 }

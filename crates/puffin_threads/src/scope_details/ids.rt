@@ -47,6 +47,7 @@ impl ScopeIds {
 }
 
 impl Default for ScopeIds {
+    /// Makes a counter whose first id is 1.
     fn default() -> ScopeIds {
         ScopeIds::new()
     }

@@ -69,12 +69,12 @@ pub fn types_and_ids()
 /// A collection made from a list of details maps each id to the first details with that id, and each name to the last id that
 /// was inserted with that name. The details in it are under their own ids.
 pub fn collected_details()
-    ensures first { (ds : List Details) (id : ℕ) →
-        map.get (with_all_details no_details ds).by_id id ≡ first_with_id id ds }
-    ensures last { (ds : List Details) (name : List ℕ) →
-        map.get (with_all_details no_details ds).by_name name ≡ last_id_of name ds }
-    ensures own { (collection : Collection) (d : Details) → KeepsOwnIds collection →
-        KeepsOwnIds (with_details collection d) }
+    ensures first { (details : List Details) (id : ℕ) →
+        map.get (with_all_details no_details details).by_id id ≡ first_with_id id details }
+    ensures last { (details : List Details) (name : List ℕ) →
+        map.get (with_all_details no_details details).by_name name ≡ last_id_of name details }
+    ensures own { (collection : Collection) (details : Details) →
+        KeepsOwnIds collection → KeepsOwnIds (with_details collection details) }
     ensures own_none { KeepsOwnIds no_details }
     ensures none { (map.values no_details.by_id ≡ []) × (map.values no_details.by_name ≡ []) }
 {}

@@ -52,10 +52,12 @@ impl<C: NsSource> AnyThread for ThreadProfiler<C> {
 
     ghost same_clock = { λ old new. clock_of new ≡ clock_of old };
 
+    /// Ends the innermost open scope, as [`ThreadProfiler::end_scope`].
     fn end_scope<R: Reporter>(&mut self, offset: usize, reporter: &mut R) -> Result<Closed> {
         self.end_scope(offset, reporter)
     }
 
+    /// Reports the closed scopes that are still waiting, as [`ThreadProfiler::report_closed`].
     fn report_closed<R: Reporter>(&mut self, reporter: &mut R) -> Result<bool> {
         self.report_closed(reporter)
     }

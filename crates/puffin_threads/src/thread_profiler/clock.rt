@@ -48,7 +48,7 @@ fn quick_nanoseconds(time: Duration) -> NanoSecond
 
 /// Returns the time from `begun` to `now`, or 0 if `now` is earlier.
 #[inline(always)]
-fn gone_by(begun: NanoSecond, now: NanoSecond) -> NanoSecond
+fn time_since(begun: NanoSecond, now: NanoSecond) -> NanoSecond
     requires begun { pos 0 ≤ℤ begun }
     requires now { pos 0 ≤ℤ now }
     ensures { result ≡ int_max (pos 0) (now -ℤ begun) }
@@ -61,7 +61,7 @@ fn gone_by(begun: NanoSecond, now: NanoSecond) -> NanoSecond
 
 /// Returns `start + gone`, or `i64::MAX` if the sum is greater than that.
 #[inline(always)]
-fn later(start: NanoSecond, gone: NanoSecond) -> NanoSecond
+fn time_after(start: NanoSecond, gone: NanoSecond) -> NanoSecond
     requires start { pos 0 ≤ℤ start }
     requires gone { pos 0 ≤ℤ gone }
     ensures { result ≡ int_min (start +ℤ gone) (pos (2 ^ 63 - 1)) }
@@ -150,8 +150,8 @@ impl<R: Clock> NsSource for SystemClock<R> {
     /// Returns the start plus the time since then, at most `i64::MAX`. If the clock can't be read, returns the last time again.
     fn now_ns(&mut self) -> NanoSecond {
         if let Ok(time) = self.rt.monotonic() {
-            let gone = gone_by(self.begun_ns, quick_nanoseconds(time));
-            self.last_ns = later(self.start_ns, gone);
+            let gone = time_since(self.begun_ns, quick_nanoseconds(time));
+            self.last_ns = time_after(self.start_ns, gone);
         }
         self.last_ns
     }
@@ -193,8 +193,10 @@ impl NsSource for ScriptClock {
     ghost use Rattle.std.specs.Prelude.{◌≡◌, pos};
     ghost use Rattle.std.specs.Int.{int_max};
 
+    // The clock stays as it was set.
     ghost answers = { λ old at new. (new ≡ old) × (at ≡ int_max (pos 0) old) };
 
+    /// Returns the time that the clock was set to, or 0 if that is negative.
     fn now_ns(&mut self) -> NanoSecond {
         self.at.max(0)
     }

@@ -284,8 +284,8 @@ impl<C: NsSource> ThreadProfiler<C> {
         ensures none_open { OnOk result (open_after 0 (thread_of self.old).word ≡ 0) }
         ensures discarded { OnOk result (
             thread_of self.new ≡ after_discarding (thread_of self.old)) }
-        ensures open { IfErr result (λ e.
-            (e ≡ Error.ScopesOpen) × (0 < open_after 0 (thread_of self.old).word)) }
+        ensures open { IfErr result (λ cause.
+            (cause ≡ Error.ScopesOpen) × (0 < open_after 0 (thread_of self.old).word)) }
         ensures unchanged { OnErr result (self.new ≡ self.old) }
         ensures clock { clock_of self.new ≡ clock_of self.old }
     {

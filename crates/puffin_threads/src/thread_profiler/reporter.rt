@@ -36,9 +36,9 @@ pub trait Reporter {
         ensures ok { OnOk result (
             accepts self.old (key_of info) (details_seen details.now) (facts_of_ref times.now)
             self.new) }
-        ensures err { IfErr result (λ e.
+        ensures err { IfErr result (λ cause.
             refuses self.old (key_of info) (details_seen details.now) (facts_of_ref times.now)
-            e self.new) };
+            cause self.new) };
 }
 
 /// The outcome of ending a scope.

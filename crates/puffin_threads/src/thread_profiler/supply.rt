@@ -13,6 +13,7 @@ const SHORT_TEXT: usize = 127;
 /// A copy of a thread's name, and how long its stream may be.
 #[derive(Drop)]
 pub(crate) struct Supply {
+    // A copy of the thread's name, which the next report takes.
     pub(crate) copy: Option<String>,
     // While the stream is shorter, there are a copy of the name and room for a scope with a short text.
     pub(crate) ready: usize,

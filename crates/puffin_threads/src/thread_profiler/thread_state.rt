@@ -11,7 +11,7 @@ ghost use Rattle.puffin_threads.specs.Thread.Calls.{new_thread, after_begin, aft
 ghost use Rattle.puffin_threads.specs.Thread.Closing.{GoesTo};
 ghost use Rattle.puffin_threads.specs.Thread.Discarding.{after_discarding};
 ghost use Rattle.puffin_threads.specs.Details.{details_of};
-ghost use Rattle.puffin_threads.specs.inner.FirstStart.{start_in, completed};
+ghost use Rattle.puffin_threads.specs.inner.FirstStart.{start_in, completed_info};
 
 use crate::scope_details::{ScopeDetails, ScopeIds};
 use crate::thread_profiler::clock::NsSource;
@@ -27,12 +27,15 @@ use std::marker::Model;
 /// What one thread has recorded and not yet reported. Contracts see it as a `Thread`.
 #[derive(Drop)]
 pub struct ThreadState {
+    // The thread's name.
     name: String,
     // What scopes and the next report need. It is made when a scope begins, so that ending one allocates nothing.
     supply: Supply,
+    // The scopes, open ones included.
     info: StreamInfo,
     // The start of the first scope, once it was reported or discarded.
     first_start: Option<NanoSecond>,
+    // The greatest time so far.
     latest: NanoSecond,
     // The number of open scopes.
     num_open: usize,
@@ -67,7 +70,7 @@ fn start_of(bytes: &[u8]) -> Option<NanoSecond>
 
 /// Completes what is known of scopes once all have ended: the first start, and the range, since times never fall.
 fn complete(info: &mut StreamInfo, first: &mut Option<NanoSecond>, latest: NanoSecond)
-    ensures info { info.new ≡ completed info.old latest }
+    ensures info { info.new ≡ completed_info info.old latest }
     ensures first { first.new ≡ option_or first.old (start_in info.old.stream.bytes) }
 {
     if let Some(start) = start_of(info.stream.bytes()) {
@@ -236,9 +239,11 @@ impl ThreadState {
         ensures ok { OnOk result (
             (self.new ≡ after_handing self.old)
             × GoesTo R.accepts self.old reporter.old reporter.new) }
-        ensures err { IfErr result (λ e.
+        ensures err { IfErr result (λ cause.
             (self.new ≡ self.old)
-            × GoesTo (λ b i d r a. R.refuses b i d r e a) self.old reporter.old reporter.new) }
+            × GoesTo (λ earlier thread details info later.
+            R.refuses earlier thread details info cause later) self.old reporter.old
+            reporter.new) }
     {
         complete(&mut self.info, &mut self.first_start, self.latest);
         let info = ThreadInfo {

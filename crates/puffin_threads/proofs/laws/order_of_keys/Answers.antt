@@ -1,3 +1,4 @@
+-- Keys are compared by start first, so a start that is missing or earlier decides.
 use Rattle.puffin_threads.proofs.lemmas.ThreadKeys.{key_cmp_total, key_cmp-one, has_same_key-one, none_first, earlier_first, then_by_name}
 use Rattle.puffin_threads.proofs.laws.order_of_keys.Goals as goal
 

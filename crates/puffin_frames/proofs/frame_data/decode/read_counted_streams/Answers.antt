@@ -1,3 +1,4 @@
+-- A thread above all before it goes to the end of the map, so what was read so far is the front of what the reading gives.
 use Rattle.std.proofs.Common.{◌≡◌, ◌++◌, ◌∷◌, [], true, ap, ◌∙◌}
 use Rattle.std.specs.Arc.{arc_value}
 use Rattle.std.specs.FinMap.{is_sorted}

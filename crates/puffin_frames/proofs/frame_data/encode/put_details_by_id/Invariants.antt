@@ -4,5 +4,8 @@ use Rattle.puffin_threads.specs.Details.{shared_details}
 use Rattle.puffin_frames.proofs.Appending.{Writes}
 use Rattle.puffin_frames.proofs.frame_data.encode.put_details_by_id.Given as goal
 
+-- the details that the loop has left are still to be written
 abbrev pub invariant-details : goal.invariant-details
-invariant-details l = Writes detail_layout IsDetail l.initial.out.items l.out.items (shared_details l.one-iterator) (shared_details (values_of l.details.entries))
+invariant-details l =
+    Writes detail_layout IsDetail l.initial.out.items l.out.items (shared_details l.one-iterator)
+    (shared_details (values_of l.details.entries))

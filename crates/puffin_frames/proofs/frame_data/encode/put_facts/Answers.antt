@@ -1,3 +1,4 @@
+-- Six pieces are appended one after the other; the numbers of a range are those of their types.
 use Rattle.std.proofs.Common.{rules, FitsSigned, w64}
 use Rattle.std.proofs.Math.Facts.{to_z-of_z}
 use Rattle.std.proofs.lemmas.Result.{on_ok_weaker}
@@ -12,4 +13,5 @@ returns-clause-ok c =
     let first = rw (c.block_of-stream.ensures.same, c.bytes.ensures) at c.in_ok-put_bytes.ensures.ok in
     let fourth = rw (to_z-of_z start) at c.in_ok-put_i64.ensures.ok in
     let fifth = rw (to_z-of_z stop) at c.put_i64-2.ensures.ok in
-    on_ok_weaker c.put_i64-2.result (six _ _ _ _ _ _ _ _ _ _ _ _ _ form first c.in_ok-put_u64.ensures.ok c.in_ok-put_u64-2.ensures.ok fourth) fifth
+    on_ok_weaker c.put_i64-2.result (six _ _ _ _ _ _ _ _ _ _ _ _ _ form first c.in_ok-put_u64.ensures.ok
+    c.in_ok-put_u64-2.ensures.ok fourth) fifth

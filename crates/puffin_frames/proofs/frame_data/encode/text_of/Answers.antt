@@ -1,3 +1,4 @@
+-- A text's bytes are UTF-8 and fit their type.
 use Rattle.std.proofs.Common.{arith, rules}
 use Rattle.puffin_data.proofs.lemmas.Texts.{is_utf8_yes}
 use Rattle.puffin_frames.proofs.frame_data.encode.text_of.Goals as goal

@@ -1,5 +1,5 @@
-use Rattle.puffin_frames.proofs.PacketsTaken.{stored_at_front}
+use Rattle.puffin_frames.proofs.FramesTaken.{stored_at_front}
 use Rattle.puffin_frames.proofs.frame_data.laws.only_packets_are_read.Goals as goal
 
 pub returns : goal.returns
-returns c bytes rest s is = stored_at_front bytes rest s is
+returns c bytes rest stored are_bytes = stored_at_front bytes rest stored are_bytes

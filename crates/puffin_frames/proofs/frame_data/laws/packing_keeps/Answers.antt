@@ -2,7 +2,7 @@ use Rattle.puffin_frames.proofs.Packings.{pack-keeps, unpack-keeps}
 use Rattle.puffin_frames.proofs.frame_data.laws.packing_keeps.Goals as goal
 
 pub returns-clause-packs : goal.returns-clause-packs
-returns-clause-packs c h agree = pack-keeps h agree
+returns-clause-packs c holding agree = pack-keeps holding agree
 
 pub returns-clause-unpacks : goal.returns-clause-unpacks
-returns-clause-unpacks c h = unpack-keeps h
+returns-clause-unpacks c holding = unpack-keeps holding

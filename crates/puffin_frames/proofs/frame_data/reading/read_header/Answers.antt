@@ -1,3 +1,4 @@
+-- The bytes that were taken are fewer than four, or four zeros: both are read as the end.
 use Rattle.std.proofs.Common.{◌≡◌, ◌<◌, length, take, inl, inr, arith, length-take, take_all, subst, sym, ◌∙◌}
 use Rattle.std.specs.Io.KnownBytes.{Consumes}
 use Rattle.puffin_frames.proofs.PacketsRead.{short_end, zeros_end}
@@ -5,18 +6,24 @@ use Rattle.puffin_frames.proofs.frame_data.reading.read_header.Goals as goal
 
 pub returns-then-branch-lt4-clause-header : goal.returns-then-branch-lt4-clause-header
 returns-then-branch-lt4-clause-header g c =
-    let n = c.in_ok-read_up_to.field-0 in
+    let count = c.in_ok-read_up_to.field-0 in
     let buf = c.read_up_to.new.buf in
     let took = c.in_ok-read_up_to.ensures.took.1 in
-    let short : length (take n buf) < 4 = omega (arith, length-take n buf, c.if-branch-lt4.true) in
-    record { taken = take n buf; consumed = took.consumed; none = short_end (take n buf) short; last = inr (took.fewer short) }
+    let short : length (take count buf) < 4 = omega (arith, length-take count buf, c.if-branch-lt4.true) in
+    record {
+      taken = take count buf;
+      consumed = took.consumed;
+      none = short_end (take count buf) short;
+      last = inr (took.fewer short);
+    }
 
 pub returns-then-read_u32-eq0-clause-header : goal.returns-then-read_u32-eq0-clause-header
 returns-then-read_u32-eq0-clause-header g c =
-    let n = c.in_ok-read_up_to.field-0 in
+    let count = c.in_ok-read_up_to.field-0 in
     let buf = c.read_up_to.new.buf in
     let took = c.in_ok-read_up_to.ensures.took.1 in
-    let all : take n buf ≡ buf = take_all n buf (omega (arith, c.in_ok-read_up_to.ensures.size, c.if-branch-lt4.false)) in
+    let all : take count buf ≡ buf =
+    take_all count buf (omega (arith, c.in_ok-read_up_to.ensures.size, c.if-branch-lt4.false)) in
     record {
       taken = buf;
       consumed = subst (Consumes _ _) all took.consumed;

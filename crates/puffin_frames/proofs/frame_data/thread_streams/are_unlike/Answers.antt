@@ -6,7 +6,9 @@ use Rattle.puffin_frames.proofs.frame_data.thread_streams.are_unlike.Goals as go
 
 pub returns-in-Some : goal.returns-in-Some
 returns-in-Some c =
-    subst (λ (u : StreamFacts). (c.is_unlike.result ≡ true) ↔ AreUnlike u (facts_of_ref c.args.times.now)) (sym (under_there c.args.streams.now.entries c.args.info.now c.in-Some.shared.now (sym c.in-Some.ensures.value) ∙ ap facts_of (sym c.deref.ensures))) c.is_unlike.ensures
+    subst (λ (u : StreamFacts). (c.is_unlike.result ≡ true) ↔ AreUnlike u (facts_of_ref c.args.times.now))
+    (sym (under_there c.args.streams.now.entries c.args.info.now c.in-Some.shared.now (sym c.in-Some.ensures.value)
+    ∙ ap facts_of (sym c.deref.ensures))) c.is_unlike.ensures
 
 pub returns-in-None : goal.returns-in-None
 returns-in-None c =

@@ -1,3 +1,4 @@
+-- Five numbers take at most 9 bytes each.
 use Rattle.puffin_frames.proofs.Writing.{meta_short}
 use Rattle.puffin_frames.proofs.frame_data.writing.meta_part.Goals as goal
 

@@ -1,3 +1,4 @@
+-- By id the first details stay, and by name the last id does.
 use Rattle.puffin_threads.proofs.CollectionsBuilt.{first_in, last_in, none_in_none}
 use Rattle.puffin_threads.proofs.Inserting.{own_ids_inserted, own_ids_none}
 use Rattle.puffin_threads.proofs.scope_details.laws.collected_details.Goals as goal

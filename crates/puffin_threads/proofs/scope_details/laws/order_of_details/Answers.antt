@@ -1,3 +1,4 @@
+-- The order is total, and only equal details tie.
 use Rattle.puffin_threads.proofs.Comparing.{details_cmp_total, details_cmp-one, same_details-one}
 use Rattle.puffin_threads.proofs.scope_details.laws.order_of_details.Goals as goal
 

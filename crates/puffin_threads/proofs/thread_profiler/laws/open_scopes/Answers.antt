@@ -1,3 +1,4 @@
+-- One more event adds an offset at the front or takes the first one away.
 use Rattle.puffin_threads.proofs.RecordedScopes.{length-open_offsets, offsets_opened, offsets_closed}
 use Rattle.puffin_threads.proofs.thread_profiler.laws.open_scopes.Goals as goal
 

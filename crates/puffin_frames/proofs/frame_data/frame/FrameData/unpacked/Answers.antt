@@ -1,3 +1,4 @@
+-- What is handed out are the streams of the frame's packing, and only how they are held changes.
 use Rattle.std.proofs.Common.{refl, ap, subst, ◌∙◌}
 use Rattle.std.specs.Arc.{arc_value}
 use Rattle.puffin_frames.specs.Frame.Contents.{streams_held, held_as, frame_details}
@@ -9,16 +10,19 @@ use Rattle.puffin_frames.proofs.frame_data.frame.FrameData.unpacked.Goals as goa
 
 pub returns-clause-unpacked : goal.returns-clause-unpacked
 returns-clause-unpacked c =
-    subst (DecidedInMemory (λ frame. streams_held (arc_value frame)) c.unpack-held.result.1) (unpacks_packing (held_as c.args.self.now.held) (frame_so c.args.self.now))
+    subst (DecidedInMemory (λ frame. streams_held (arc_value frame)) c.unpack-held.result.1)
+    (unpacks_packing (held_as c.args.self.now.held) (frame_so c.args.self.now))
     (rw c.replace-held.ensures.value at c.unpack-held.ensures.unpacked)
 
 pub returns-clause-layout : goal.returns-clause-layout
 returns-clause-layout c =
-    unpacked_layout (λ frame. streams_held (arc_value frame)) c.args.self.now.held c.unpack-held.result.1 (rw c.replace-held.ensures.value at c.unpack-held.ensures.unpacked)
+    unpacked_layout (λ frame. streams_held (arc_value frame)) c.args.self.now.held c.unpack-held.result.1
+    (rw c.replace-held.ensures.value at c.unpack-held.ensures.unpacked)
 
 pub returns-clause-no_layout : goal.returns-clause-no_layout
 returns-clause-no_layout c =
-    unpacked_no_layout (λ frame. streams_held (arc_value frame)) c.args.self.now.held c.unpack-held.result.1 (rw c.replace-held.ensures.value at c.unpack-held.ensures.unpacked)
+    unpacked_no_layout (λ frame. streams_held (arc_value frame)) c.args.self.now.held c.unpack-held.result.1
+    (rw c.replace-held.ensures.value at c.unpack-held.ensures.unpacked)
 
 pub returns-clause-fields : goal.returns-clause-fields
 returns-clause-fields c =

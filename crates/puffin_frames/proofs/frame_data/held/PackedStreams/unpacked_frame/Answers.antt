@@ -9,5 +9,8 @@ invariant_of-frame c =
     record {
       ordered = c.requires.0;
       duration_fits = c.requires.1;
-      read_again = unpacked-again (packed_as packed) (shared_streams c.in_ok-thread_streams.thread_streams.entries) packed.are_bytes c.in_ok-thread_streams.ensures;
+      read_again =
+          unpacked-again (packed_as packed)
+          (shared_streams c.in_ok-thread_streams.thread_streams.entries) packed.are_bytes
+          c.in_ok-thread_streams.ensures;
     }

@@ -7,8 +7,11 @@ use Rattle.puffin_frames.proofs.frame_data.meta.FrameMeta.from_streams.Goals as 
 
 pub returns-in_default-clause-err : goal.returns-in_default-clause-err
 returns-in_default-clause-err c =
-    let left = rest_more (λ (x : _). x.now) _ _ _ _ c.in-Some.is c.next.ensures.steps in
-    (refl, too_large _ _ _ _ _ _ (at_next _ _ _ _ _ c.loop-info.invariant (ap (map facts_of) left)) c.as_stream_into_ref.ensures c.in_default.ensures.none)
+    let left = rest_more (λ (x : _). x.now) _ _ _ _ c.in-Some.is c.next.ensures.steps in (
+      refl,
+      too_large _ _ _ _ _ _ (at_next _ _ _ _ _ c.loop-info.invariant (ap (map facts_of) left))
+          c.as_stream_into_ref.ensures c.in_default.ensures.none,
+    )
 
 pub returns-clause-totals : goal.returns-clause-totals
 returns-clause-totals c =

@@ -10,4 +10,4 @@ pub returns-clause-own_meta : goal.returns-clause-own_meta
 returns-clause-own_meta c =
     c.in_ok-meta.ensures.ok
     ∙ ap (meta_of c.args.frame_index) (sym (values-streams_of c.args.thread_streams.entries c.in_ok-meta.ensures.sorted))
-    ∙ ap (λ es. meta_of c.args.frame_index (map.values (streams_of es))) (sym c.in_ok-shared.ensures.ok)
+    ∙ ap (λ es. meta_of c.args.frame_index (map.values (streams_of es))) (sym c.in_ok-share_streams.ensures.ok)

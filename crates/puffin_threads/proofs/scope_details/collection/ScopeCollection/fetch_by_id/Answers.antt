@@ -1,3 +1,4 @@
+-- A look-up among the entries is one in the map that they are seen as.
 use Rattle.std.proofs.Common.{ap, sym, ◌∙◌, option_map}
 use Rattle.std.specs.FinMap.{get}
 use Rattle.std.specs.Arc.{arc_value}
@@ -8,4 +9,6 @@ use Rattle.puffin_threads.proofs.scope_details.collection.ScopeCollection.fetch_
 
 pub returns : goal.returns
 returns c =
-    ap (option_map (λ d. details_of (arc_value d))) c.get.ensures.value ∙ sym (get-by_ids c.self.inside.by_id.entries c.args.id.now) ∙ ap (λ (seen : Collection). get seen.by_id c.args.id.now) c.self.view_is
+    ap (option_map (λ d. details_of (arc_value d))) c.get.ensures.value
+    ∙ sym (get-by_ids c.self.inside.by_id.entries c.args.id.now)
+    ∙ ap (λ (seen : Collection). get seen.by_id c.args.id.now) c.self.view_is

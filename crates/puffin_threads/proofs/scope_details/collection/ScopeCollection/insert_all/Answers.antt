@@ -16,20 +16,28 @@ returns-then-any_lacks_id-clause-missing c =
 pub returns-in_err-clone-clause-missing : goal.returns-in_err-clone-clause-missing
 returns-in_err-clone-clause-missing c =
     let memory : IfErr c.from_residual.result (λ e. e ≡ Memory) = search rules in
-    never_missing c.from_residual.result _ memory (tested _ c.args.details.now c.any_lacks_id.ensures ∙ c.if-any_lacks_id.false)
+    never_missing c.from_residual.result _ memory
+    (tested _ c.args.details.now c.any_lacks_id.ensures ∙ c.if-any_lacks_id.false)
 
 pub returns-in_err-clone-clause-err : goal.returns-in_err-clone-clause-err
-returns-in_err-clone-clause-err c = learnt_so_far _ c.args.details.now c.loop-details.details-index _ _ c.loop-details.invariant
+returns-in_err-clone-clause-err c =
+    learnt_so_far _ c.args.details.now c.loop-details.details-index _ _ c.loop-details.invariant
 
 pub returns-in_err-_kept-clause-missing : goal.returns-in_err-_kept-clause-missing
 returns-in_err-_kept-clause-missing c =
-    let p = err_from_is_err_and c.from_residual-in_err-_kept.result c.from_residual-in_err-_kept.ensures.1 in
+    let failed = err_from_is_err_and c.from_residual-in_err-_kept.result c.from_residual-in_err-_kept.ensures.1 in
     let none = tested _ c.args.details.now c.any_lacks_id.ensures ∙ c.if-any_lacks_id.false in
-    let memory = memory_alone c.insert.result c.in_err-_kept.field-0.0 (details_of (arc_value c.in_ok-clone.field-0)) (id_at c.args.details.now c.loop-details.details-index c.details-item.result c.in_ok-clone.field-0 none c.loop-details-test.true c.details-item.is c.in_ok-clone.ensures.cases) c.in_err-_kept.was c.insert.ensures.missing c.in_err-_kept.ensures.cause in
-    rw p.1 (never_missing (Err p.0) _ (p.2 ∙ memory) none)
+    let memory =
+    memory_alone c.insert.result c.in_err-_kept.field-0.0 (details_of (arc_value c.in_ok-clone.field-0))
+    (id_at c.args.details.now c.loop-details.details-index c.details-item.result c.in_ok-clone.field-0 none
+    c.loop-details-test.true c.details-item.is c.in_ok-clone.ensures.cases) c.in_err-_kept.was
+    c.insert.ensures.missing c.in_err-_kept.ensures.cause in
+    rw failed.1 (never_missing (Err failed.0) _ (failed.2 ∙ memory) none)
 
 pub returns-in_err-_kept-clause-err : goal.returns-in_err-_kept-clause-err
-returns-in_err-_kept-clause-err c = learnt_so_far _ c.args.details.now c.loop-details.details-index _ _ (c.in_err-_kept.ensures.err ∙ c.loop-details.invariant)
+returns-in_err-_kept-clause-err c =
+    learnt_so_far _ c.args.details.now c.loop-details.details-index _ _
+    (c.in_err-_kept.ensures.err ∙ c.loop-details.invariant)
 
 pub returns-clause-missing : goal.returns-clause-missing
 returns-clause-missing c =

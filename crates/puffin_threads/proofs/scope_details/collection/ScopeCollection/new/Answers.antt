@@ -1,3 +1,4 @@
+-- An empty collection has no details under an id that isn't theirs.
 use Rattle.std.proofs.Common.{ap, sym, ◌∙◌}
 use Rattle.std.specs.FinMap.{get}
 use Rattle.puffin_threads.specs.Details.Collection.{by_ids}

@@ -1,3 +1,4 @@
+-- After the last scope has ended none is open, so what the thread holds may be handed over.
 use Rattle.std.proofs.Common.{◌∷◌, [], ap, arith, to_z, of_z, w64}
 use Rattle.std.proofs.lemmas.Option.{slice_get_within}
 use Rattle.puffin_data.specs.Forest.Tour.{Close}
@@ -11,7 +12,12 @@ pub close-requires : goal.close-requires
 close-requires g c =
     let thread = c.args.self.now.state in
     let same = ap (λ (t : Thread). open_after 0 t.word) c.time_of_end.ensures.thread in
-    omega (arith, same, length-open_offsets thread.form thread.word, slice_get_within (offsets_of thread) 0 c.args.offset c.in_ok-now_ns.ensures.innermost.innermost)
+    omega (
+      arith,
+      same,
+      length-open_offsets thread.form thread.word,
+      slice_get_within (offsets_of thread) 0 c.args.offset c.in_ok-now_ns.ensures.innermost.innermost,
+    )
 
 pub hand_over-requires-clause-none_open : goal.hand_over-requires-clause-none_open
 hand_over-requires-clause-none_open g c =

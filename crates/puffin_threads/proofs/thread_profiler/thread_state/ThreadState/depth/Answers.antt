@@ -1,3 +1,4 @@
+-- The number that is kept is that of the word's open scopes.
 use Rattle.std.proofs.Common.{ap, ◌∙◌}
 use Rattle.puffin_data.specs.Forest.Words.{open_after}
 use Rattle.puffin_threads.specs.Thread.Calls.{Thread}

@@ -1,3 +1,4 @@
+-- The closed scopes are those that have begun, without the open ones.
 use Rattle.std.proofs.Common.{ap, arith}
 use Rattle.puffin_threads.specs.Thread.Calls.{Thread, num_ended}
 use Rattle.puffin_threads.proofs.ThreadStates.{closed_in}

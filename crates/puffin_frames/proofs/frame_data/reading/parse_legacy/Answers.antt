@@ -1,3 +1,4 @@
+-- All of the bytes are the layout of a legacy frame, whose parts are those of the frame that is made.
 use Rattle.std.proofs.Common.{◌≡◌, Bool, cond, List, Ok, Err, refl, ap, sym, ◌∙◌, arith}
 use Rattle.puffin_data.specs.Honesty.{StreamFacts}
 use Rattle.puffin_data.specs.declared.data.form.Form.TheVariants.{Short}
@@ -17,30 +18,35 @@ use Rattle.puffin_frames.proofs.Listed.{entries-listed}
 use Rattle.puffin_frames.proofs.Structs.{legacy_reader}
 use Rattle.puffin_frames.proofs.Layouts.{stored_plainly}
 use Rattle.puffin_frames.proofs.lemmas.PackedAgain.{packed_again}
-use Rattle.puffin_frames.proofs.frame_data.reading.parsed_legacy.Goals as goal
+use Rattle.puffin_frames.proofs.frame_data.reading.parse_legacy.Goals as goal
 
 pub returns-clause-decided : goal.returns-clause-decided
 returns-clause-decided c =
     let meta : FrameMeta = c.in-Ok.frame.0 in
-    let es = c.in-Ok.frame.1.entries in
-    let l : Legacy = record { meta = meta; streams = pairs_of es } in
+    let shared = c.in-Ok.frame.1.entries in
+    let stored : Legacy = record { meta = meta; streams = pairs_of shared } in
     let frame = c.from_unpacked.result in
-    let first : legacy_from c.args.bytes.now ≡ Ok l =
-    ap legacy_with_range c.in-Ok.ensures.given ∙ ap (λ (b : Bool). cond b (Ok l) (Err file.BadRange)) (sym c.if-not-is_valid_range.ensures.test) in
-    let streams : entries_if_any (holding_of frame).unpacked ≡ pairs_of es =
-    ap (λ (h : Holding). entries_if_any h.unpacked) c.from_unpacked.ensures.held ∙ entries-listed es c.in-Ok.ensures.sorted in
-    let same : legacy_of frame ≡ l =
-    ap (λ (m : FrameMeta). record { meta = m; streams = entries_if_any (holding_of frame).unpacked }) c.from_unpacked.ensures.meta ∙ ap (λ (s : List (ThreadKey × StreamFacts)). record { meta = meta; streams = s }) streams in
+    let first : legacy_from c.args.bytes.now ≡ Ok stored =
+    ap legacy_with_range c.in-Ok.ensures.given
+    ∙ ap (λ (valid : Bool). cond valid (Ok stored) (Err file.BadRange)) (sym c.if-not-is_valid_range.ensures.test) in
+    let streams : entries_if_any (holding_of frame).unpacked ≡ pairs_of shared =
+    ap (λ (holding : Holding). entries_if_any holding.unpacked) c.from_unpacked.ensures.held
+    ∙ entries-listed shared c.in-Ok.ensures.sorted in
+    let same : legacy_of frame ≡ stored =
+    ap (λ (other : FrameMeta). record { meta = other; streams = entries_if_any (holding_of frame).unpacked })
+    c.from_unpacked.ensures.meta
+    ∙ ap (λ (pairs : List (ThreadKey × StreamFacts)). record { meta = meta; streams = pairs }) streams in
     first ∙ ap Ok (sym same)
 
 pub invariant_of-unpacked : goal.invariant_of-unpacked
 invariant_of-unpacked c =
-    let es = c.in-Ok.frame.1.entries in
-    let l : Legacy = record { meta = c.in-Ok.frame.0; streams = pairs_of es } in
-    let bytes : IsBytes c.args.bytes.now = λ i. omega (arith, c.type_inv.bytes i) in
-    let taken = whole_taken IsLegacy legacy_layout legacy_at legacy_reader c.args.bytes.now l bytes c.in-Ok.ensures.given in
+    let shared = c.in-Ok.frame.1.entries in
+    let stored : Legacy = record { meta = c.in-Ok.frame.0; streams = pairs_of shared } in
+    let bytes : IsBytes c.args.bytes.now = λ place. omega (arith, c.type_inv.bytes place) in
+    let (fits, whole_layout) =
+    whole_taken IsLegacy legacy_layout legacy_at legacy_reader c.args.bytes.now stored bytes c.in-Ok.ensures.given in
     record {
       ordered = c.if-not-is_valid_range.ensures.ordered refl;
       duration_fits = c.if-not-is_valid_range.ensures.duration_fits refl;
-      read_again = packed_again (shared_streams es) (stored_plainly es Short taken.0.1.0);
+      read_again = packed_again (shared_streams shared) (stored_plainly shared Short fits.1.0);
     }
