@@ -23,14 +23,16 @@ neither false b h = (refl, h)
 pub has-append : (q : ℕ) (xs ys : List ℕ) → has_number q (xs ++ ys) ≡ (has_number q xs || has_number q ys)
 has-append q [] ys = refl
 has-append q (x ∷ xs) ys = at (nat_eq q x) (has-append q xs ys) where
-  at : (b : Bool) → has_number q (xs ++ ys) ≡ (has_number q xs || has_number q ys) → (b || has_number q (xs ++ ys)) ≡ ((b || has_number q xs) || has_number q ys)
+  at : (b : Bool) → has_number q (xs ++ ys) ≡ (has_number q xs || has_number q ys)
+      → (b || has_number q (xs ++ ys)) ≡ ((b || has_number q xs) || has_number q ys)
   at true e = refl
   at false e = e
 
 pub has_index-append : (q : ℕ) (fs gs : List Frame) → has_index q (fs ++ gs) ≡ (has_index q fs || has_index q gs)
 has_index-append q [] gs = refl
 has_index-append q (f ∷ fs) gs = at (nat_eq q (index_of f)) (has_index-append q fs gs) where
-  at : (b : Bool) → has_index q (fs ++ gs) ≡ (has_index q fs || has_index q gs) → (b || has_index q (fs ++ gs)) ≡ ((b || has_index q fs) || has_index q gs)
+  at : (b : Bool) → has_index q (fs ++ gs) ≡ (has_index q fs || has_index q gs)
+      → (b || has_index q (fs ++ gs)) ≡ ((b || has_index q fs) || has_index q gs)
   at true e = refl
   at false e = e
 
@@ -38,9 +40,13 @@ pub has-index_of : (q : ℕ) (fs : List Frame) → has_number q (map index_of fs
 has-index_of q [] = refl
 has-index_of q (f ∷ fs) = ap (λ b. nat_eq q (index_of f) || b) (has-index_of q fs)
 
-pub has_all : (P : Frame → Type 0) (fs : List Frame) → ((g : Frame) → has_index (index_of g) fs ≡ true → P g) → AllByRecursion P fs
+pub has_all : (P : Frame → Type 0) (fs : List Frame) → ((g : Frame) → has_index (index_of g) fs ≡ true → P g)
+    → AllByRecursion P fs
 has_all P [] h = tt
-has_all P (f ∷ fs) h = (h f (ap (λ b. b || has_index (index_of f) fs) (same (index_of f) (index_of f) refl)), has_all P fs (λ g e. h g (later (nat_eq (index_of g) (index_of f)) (has_index (index_of g) fs) e))) where
+has_all P (f ∷ fs) h = (
+  h f (ap (λ b. b || has_index (index_of f) fs) (same (index_of f) (index_of f) refl)),
+  has_all P fs (λ g e. h g (later (nat_eq (index_of g) (index_of f)) (has_index (index_of g) fs) e)),
+) where
   same : (a b : ℕ) → a ≡ b → nat_eq a b ≡ true
   same a b e = grind arith
 
@@ -62,11 +68,13 @@ is_at q i = grind arith
 
 -- all of a list
 
-pub all_map : (P Q : Frame → Type 0) → ((f : Frame) → P f → Q f) → (fs : List Frame) → AllByRecursion P fs → AllByRecursion Q fs
+pub all_map : (P Q : Frame → Type 0) → ((f : Frame) → P f → Q f) → (fs : List Frame) → AllByRecursion P fs
+    → AllByRecursion Q fs
 all_map P Q k [] h = tt
 all_map P Q k (f ∷ fs) h = (k f h.0, all_map P Q k fs h.1)
 
-pub all_both : (P Q R : Frame → Type 0) → ((f : Frame) → P f → Q f → R f) → (fs : List Frame) → AllByRecursion P fs → AllByRecursion Q fs → AllByRecursion R fs
+pub all_both : (P Q R : Frame → Type 0) → ((f : Frame) → P f → Q f → R f) → (fs : List Frame) → AllByRecursion P fs
+    → AllByRecursion Q fs → AllByRecursion R fs
 all_both P Q R k [] h m = tt
 all_both P Q R k (f ∷ fs) h m = (k f h.0 m.0, all_both P Q R k fs h.1 m.1)
 
@@ -88,14 +96,17 @@ all_drop P zero xs h = h
 all_drop P (suc k) [] h = tt
 all_drop P (suc k) (x ∷ xs) h = all_drop P k xs h.1
 
-pub all_more : (P : Frame → Type 0) (xs : List Frame) (f : Frame) → AllByRecursion P xs → P f → AllByRecursion P (xs ++ f ∷ [])
+pub all_more : (P : Frame → Type 0) (xs : List Frame) (f : Frame) → AllByRecursion P xs → P f
+    → AllByRecursion P (xs ++ f ∷ [])
 all_more P [] f h p = (p, tt)
 all_more P (x ∷ xs) f h p = (h.0, all_more P xs f h.1 p)
 
-pub all_place : (P : Frame → Type 0) (f : Frame) (fs : List Frame) → P f → AllByRecursion P fs → AllByRecursion P (place is_slower_frame f fs)
+pub all_place : (P : Frame → Type 0) (f : Frame) (fs : List Frame) → P f → AllByRecursion P fs
+    → AllByRecursion P (place is_slower_frame f fs)
 all_place P f [] p h = (p, tt)
 all_place P f (x ∷ xs) p h = at (is_slower_frame f x) (all_place P f xs p h.1) where
-  at : (b : Bool) → AllByRecursion P (place is_slower_frame f xs) → AllByRecursion P (cond b (f ∷ (x ∷ xs)) (x ∷ place is_slower_frame f xs))
+  at : (b : Bool) → AllByRecursion P (place is_slower_frame f xs)
+      → AllByRecursion P (cond b (f ∷ (x ∷ xs)) (x ∷ place is_slower_frame f xs))
   at true later = (p, h)
   at false later = (h.0, later)
 
@@ -107,7 +118,8 @@ pub rising_rest : (xs ys : List Frame) → AreRising (xs ++ ys) → AreRising ys
 rising_rest [] ys h = h
 rising_rest (x ∷ xs) ys h = rising_rest xs ys h.1
 
-pub sorted_first : {K : Type 0} (cmp : K → K → Ordering) (xs ys : List K) → IsStrictlySortedBy cmp (xs ++ ys) → IsStrictlySortedBy cmp xs
+pub sorted_first : {K : Type 0} (cmp : K → K → Ordering) (xs ys : List K) → IsStrictlySortedBy cmp (xs ++ ys)
+    → IsStrictlySortedBy cmp xs
 unfolding IsStrictlySortedBy
 sorted_first cmp [] ys h = tt
 sorted_first cmp (x ∷ xs) ys h = (all_first (λ y. cmp x y ≡ Less) xs ys h.0, sorted_first cmp xs ys h.1)
@@ -132,7 +144,8 @@ pub map-last_from : {A B : Type 0} (g : A → B) (x : A) (xs : List A) → g (la
 map-last_from g x [] = refl
 map-last_from g x (y ∷ ys) = map-last_from g y ys
 
-pub last_map : {A B : Type 0} (g : A → B) (xs : List A) (b : B) → last_in (map g xs) ≡ Some b → (a : A) × (last_in xs ≡ Some a) × (g a ≡ b)
+pub last_map : {A B : Type 0} (g : A → B) (xs : List A) (b : B) → last_in (map g xs) ≡ Some b
+    → (a : A) × (last_in xs ≡ Some a) × (g a ≡ b)
 last_map g [] b e = cc
 last_map g (x ∷ xs) b e = (last_from x xs, refl, map-last_from g x xs ∙ one_some (last_from (g x) (map g xs)) b e)
 

@@ -4,4 +4,6 @@ use Rattle.puffin_view.specs.View.Selection.{old_place}
 use Rattle.puffin_view.proofs.profile_view.select.frames_at.Given as goal
 
 abbrev pub invariant-loop-chosen : goal.invariant-loop-chosen
-invariant-loop-chosen l = frames_of l.all.items ++ filter_map (λ r. slice_get (frames_of l.frames) r.place) (map old_place (drop l.chosen-index l.places)) ≡ filter_map (λ r. slice_get (frames_of l.frames) r.place) (map old_place l.places)
+invariant-loop-chosen l = frames_of l.all.items
+    ++ filter_map (λ r. slice_get (frames_of l.frames) r.place) (map old_place (drop l.chosen-index l.places))
+    ≡ filter_map (λ r. slice_get (frames_of l.frames) r.place) (map old_place l.places)

@@ -8,5 +8,7 @@ use Rattle.puffin_view.proofs.profile_view.select.slow_places.Goals as goal
 pub frames-preserved : goal.frames-preserved
 frames-preserved c =
     let a = c.index-frames-place.result in
-    ranked_more shared_frame slow_place c.args.frames.now c.frames.place a c.frames.places.items c.push.new.self.items c.of.result (ranks_from 0 _) (omega arith) c.index-frames-place.is
-    (c.of.ensures ∙ ap (λ f. rank_at c.frames.place (frame_of f)) c.deref.ensures) c.in_ok-push.ensures.items c.frames.invariant
+    ranked_more shared_frame slow_place c.args.frames.now c.frames.place a c.frames.places.items c.push.new.self.items
+    c.of.result (ranks_from 0 _) (omega arith) c.index-frames-place.is
+    (c.of.ensures ∙ ap (λ f. rank_at c.frames.place (frame_of f)) c.deref.ensures) c.in_ok-push.ensures.items
+    c.frames.invariant

@@ -4,4 +4,6 @@ use Rattle.puffin_view.proofs.thread_totals.AllTotals.add_stream.Goals as goal
 
 pub returns-clause-ok : goal.returns-clause-ok
 returns-clause-ok c =
-    stream_added c.args.self.now.totals.entries c.insert.new.self.entries c.in_ok-clone.field-0 c.args.thread.now _ _ (facts_of c.args.info.now) c.in_ok-insert.ensures.entries c.in_ok-clone.ensures.ok c.totals_under.ensures c.with-totals.ensures
+    stream_added c.args.self.now.totals.entries c.insert.new.self.entries c.in_ok-clone.field-0 c.args.thread.now _ _
+    (facts_of c.args.info.now) c.in_ok-insert.ensures.entries c.in_ok-clone.ensures.ok c.totals_under.ensures
+    c.with-totals.ensures

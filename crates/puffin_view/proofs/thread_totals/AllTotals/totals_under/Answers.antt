@@ -6,7 +6,9 @@ use Rattle.puffin_view.proofs.ThreadsTotaled.{got}
 use Rattle.puffin_view.proofs.thread_totals.AllTotals.totals_under.Goals as goal
 
 pub returns-in-Some : goal.returns-in-Some
-returns-in-Some c = sym (ap (λ (o : Option ThreadTotals). unwrap_or o no_totals) (got c.args.self.now.totals.entries c.args.thread.now (Some c.in-Some.totals.now) c.in-Some.ensures.value))
+returns-in-Some c = sym (ap (λ (o : Option ThreadTotals). unwrap_or o no_totals)
+    (got c.args.self.now.totals.entries c.args.thread.now (Some c.in-Some.totals.now) c.in-Some.ensures.value))
 
 pub returns-in-None : goal.returns-in-None
-returns-in-None c = c.none.ensures ∙ sym (ap (λ (o : Option ThreadTotals). unwrap_or o no_totals) (got c.args.self.now.totals.entries c.args.thread.now None c.in-None.ensures.value))
+returns-in-None c = c.none.ensures ∙ sym (ap (λ (o : Option ThreadTotals). unwrap_or o no_totals)
+    (got c.args.self.now.totals.entries c.args.thread.now None c.in-None.ensures.value))

@@ -12,7 +12,10 @@ invariant_of-self c =
     let as_many : vec_len t.nodes ≡ vec_len c.args.self.now.nodes = ap (λ v. vec_len v) c.follow.ensures.nodes in
     let within : i < length t.nodes.items = omega (arith, low, high, size, as_many) in
     let n = c.index_mut-node.result.now in
-    record { found = found_kept (lists_of t) _ t.found refl refl refl (λ k d. key_at-set t.nodes.items i n d k (ap (λ m. m.key) (c.index_mut-node.ensures.value ∙ same_at t.nodes.items i n d within)) within) }
+    record {
+      found = found_kept (lists_of t) _ t.found refl refl refl (λ k d. key_at-set t.nodes.items i n d k
+          (ap (λ m. m.key) (c.index_mut-node.ensures.value ∙ same_at t.nodes.items i n d within)) within);
+    }
 
 pub invariant_of-self-in-Some : goal.invariant_of-self-in-Some
 invariant_of-self-in-Some c =
@@ -26,5 +29,6 @@ invariant_of-self-in-Some c =
     let n = c.index_mut-node.result.now in
     record {
       found = found_kept (lists_of t) _ t.found refl refl refl
-          (λ k d. key_at-set t.nodes.items i (record { key = n.key; sums = c.in-Some.sums }) d k (ap (λ m. m.key) (c.index_mut-node.ensures.value ∙ same_at t.nodes.items i n d within)) within);
+          (λ k d. key_at-set t.nodes.items i (record { key = n.key; sums = c.in-Some.sums }) d k
+          (ap (λ m. m.key) (c.index_mut-node.ensures.value ∙ same_at t.nodes.items i n d within)) within);
     }

@@ -26,7 +26,11 @@ returns-in_err-write_magic g c =
     let e = c.in_err-write_magic.field-0.0 in
     let h = c.in_err-write_magic.ensures.err in
     let cs = first_with (option_map (λ s. s.now) c.args.scopes) (fields_in (view_of c.args.self.now)) in
-    record { written = refuses_file g.D.Drain.contents g.D.Drain.failures g.D.Drain.takes _ _ cs c.from_residual.result e (p.1 ∙ ap (λ (x : FileError). Err x) p.2) (magic_begins _ _ cs h.1) (λ at. h.2) (λ long. absurd (io_is_not_long e h.0 long)) (inr (inr h.0)) }
+    record {
+      written = refuses_file g.D.Drain.contents g.D.Drain.failures g.D.Drain.takes _
+          _ cs c.from_residual.result e (p.1 ∙ ap (λ (x : FileError). Err x) p.2) (magic_begins _ _ cs h.1) (λ at. h.2)
+          (λ long. absurd (io_is_not_long e h.0 long)) (inr (inr h.0));
+    }
 
 pub frames-preserved : goal.frames-preserved
 frames-preserved g c =
@@ -36,14 +40,18 @@ frames-preserved g c =
     let said : PacketFields = packet_fields c.deref.result.now in
     let one = record said { details = details_or said.details o } in
     let rest = map fields_of (all_left c.next.new.self) in
-    let left : all_left c.frames.frame-iterator ≡ shared_frame c.in-Some.frame.now ∷ all_left c.next.new.self = rest_more (λ a. shared_frame a.now) _ _ _ _ c.in-Some.is c.next.ensures.steps in
-    let so_far = subst (λ f. cs ≡ before.0 ++ first_with (option_map (λ s. s.now) f) (map fields_of (all_left c.frames.frame-iterator))) (sym c.take.ensures.value) before.1 in
-    let is = one_left before.0 o said (shared_frame c.in-Some.frame.now) (all_left c.frames.frame-iterator) (all_left c.next.new.self) cs so_far left (ap packet_fields c.deref.ensures) in
+    let left : all_left c.frames.frame-iterator ≡ shared_frame c.in-Some.frame.now ∷ all_left c.next.new.self =
+    rest_more (λ a. shared_frame a.now) _ _ _ _ c.in-Some.is c.next.ensures.steps in
+    let so_far = subst (λ f. cs ≡ before.0 ++ first_with (option_map (λ s. s.now) f)
+    (map fields_of (all_left c.frames.frame-iterator))) (sym c.take.ensures.value) before.1 in
+    let is = one_left before.0 o said (shared_frame c.in-Some.frame.now) (all_left c.frames.frame-iterator)
+    (all_left c.next.new.self) cs so_far left (ap packet_fields c.deref.ensures) in
     let h = c.in_ok-write_into.ensures in
     let written = h.written in (
       before.0 ++ one ∷ [],
       subst (λ f. cs ≡ (before.0 ++ one ∷ []) ++ first_with (option_map (λ s. s.now) f) rest) (sym c.take.ensures.after)
-          (is ∙ (sym (append_assoc before.0 (one ∷ []) rest) ∙ ap (λ (ds : List PacketFields). (before.0 ++ one ∷ []) ++ ds) (sym (first_as_it_is rest)))),
+          (is ∙ (sym (append_assoc before.0 (one ∷ []) rest)
+          ∙ ap (λ (ds : List PacketFields). (before.0 ++ one ∷ []) ++ ds) (sym (first_as_it_is rest)))),
       subst (Appends _ _) (file_more before.0 one) (Appends-trans _ _ _ _ _ before.2 written.ok),
       all_more before.0 one before.3 h.packed,
       written.none_failed ∙ before.4,
@@ -58,15 +66,21 @@ returns-in_err-write_into g c =
     let said : PacketFields = packet_fields c.deref.result.now in
     let one = record said { details = details_or said.details o } in
     let rest = map fields_of (all_left c.next.new.self) in
-    let left : all_left c.frames.frame-iterator ≡ shared_frame c.in-Some.frame.now ∷ all_left c.next.new.self = rest_more (λ a. shared_frame a.now) _ _ _ _ c.in-Some.is c.next.ensures.steps in
-    let so_far = subst (λ f. cs ≡ before.0 ++ first_with (option_map (λ s. s.now) f) (map fields_of (all_left c.frames.frame-iterator))) (sym c.take.ensures.value) before.1 in
-    let is = one_left before.0 o said (shared_frame c.in-Some.frame.now) (all_left c.frames.frame-iterator) (all_left c.next.new.self) cs so_far left (ap packet_fields c.deref.ensures) in
+    let left : all_left c.frames.frame-iterator ≡ shared_frame c.in-Some.frame.now ∷ all_left c.next.new.self =
+    rest_more (λ a. shared_frame a.now) _ _ _ _ c.in-Some.is c.next.ensures.steps in
+    let so_far = subst (λ f. cs ≡ before.0 ++ first_with (option_map (λ s. s.now) f)
+    (map fields_of (all_left c.frames.frame-iterator))) (sym c.take.ensures.value) before.1 in
+    let is = one_left before.0 o said (shared_frame c.in-Some.frame.now) (all_left c.frames.frame-iterator)
+    (all_left c.next.new.self) cs so_far left (ap packet_fields c.deref.ensures) in
     let h = c.in_err-write_into.ensures.written in
     let e = c.in_err-write_into.field-0.0 in
     record {
-      written = refuses_file g.D.Drain.contents g.D.Drain.failures g.D.Drain.takes _ _ cs c.from_residual-in_err-write_into.result e (p.1 ∙ ap (λ (x : FileError). Err x) p.2)
-          (begun _ _ _ before.0 one rest cs e is before.2 h.begun (λ other. ap g.D.Drain.contents (h.untouched other)) h.cause)
-          (λ at. subst (λ (n : ℕ). (g.D.Drain.failures c.write_into.new.drain ≡ n + 1) ⊎ TookNothing g.D.Drain.takes c.write_into.new.drain) before.4 (h.io at))
+      written = refuses_file g.D.Drain.contents g.D.Drain.failures g.D.Drain.takes _ _ cs
+          c.from_residual-in_err-write_into.result e (p.1 ∙ ap (λ (x : FileError). Err x) p.2)
+          (begun _ _ _ before.0 one rest cs e is before.2 h.begun
+          (λ other. ap g.D.Drain.contents (h.untouched other)) h.cause)
+          (λ at. subst (λ (n : ℕ). (g.D.Drain.failures c.write_into.new.drain ≡ n + 1)
+          ⊎ TookNothing g.D.Drain.takes c.write_into.new.drain) before.4 (h.io at))
           (λ long. any_of before.0 one rest cs is (h.too_long long)) h.cause;
     }
 
@@ -75,10 +89,12 @@ returns g c =
     let before = c.frames.invariant in
     let cs = first_with (option_map (λ s. s.now) c.args.scopes) (fields_in (view_of c.args.self.now)) in
     let all : cs ≡ before.0 =
-    before.1 ∙ (ap (λ (fs : List Frame). before.0 ++ first_with (option_map (λ s. s.now) c.frames.first) (map fields_of fs)) c.in-None.ensures.steps.0 ∙ append-nil before.0) in
+    before.1 ∙ (ap (λ (fs : List Frame). before.0 ++ first_with (option_map (λ s. s.now) c.frames.first)
+    (map fields_of fs)) c.in-None.ensures.steps.0 ∙ append-nil before.0) in
     record {
       written = record {
-        ok = subst (λ (ds : List PacketFields). Appends (g.D.Drain.contents c.args.drain.now) (g.D.Drain.contents c.frames.drain) (file_of ds)) (sym all) before.2;
+        ok = subst (λ (ds : List PacketFields). Appends (g.D.Drain.contents c.args.drain.now)
+            (g.D.Drain.contents c.frames.drain) (file_of ds)) (sym all) before.2;
         packed = subst (AllByRecursion IsPacked) (sym all) before.3;
         begun = tt;
         io = tt;
