@@ -88,12 +88,12 @@ pub first_of_more : (added : List FrameBytes) (f : FrameBytes) (later : List Fra
     → HasAdded added m → (m.frames ≡ 0 → first ≡ f.start) → (0 < m.frames → first ≡ m.first)
     → first ≡ start_of (added ++ (f ∷ later))
 first_of_more [] f later m first h none some = none h.number
-first_of_more (a ∷ added) f later m first h none some = let number =
-    h.number in some (omega (arith, number)) ∙ h.first (omega arith)
+first_of_more (a ∷ added) f later m first h none some =
+    let number = h.number in some (omega (arith, number)) ∙ h.first (omega arith)
 
 -- one frame more
-pub one_added : (added : List FrameBytes) (f : FrameBytes) (m n : Merger) (v : Merging) (made : ℕ) (h : HasAdded added
-    m) → v.table ≡ m.merging.table → v.origin ≡ f.start -ℤ start_of (added ++ (f ∷ []))
+pub one_added : (added : List FrameBytes) (f : FrameBytes) (m n : Merger) (v : Merging) (made : ℕ)
+    (h : HasAdded added m) → v.table ≡ m.merging.table → v.origin ≡ f.start -ℤ start_of (added ++ (f ∷ []))
     → TakesAll (form_of f) TakesScopes v n.merging (bytes_of f) made
     → length (bytes_of f) < 2 ^ 63 → n.frames ≡ m.frames + 1 → n.first ≡ start_of (added ++ (f ∷ []))
     → Added (added ++ (f ∷ [])) n (tries_for h + made)
@@ -111,8 +111,8 @@ one_added added f m n v made h table origin all short frames first =
     (frames ∙ ap (λ (k : ℕ). k + 1) number ∙ sym size) first
 
 -- a frame that is refused
-pub one_refused : (added : List FrameBytes) (f : FrameBytes) (later : List
-    FrameBytes) (m : Merger) (v w : Merging) (made : ℕ) (e : Error) (h : HasAdded added m) → v.table ≡ m.merging.table
+pub one_refused : (added : List FrameBytes) (f : FrameBytes) (later : List FrameBytes) (m : Merger)
+    (v w : Merging) (made : ℕ) (e : Error) (h : HasAdded added m) → v.table ≡ m.merging.table
     → v.origin ≡ f.start -ℤ start_of (added ++ (f ∷ later))
     → (e ≡ Memory) ⊎ StopsEarly (form_of f) TakesScopes RefusesScope v w (bytes_of f) made e
     → (e ≡ Memory) ⊎ IsRefusalAfter (added ++ (f ∷ later)) (tries_for h + made) e

@@ -40,13 +40,8 @@ taken_size xs zero = omega arith
 taken_size [] (suc i) = omega arith
 taken_size (x ∷ xs) (suc i) = let rest = taken_size xs i in omega (arith, rest)
 
-pub room_for_more : (frames : List FrameBytes) (i : ℕ) (m : Merger) (tried : ℕ) → AddedFirst frames i m tried
-    → m.frames ≤ i
-room_for_more frames i m tried a = let number = a.0.number in let size =
-    taken_size frames i in omega (arith, number, size)
-
-pub one_more_first : (info : ThreadKey) (frames : List Held) (i : ℕ) (x : Held) (f : FrameBytes) (m
-    n : Merger) (tried made : ℕ) → i < length frames → x ≡ get_or frames i x → f ≡ bytes_in info x
+pub one_more_first : (info : ThreadKey) (frames : List Held) (i : ℕ) (x : Held)
+    (f : FrameBytes) (m n : Merger) (tried made : ℕ) → i < length frames → x ≡ get_or frames i x → f ≡ bytes_in info x
     → AddedFirst (frames_bytes info frames) i m tried
     → ((added : List FrameBytes) → (before : HasAdded added m) → (h : HasAdded (added ++ (f ∷ [])) n)
     × (tries_for h ≡ tries_for before + made)) → AddedFirst (frames_bytes info frames) (i + 1) n (tried + made)
@@ -111,18 +106,18 @@ all_first info frames i m tried e a =
     subst (λ (xs : List FrameBytes). AddedAll xs m tried)
     (ap (λ (k : ℕ). take k (frames_bytes info frames)) (e ∙ sym size) ∙ take_all (frames_bytes info frames)) a
 
-pub merged_first : (info : ThreadKey) (frames : List Held) (i : ℕ) (m : Merger) (tried : ℕ) (r : Result
-    (Vec MergeScope Global) Error) → i ≡ length frames → AddedFirst (frames_bytes info frames) i m tried
+pub merged_first : (info : ThreadKey) (frames : List Held) (i : ℕ) (m : Merger) (tried : ℕ)
+    (r : Result (Vec MergeScope Global) Error) → i ≡ length frames → AddedFirst (frames_bytes info frames) i m tried
     → IfOk r (λ merged. (added : List FrameBytes) → (h : HasAdded added m)
     → (x : AreMerged added (forest_in merged.items)) × (tries_for h ≡ length (occurrences x.scopes)))
     → IfOk r (λ merged. (x : AreMerged (frames_bytes info frames) (forest_in merged.items))
     × (tried ≡ length (occurrences x.scopes)))
 merged_first info frames i m tried (Err e) at a k = tt
-merged_first info frames i m tried (Ok merged) at a k = let all = all_first info frames i m tried at a in let x =
-    k (frames_bytes info frames) all.0 in (x.0, sym all.1 ∙ x.1)
+merged_first info frames i m tried (Ok merged) at a k = let all = all_first info frames i m tried at a in
+    let x = k (frames_bytes info frames) all.0 in (x.0, sym all.1 ∙ x.1)
 
-pub ended_first : (info : ThreadKey) (frames : List Held) (i : ℕ) (m : Merger) (tried : ℕ) (r : Result
-    (Vec MergeScope Global) Error) → i ≡ length frames → AddedFirst (frames_bytes info frames) i m tried
+pub ended_first : (info : ThreadKey) (frames : List Held) (i : ℕ) (m : Merger) (tried : ℕ)
+    (r : Result (Vec MergeScope Global) Error) → i ≡ length frames → AddedFirst (frames_bytes info frames) i m tried
     → IfErr r (λ e. (added : List FrameBytes) → (h : HasAdded added m) → (e ≡ Memory) ⊎ IsRefusalAfter added
     (tries_for h) e) → IfErr r (λ e. (e ≡ Memory) ⊎ IsRefusalAfter (frames_bytes info frames) tried e)
 ended_first info frames i m tried (Ok merged) at a k = tt

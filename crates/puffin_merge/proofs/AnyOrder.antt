@@ -7,7 +7,7 @@ use Rattle.puffin_merge.specs.Merge.Occurrences.{Label, Path, Occurrence, FrameS
 use Rattle.puffin_merge.specs.Merge.Pieces.{Merged, total_of, greatest_of, least_start_of, merged_of, merged_at}
 use Rattle.puffin_merge.specs.Merge.Starts.{IsLeastFeasible}
 use Rattle.puffin_merge.specs.Merge.Tree.{Node, MergedForest, no_node, merged, row}
-use Rattle.puffin_merge.specs.Merge.{below, TellsOf, sibling_cmp, IsRising, sibling_of, IsRow, AreBelow, IsMerge}
+use Rattle.puffin_merge.specs.Merge.{below, HasSums, sibling_cmp, IsRising, sibling_of, IsRow, HasRowsBelow, IsMerge}
 use Rattle.puffin_merge.proofs.Reordering.{Reordered, none_left, keeps, turns, goes_on, from_permutation, to_permutation, fold-reordered, length-reordered, filter-reordered, append-reordered, flat_map-reordered}
 
 max-swap : (b x y : ℕ) → max (max b x) y ≡ max (max b y) x
@@ -50,7 +50,7 @@ row-reordered : (xs ys : List Occurrence) → IsPermutation xs ys → (frames : 
 row-reordered xs ys p frames path nodes r =
     let same = merged_at-reordered (from_permutation xs ys p) in
     record {
-      tell = subst (λ (at : Path → Merged). All (λ n. TellsOf (at (below path n.label)) frames n) nodes) same r.tell;
+      sums = subst (λ (at : Path → Merged). All (λ n. HasSums (at (below path n.label)) frames n) nodes) same r.sums;
       whole = All-permutation (λ o. (l : Label) → o.path ≡ below path l → Contains (map (λ n. n.label) nodes) l) xs
           ys p r.whole;
       order = subst (λ (at : Path → Merged). IsRising (sibling_cmp at path) (map (λ n. n.label) nodes)) same r.order;
@@ -59,7 +59,7 @@ row-reordered xs ys p frames path nodes r =
     }
 
 below-reordered : (xs ys : List Occurrence) → IsPermutation xs ys → (frames : ℕ) (path : Path) (f : MergedForest)
-    → AreBelow xs frames path f → AreBelow ys frames path f
+    → HasRowsBelow xs frames path f → HasRowsBelow ys frames path f
 below-reordered xs ys p frames path no_node h = tt
 below-reordered xs ys p frames path (merged n children others) h = (
   row-reordered xs ys p frames (below path n.label) (row children) h.0,

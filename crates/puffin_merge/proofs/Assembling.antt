@@ -8,7 +8,7 @@ use Rattle.puffin_merge.specs.Merge.Occurrences.{Label, Path, Occurrence}
 use Rattle.puffin_merge.specs.Merge.Pieces.{Merged, merged_at}
 use Rattle.puffin_merge.specs.Merge.Starts.{Sibling, IsLeastFeasible}
 use Rattle.puffin_merge.specs.Merge.Tree.{Node, merged, row}
-use Rattle.puffin_merge.specs.Merge.{below, TellsOf, sibling_cmp, IsRising, sibling_of, IsRow, AreBelow, IsMerge}
+use Rattle.puffin_merge.specs.Merge.{below, HasSums, sibling_cmp, IsRising, sibling_of, IsRow, HasRowsBelow, IsMerge}
 use Rattle.puffin_merge.proofs.Assembled.{Entry, node_of, children_of, forest_below, Each, Some_of, StandsBefore, InOrder, IsEntry, IsTable}
 use Rattle.puffin_merge.proofs.Starting.{earliest-is_least}
 
@@ -75,7 +75,7 @@ each-both P Q R (e ∷ entries) f h k = (f e h.0 k.0, each-both P Q R entries f 
 -- the fields of one node
 tells : (at : Path → Merged) (path_of : ℕ → Path) (frames highest p : ℕ) (e : Entry) → IsEntry at path_of highest e
     → e.parent ≡ p →
-    TellsOf (at (below (path_of p) e.label)) frames (node_of frames e)
+    HasSums (at (below (path_of p) e.label)) frames (node_of frames e)
 tells at path_of frames highest p e h same =
     let here : path_of e.number ≡ below (path_of p) e.label = h.path ∙ ap (λ q. below (path_of q) e.label) same in
     let is : e.merged ≡ at (below (path_of p) e.label) = h.merged ∙ ap at here in
@@ -191,10 +191,10 @@ row-of all frames path_of highest entries t p h =
     let each = each-kept (IsEntry (merged_at all) path_of highest) p entries t.each in
     let labels = labels-are frames (children_of p entries) in
     record {
-      tell = all-mapped (λ n. TellsOf (merged_at all (below (path_of p) n.label)) frames n) frames
+      sums = all-mapped (λ n. HasSums (merged_at all (below (path_of p) n.label)) frames n) frames
           (children_of p entries)
           (each-both (IsEntry (merged_at all) path_of highest) (λ e. e.parent ≡ p)
-          (λ e. TellsOf (merged_at all (below (path_of p) e.label)) frames (node_of frames e))
+          (λ e. HasSums (merged_at all (below (path_of p) e.label)) frames (node_of frames e))
           (children_of p entries) (tells (merged_at all) path_of frames highest p) each mine);
       whole = λ k d below_end l is. subst (λ (ls : List Label). Contains ls l) (sym labels)
           (whole-row all frames path_of highest entries t p h (get_or all k d) l is (t.whole k d below_end));
@@ -237,15 +237,15 @@ below-rows : (all : List Occurrence) (frames : ℕ) (path_of : ℕ → Path) (hi
     → IsTable all frames path_of highest entries →
     (rest : List Entry) (lowest : ℕ) → IsRest entries rest lowest → Each (λ f. lowest ≤ f.parent) rest
     → Each (IsEntry (merged_at all) path_of highest) rest → InOrder (merged_at all) path_of rest →
-    (p : ℕ) (path : Path) → path ≡ path_of p → AreBelow all frames path (forest_below frames p rest)
+    (p : ℕ) (path : Path) → path ≡ path_of p → HasRowsBelow all frames path (forest_below frames p rest)
 below-rows all frames path_of highest entries t [] lowest r low each order p path is = tt
 below-rows all frames path_of highest entries t (e ∷ rest) lowest r low each order p path is =
     by_case (e.parent == p) (Decides-same e.parent p) (λ q other same.
     below-rows all frames path_of highest entries t rest e.parent (next-rest entries e rest lowest low.0 r)
     (later-parents (merged_at all) path_of e rest order.0) each.1 order.1 q other same) where
-      by_case : (b : Bool) → (b ≡ true → e.parent ≡ p)
-          → ((q : ℕ) (other : Path) → other ≡ path_of q → AreBelow all frames other (forest_below frames q rest)) →
-          AreBelow all frames path (cond b (merged (node_of frames e) (forest_below frames e.number rest)
+      by_case : (b : Bool) → (b ≡ true → e.parent ≡ p) → ((q : ℕ) (other : Path) → other ≡ path_of q
+          → HasRowsBelow all frames other (forest_below frames q rest)) →
+          HasRowsBelow all frames path (cond b (merged (node_of frames e) (forest_below frames e.number rest)
           (forest_below frames p rest)) (forest_below frames p rest))
       by_case false known later = later p path is
       by_case true known later =

@@ -21,7 +21,7 @@ use Rattle.puffin_merge.specs.Merge.Refusals.{EndsFit}
 use Rattle.puffin_merge.specs.Merge.Scopes.{scope_then, children_in, forest_in}
 use Rattle.puffin_merge.proofs.Assembled.{Entry, node_of, forest_below, entry_of, entries_from}
 use Rattle.puffin_merge.specs.inner.Tables.{IsTableOf}
-use Rattle.puffin_merge.specs.inner.Places.{EachOf, AreApart, EndFits, AreOrderedNodesOf, above_all, placement_after, placements_from, placed_node}
+use Rattle.puffin_merge.specs.inner.Places.{EachOf, AreApart, EndFits, AreOrderedNodesOf, above_all, next_placement, placements_from, placed_node}
 use Rattle.puffin_merge.specs.Merge.{IsMerge}
 use Rattle.puffin_merge.proofs.PlaceEntries.{forest_merged}
 use Rattle.puffin_merge.proofs.Finding.{same_at}
@@ -107,7 +107,7 @@ entries_are : (nodes : List Node) (frames : ℕ) (ordered_nodes : List OrderedNo
     ≡ entries_of nodes ordered_nodes (placements_from nodes frames before ordered_nodes blank)
 entries_are nodes frames [] before = refl
 entries_are nodes frames (p ∷ ordered_nodes) before =
-    let x = placement_after frames (get_or nodes (p.number.number - 1) blank).sums p before in
+    let x = next_placement nodes frames before p blank in
     ap (λ (es : List Entry). entry_of nodes p x blank ∷ es) (entries_are nodes frames ordered_nodes x)
 
 -- ends that fit
@@ -121,7 +121,7 @@ forest_fits : (nodes : List Node) (frames : ℕ) (ordered_nodes : List OrderedNo
     → EndsFit (forest_below frames q (entries_from nodes frames before ordered_nodes blank))
 forest_fits nodes frames [] before q h = tt
 forest_fits nodes frames (p ∷ ordered_nodes) before q h =
-    let x = placement_after frames (get_or nodes (p.number.number - 1) blank).sums p before in
+    let x = next_placement nodes frames before p blank in
     let rest = entries_from nodes frames x ordered_nodes blank in
     both_fit (eqb p.parent.number q) (node_of frames (entry_of nodes p x blank))
     (forest_below frames p.number.number rest) (forest_below frames q rest) h.0
@@ -140,18 +140,6 @@ HoldForests nodes frames rows ordered_nodes placements =
 
 abbrev pub AreEmpty : List Siblings → Type 0
 AreEmpty rows = EachOf (λ r. r.items ≡ []) rows
-
-empty_at : (rows : List Siblings) (q : ℕ) (r : Siblings) → AreEmpty rows → q < length rows
-    → (get_or rows q r).items ≡ []
-empty_at [] q r h lt = absurd (omega arith)
-empty_at (x ∷ rows) zero r h lt = h.0
-empty_at (x ∷ rows) (suc q) r h lt = empty_at rows q r h.1 (omega arith)
-
-none_after : {A : Type 0} (xs : List A) (n : ℕ) → n ≡ length xs → drop n xs ≡ []
-none_after [] zero e = refl
-none_after [] (suc n) e = absurd (omega arith)
-none_after (x ∷ xs) zero e = absurd (omega arith)
-none_after (x ∷ xs) (suc n) e = none_after xs n (omega arith)
 
 turned : (ordered_nodes : List OrderedNode) (q : ℕ) → EachOf (λ z. q ≡ z.number.number → ⊥) ordered_nodes
     → IsNot q ordered_nodes
@@ -277,8 +265,9 @@ no_zero nodes (p ∷ ordered_nodes) h = let low : 0 < p.number.number = h 0 p (o
     (λ e. omega (arith, low, e), no_zero nodes ordered_nodes (λ i q lt. h (suc i) q (omega arith)))
 
 -- after all ordered nodes, the top row is the merge
-pub top_merged : (t : Table) (frames : ℕ) (rows : List Siblings) (ordered_nodes : List OrderedNode) (placements : List
-    Placement) (r : Siblings) (merged_scopes : List MergeScope) → AreOrderedNodesOf t.nodes.items ordered_nodes
+pub top_merged : (t : Table) (frames : ℕ) (rows : List Siblings) (ordered_nodes : List OrderedNode)
+    (placements : List Placement) (r : Siblings) (merged_scopes : List MergeScope)
+    → AreOrderedNodesOf t.nodes.items ordered_nodes
     → placements ≡ placements_from t.nodes.items frames above_all ordered_nodes blank → EachOf EndFits placements
     → HoldForests t.nodes.items frames rows ordered_nodes placements → 0 < length rows
     → merged_scopes ≡ reverse (get_or rows 0 r).items
@@ -287,8 +276,8 @@ pub top_merged : (t : Table) (frames : ℕ) (rows : List Siblings) (ordered_node
 top_merged t frames rows ordered_nodes placements r scopes are is fit hold some top all table =
     let forest : forest_in scopes
     ≡ forest_below frames 0 (entries_from t.nodes.items frames above_all ordered_nodes blank) =
-    ap forest_in top ∙ hold 0 r some (no_zero t.nodes.items ordered_nodes
-    (λ i q lt. let of = are.each i q lt in let number = of.2.number in omega (arith, number)))
+    ap forest_in top ∙ hold 0 r some (no_zero t.nodes.items ordered_nodes (λ i q lt. let of = are.each i q lt in
+    let number = of.2.number in omega (arith, number)))
     ∙ ap (λ (ds : List Placement). forest_below frames 0 (entries_of t.nodes.items ordered_nodes ds)) is
     ∙ sym (ap (forest_below frames 0) (entries_are t.nodes.items frames ordered_nodes above_all)) in (
       subst (IsMerge all frames) (sym forest) (forest_merged all t frames ordered_nodes blank table are),

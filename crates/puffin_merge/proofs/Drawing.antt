@@ -7,7 +7,7 @@ use Rattle.puffin_merge.specs.declared.merge.tree.OrderedNode.{OrderedNode}
 use Rattle.puffin_merge.specs.declared.merge.tree.Placement.{Placement}
 use Rattle.puffin_merge.specs.Merge.Occurrences.{Occurrence}
 use Rattle.puffin_merge.specs.inner.Tables.{IsTableOf}
-use Rattle.puffin_merge.specs.inner.Places.{AreOrderedNodesOf, EachOf, EndFits, above_all, placement_after, placements_from}
+use Rattle.puffin_merge.specs.inner.Places.{AreOrderedNodesOf, EachOf, EndFits, above_all, placement_after, next_placement, placements_from}
 use Rattle.puffin_merge.proofs.Finding.{same_at}
 
 -- what stands nowhere
@@ -27,8 +27,8 @@ place_low nodes ordered_nodes i q are lt = let of = are.each i q lt in let numbe
 pub place_high : (nodes : List Node) (ordered_nodes : List OrderedNode) (i : ℕ) (q : OrderedNode)
     → AreOrderedNodesOf nodes ordered_nodes → i < length ordered_nodes
     → (get_or ordered_nodes i q).number.number - 1 < length nodes
-place_high nodes ordered_nodes i q are lt = let of = are.each i q lt in let number = of.2.number in let inside =
-    of.1 in omega arith
+place_high nodes ordered_nodes i q are lt = let of = are.each i q lt in let number = of.2.number in
+    let inside = of.1 in omega arith
 
 pub small_at : (t : Table) (ordered_nodes : List OrderedNode) (i : ℕ) (q : OrderedNode) (n d : Node)
     → (all : List Occurrence) × IsTableOf all t → AreOrderedNodesOf t.nodes.items ordered_nodes
@@ -38,10 +38,6 @@ small_at t ordered_nodes i q n d some are lt e =
     let inside = place_high t.nodes.items ordered_nodes i q are lt in
     subst (λ (m : Node). m.sums.total < 2 ^ 63) (sym e)
     ((some.1.each ((get_or ordered_nodes i q).number.number - 1) d (omega (arith, inside, t.nodes.ok.0))).small)
-
--- the node of an ordered node is placed next
-abbrev next_placement : List Node → ℕ → Placement → OrderedNode → Node → Placement
-next_placement nodes frames last p d = placement_after frames (get_or nodes (p.number.number - 1) d).sums p last
 
 placements_step : (nodes : List Node) (frames : ℕ) (last : Placement) (ordered_nodes : List OrderedNode) (i : ℕ)
     (q : OrderedNode) (d : Node) → i < length ordered_nodes

@@ -15,9 +15,10 @@ use Rattle.puffin_merge.specs.Merge.Tree.{MergedForest, merged}
 use Rattle.puffin_merge.specs.Merge.Refusals.{EndsFit}
 use Rattle.puffin_merge.proofs.Assembled.{node_of, forest_below, entry_of, entries_from}
 use Rattle.puffin_merge.specs.inner.Tables.{IsTableOf}
-use Rattle.puffin_merge.specs.inner.Places.{IsOrderedNodeOf, SomeOf, EachOf, EndFits, AreOrderedNodesOf, above_all, placement_after, placements_from}
+use Rattle.puffin_merge.specs.inner.Places.{IsOrderedNodeOf, SomeOf, EachOf, EndFits, AreOrderedNodesOf, above_all, next_placement, placements_from}
 use Rattle.puffin_merge.specs.Merge.{IsMerge}
-use Rattle.puffin_merge.proofs.PlaceEntries.{InRow, in_row, each_at_least, forest_merged}
+use Rattle.puffin_merge.proofs.OrderedRows.{InRow, in_row, each_at_least}
+use Rattle.puffin_merge.proofs.PlaceEntries.{forest_merged}
 
 -- each parent is known, or stands before
 abbrev ParentsKnown : List OrderedNode → (ℕ → Type 0) → Type 0
@@ -45,7 +46,7 @@ all_fit : (nodes : List Node) (frames : ℕ) (ordered_nodes : List OrderedNode) 
     → EachOf EndFits (placements_from nodes frames before ordered_nodes d)
 all_fit nodes frames [] before d known k h = tt
 all_fit nodes frames (p ∷ ordered_nodes) before d known k h =
-    let x = placement_after frames (get_or nodes (p.number.number - 1) d).sums p before in
+    let x = next_placement nodes frames before p d in
     let e = entry_of nodes p x d in
     let rest = entries_from nodes frames x ordered_nodes d in
     let first = first_fit (eqb p.parent.number p.parent.number)
@@ -82,8 +83,8 @@ not_after : (all : List Occurrence) (t : Table) (q : ℕ) (ordered_nodes : List 
     → AllByRecursion (IsOrderedNodeOf t.nodes.items) ordered_nodes → EachOf (λ z. q ≤ z.parent.number) ordered_nodes
     → SomeOf (λ z. z.number.number ≡ q) ordered_nodes → ⊥
 not_after all t q [] table of low none = elim none [ ]
-not_after all t q (z ∷ ordered_nodes) table of low (inl is) = let under = parent_low t z all table of.0 in let high =
-    low.0 in absurd (omega arith)
+not_after all t q (z ∷ ordered_nodes) table of low (inl is) =
+    let under = parent_low t z all table of.0 in let high = low.0 in absurd (omega arith)
 not_after all t q (z ∷ ordered_nodes) table of low (inr more) = not_after all t q ordered_nodes table of.1 low.1 more
 
 parents_known : (all : List Occurrence) (t : Table) (ordered_nodes : List OrderedNode) (known : ℕ → Type 0)
@@ -129,9 +130,8 @@ ends_of_forest all t frames ordered_nodes d table are fit =
     (forest_below frames n (entries_from t.nodes.items frames above_all ordered_nodes d))) (sym e) fit)
   where
     named : (q : ℕ) → 0 < q → q ≤ length t.nodes.items → SomeOf (λ z. z.number.number ≡ q) ordered_nodes
-    named q low high = let e : (q - 1) + 1 ≡ q =
-        omega arith in subst (λ (n : ℕ). SomeOf (λ (z : OrderedNode). z.number.number ≡ n) ordered_nodes) e
-        (are.whole (q - 1) (omega arith))
+    named q low high = let e : (q - 1) + 1 ≡ q = omega arith in subst (λ (n : ℕ). SomeOf
+        (λ (z : OrderedNode). z.number.number ≡ n) ordered_nodes) e (are.whole (q - 1) (omega arith))
 
 -- an end that doesn't fit is one of the merge
 pub ends_refused_by : (t : Table) (frames : ℕ) (ordered_nodes : List OrderedNode)
@@ -223,9 +223,5 @@ usable t ordered_nodes i p q n d some are lt e en =
 pub placements_size : (nodes : List Node) (frames : ℕ) (ordered_nodes : List OrderedNode) (before : Placement)
     (d : Node) → length (placements_from nodes frames before ordered_nodes d) ≡ length ordered_nodes
 placements_size nodes frames [] before d = refl
-placements_size nodes frames (p ∷ ordered_nodes) before d = let e = placements_size nodes frames ordered_nodes
-    (placement_after frames (get_or nodes (p.number.number - 1) d).sums p before) d in omega arith
-
-pub some_if : {T : Type 0} (r : Option T) (P : Type 0) (v : T) → SomeIff r P v → P → IsSome r
-some_if None P v n h = absurd (n h)
-some_if (Some x) P v n h = refl
+placements_size nodes frames (p ∷ ordered_nodes) before d =
+    let e = placements_size nodes frames ordered_nodes (next_placement nodes frames before p d) d in omega arith

@@ -9,15 +9,16 @@ use Rattle.puffin_data.specs.declared.error.Error.TheVariants.{Memory, TooLarge}
 use Rattle.puffin_data.specs.Forest.{Span}
 use Rattle.puffin_data.specs.Walk.Visitor.{Entering, Refusing}
 use Rattle.puffin_merge.specs.declared.merge.table.Table.{Table}
-use Rattle.puffin_merge.specs.declared.merge.table.Asked.{Asked}
+use Rattle.puffin_merge.specs.declared.merge.table.KeyRef.{KeyRef}
 use Rattle.puffin_merge.specs.declared.merge.table.NodeNumber.{NodeNumber}
 use Rattle.puffin_merge.specs.declared.merge.stream.Merging.{Merging}
-use Rattle.puffin_merge.specs.declared.merge.stream.Open.{Open}
+use Rattle.puffin_merge.specs.declared.merge.stream.OpenScope.{OpenScope}
 use Rattle.puffin_merge.specs.Merge.Occurrences.{Occurrence, Path, label_of, path_of, origin_in, occurrence_of}
 use Rattle.puffin_merge.specs.inner.Origins.{IsOrigin, fits_i64}
 use Rattle.puffin_merge.specs.Merge.{below}
 use Rattle.puffin_merge.specs.Merge.Refusals.{SumsFit, Fits}
-use Rattle.puffin_merge.specs.inner.Tables.{asked_for, path_at, IsTableOf, occurrence_at, AddsAt}
+use Rattle.puffin_merge.specs.inner.Found.{ref_label}
+use Rattle.puffin_merge.specs.inner.Tables.{path_at, IsTableOf, occurrence_of_key, AddsAt}
 use Rattle.puffin_merge.specs.inner.Merging.{TakesScopes, RefusesScope, StandsFor}
 
 fits_test : (t : ℤ) → FitsSigned w64 t → fits_i64 t ≡ true
@@ -29,14 +30,11 @@ test_fits t h = grind (arith, ints)
 path_size : (around : List Span) (s : Span) → length (path_of around ++ (label_of s ∷ [])) ≡ length around + 1
 path_size around s = length_push (path_of around) (label_of s) ∙ ap (λ (n : ℕ). n + 1) (length-map around label_of)
 
-shallow : (v : Merging) (w : Open) (around : List Span) (s : Span) → w.depth < 1024 → StandsFor v w around
+shallow : (v : Merging) (w : OpenScope) (around : List Span) (s : Span) → w.depth < 1024 → StandsFor v w around
     → length (path_of around ++ (label_of s ∷ [])) ≤ 1024
 shallow v w around s low stands = let depth = stands.depth in omega (arith, path_size around s)
 
 -- the answer of a start that is counted from an origin
-abbrev pub Counted : ℤ → Type 0
-Counted t = Result ℤ Error
-
 abbrev pub counted_start : ℤ → Result ℤ Error
 counted_start t = cond (fits_i64 t) (Ok t) (Err TooLarge)
 
@@ -72,8 +70,8 @@ passed_64 t h = to_z-of_z w64 t h
 pub passed_128 : (t : ℤ) → FitsSigned w128 t → to_z w128 (of_z w128 t) ≡ t
 passed_128 t h = to_z-of_z w128 t h
 
-pub start_refused : (v : Merging) (w : Open) (s : Span) (t : ℤ) (fault : Error) → w.depth < 1024
-    → t ≡ s.start -ℤ w.origin → ◌≡◌ {A = Result ℤ Error} (Err fault) (counted_start t)
+pub start_refused : (v : Merging) (w : OpenScope) (s : Span) (t : ℤ) (fault : Error)
+    → w.depth < 1024 → t ≡ s.start -ℤ w.origin → ◌≡◌ {A = Result ℤ Error} (Err fault) (counted_start t)
     → Refusing RefusesScope StandsFor v w s fault
 start_refused v w s t fault low is e =
     let no = err_start t fault e in
@@ -86,24 +84,23 @@ start_refused v w s t fault low is e =
     )
 
 -- what the table is given is the scope's occurrence
-given : (v : Merging) (w : Open) (around : List Span) (s : Span) (key : Asked) (own : ℤ) (duration : ℕ)
-    → StandsFor v w around → key.parent.number ≡ w.node.number → asked_for key ≡ label_of s
+given : (v : Merging) (w : OpenScope) (around : List Span) (s : Span) (key : KeyRef) (own : ℤ) (duration : ℕ)
+    → StandsFor v w around → key.parent.number ≡ w.node.number → ref_label key ≡ label_of s
     → own ≡ s.start -ℤ w.origin → duration ≡ nat_abs (s.stop -ℤ s.start)
-    → occurrence_at v.table key.parent.number (asked_for key) own duration
-    ≡ occurrence_of v.origin (record { around = around; span = s })
+    → occurrence_of_key v.table key own duration ≡ occurrence_of v.origin (record { around = around; span = s })
 given v w around s key own duration stands parent label start lasts =
-    let path : below (path_at v.table.nodes.items key.parent.number) (asked_for key)
+    let path : below (path_at v.table.nodes.items key.parent.number) (ref_label key)
     ≡ path_of around ++ (label_of s ∷ []) =
-    ap (λ (n : ℕ). below (path_at v.table.nodes.items n) (asked_for key)) parent
-    ∙ ap (λ (p : Path). below p (asked_for key)) stands.path ∙ ap (below (path_of around)) label in
+    ap (λ (n : ℕ). below (path_at v.table.nodes.items n) (ref_label key)) parent
+    ∙ ap (λ (p : Path). below p (ref_label key)) stands.path ∙ ap (below (path_of around)) label in
     let own-is : own ≡ s.start -ℤ origin_in v.origin around = start ∙ ap (λ (o : ℤ). s.start -ℤ o) stands.origin in
     λ i. record { path = path i; own_start = own-is i; duration = lasts i }
 
-pub sums_refused : (v : Merging) (w : Open) (s : Span) (key : Asked) (own : ℤ) (duration : ℕ) (fault : Error)
-    → w.depth < 1024 → key.parent.number ≡ w.node.number → asked_for key ≡ label_of s → own ≡ s.start -ℤ w.origin
+pub sums_refused : (v : Merging) (w : OpenScope) (s : Span) (key : KeyRef) (own : ℤ) (duration : ℕ) (fault : Error)
+    → w.depth < 1024 → key.parent.number ≡ w.node.number → ref_label key ≡ label_of s → own ≡ s.start -ℤ w.origin
     → duration ≡ nat_abs (s.stop -ℤ s.start)
-    → (fault ≡ Memory) ⊎ ((fault ≡ TooLarge) × ((all : List Occurrence) → IsTableOf all v.table
-    → SumsFit all (occurrence_at v.table key.parent.number (asked_for key) own duration) → ⊥))
+    → (fault ≡ Memory) ⊎ ((fault ≡ TooLarge) × ((all : List Occurrence)
+    → IsTableOf all v.table → SumsFit all (occurrence_of_key v.table key own duration) → ⊥))
     → (fault ≡ Memory) ⊎ Refusing RefusesScope StandsFor v w s fault
 sums_refused v w s key own duration fault low parent label start lasts (inl memory) = inl memory
 sums_refused v w s key own duration fault low parent label start lasts (inr sums) =
@@ -121,11 +118,11 @@ origin_last origin (x ∷ around) s = origin_last x.start around s
 time_is_origin : (t : ℤ) → FitsSigned w64 t → IsOrigin t
 time_is_origin t h = record { low = omega (arith, ints); high = omega (arith, ints) }
 
-pub scope_taken : (v : Merging) (w : Open) (s : Span) (u : Table) (key : Asked) (own : ℤ) (duration : ℕ)
-    (at : NodeNumber) (origin : ℤ) → w.depth < 1024 → key.parent.number ≡ w.node.number → asked_for key ≡ label_of s
+pub scope_taken : (v : Merging) (w : OpenScope) (s : Span) (u : Table) (key : KeyRef) (own : ℤ) (duration : ℕ)
+    (at : NodeNumber) (origin : ℤ) → w.depth < 1024 → key.parent.number ≡ w.node.number → ref_label key ≡ label_of s
     → own ≡ s.start -ℤ w.origin → FitsSigned w64 own
     → duration ≡ nat_abs (s.stop -ℤ s.start) → origin ≡ s.start → FitsSigned w64 s.start
-    → AddsAt v.table key.parent.number (asked_for key) own duration at.number u
+    → AddsAt v.table (occurrence_of_key v.table key own duration) at.number u
     → Entering TakesScopes StandsFor v w s (record { node = at; depth = w.depth + 1; origin = origin })
     (record { table = u; origin = v.origin })
 scope_taken v w s u key own duration at origin low parent label start own_fits lasts origin_is fits adds around stands =
@@ -144,7 +141,7 @@ scope_taken v w s u key own duration at origin low parent label start own_fits l
       },
       record {
         table = (
-          stands.table.0 ++ (occurrence_at v.table key.parent.number (asked_for key) own duration ∷ []),
+          stands.table.0 ++ (occurrence_of_key v.table key own duration ∷ []),
           adds.table stands.table.0 stands.table.1,
         );
         node = adds.number;

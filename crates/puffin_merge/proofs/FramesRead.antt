@@ -186,7 +186,7 @@ no_scopes (f ∷ frames) scopes e h = absurd (omega arith)
 none_merged : IsMerge [] 0 no_node
 none_merged = record {
   top = record {
-    tell = λ k d lt. absurd (omega arith);
+    sums = λ k d lt. absurd (omega arith);
     whole = λ k d lt. absurd (omega arith);
     order = tt;
     starts = earliest-is_least [];
@@ -232,8 +232,8 @@ take_next f (y ∷ xs) (suc i) x lt e = ap (λ zs. f y ∷ zs) (take_next f xs i
 
 pub take_push : {A B : Type 0} (f : A → B) (xs : List A) (i : ℕ) (x : A) → i < length xs → x ≡ get_or xs i x
     → take (i + 1) (map f xs) ≡ take i (map f xs) ++ (f x ∷ [])
-take_push f xs i x lt e = let one : i + 1 ≡ suc i =
-    omega arith in ap (λ (n : ℕ). take n (map f xs)) one ∙ take_next f xs i x lt e
+take_push f xs i x lt e =
+    let one : i + 1 ≡ suc i = omega arith in ap (λ (n : ℕ). take n (map f xs)) one ∙ take_next f xs i x lt e
 
 split_next : {A B : Type 0} (f : A → B) (xs : List A) (i : ℕ) (x : A) → i < length xs → x ≡ get_or xs i x
     → map f xs ≡ take i (map f xs) ++ (f x ∷ drop (suc i) (map f xs))
@@ -243,8 +243,8 @@ split_next f (y ∷ xs) (suc i) x lt e = ap (λ zs. f y ∷ zs) (split_next f xs
 
 pub split_at : {A B : Type 0} (f : A → B) (xs : List A) (i : ℕ) (x : A) → i < length xs → x ≡ get_or xs i x
     → map f xs ≡ take i (map f xs) ++ (f x ∷ drop (i + 1) (map f xs))
-split_at f xs i x lt e = let one : suc i ≡ i + 1 =
-    omega arith in split_next f xs i x lt e ∙ ap (λ (n : ℕ). take i (map f xs) ++ (f x ∷ drop n (map f xs))) one
+split_at f xs i x lt e = let one : suc i ≡ i + 1 = omega arith in
+    split_next f xs i x lt e ∙ ap (λ (n : ℕ). take i (map f xs) ++ (f x ∷ drop n (map f xs))) one
 
 pub size_mapped : {A B : Type 0} (f : A → B) (xs : List A) → length (map f xs) ≡ length xs
 size_mapped f xs = length_mapped f xs
@@ -259,8 +259,3 @@ pub one_more_tries : (frames : List FrameBytes) (i n : ℕ) → n ≤ most_tries
     → n ≤ most_tries (take (i + 1) frames)
 one_more_tries frames i n h = tries_of_all (take (i + 1) frames) i n
     (subst (λ (xs : List FrameBytes). n ≤ most_tries xs) (sym (take-take i (i + 1) frames (omega arith))) h)
-
--- what was read so far, and at most one frame more
-pub few_read : (frames : List FrameBytes) (i : ℕ) (t : Table) (tried n : ℕ) → HasRead frames i t tried
-    → n ≤ most_tries (take (i + 1) frames) → ReadsFew frames n
-few_read frames i t tried n r h = record { accepted = i; scopes = r.scopes; have = r.have; fine = r.accepted; few = h }

@@ -123,8 +123,8 @@ have-reordered : {frames again : List FrameBytes} → Reordered frames again →
 have-reordered none_left [] h = ([], none_left, tt)
 have-reordered none_left (s ∷ scopes) h = absurd h
 have-reordered (keeps f r) [] h = absurd h
-have-reordered (keeps f r) (s ∷ scopes) h = let rest =
-    have-reordered r scopes h.1 in (s ∷ rest.0, keeps s rest.1, (h.0, rest.2))
+have-reordered (keeps f r) (s ∷ scopes) h =
+    let rest = have-reordered r scopes h.1 in (s ∷ rest.0, keeps s rest.1, (h.0, rest.2))
 have-reordered (turns f g fs) [] h = absurd h
 have-reordered (turns f g fs) (s ∷ []) h = absurd h.1
 have-reordered (turns f g fs) (s ∷ t ∷ scopes) h = (t ∷ s ∷ scopes, turns s t scopes, (h.1.0, (h.0, h.1.1)))
@@ -152,8 +152,8 @@ again_merged first others again f (s ∷ scopes) r have accepted merge ends =
     }
 
 -- the code's frames, the first still the first
-pub merged-any_order : (info : ThreadKey) (first : Arc UnpackedFrameData Global) (others again : List
-    (Arc UnpackedFrameData Global)) → IsPermutation others again → (f : MergedForest)
+pub merged-any_order : (info : ThreadKey) (first : Arc UnpackedFrameData Global)
+    (others again : List (Arc UnpackedFrameData Global)) → IsPermutation others again → (f : MergedForest)
     → AreMerged (frames_bytes info (first ∷ others)) f → AreMerged (frames_bytes info (first ∷ again)) f
 merged-any_order info first others again p f m =
     let r = from_permutation (frames_bytes info others) (frames_bytes info again)

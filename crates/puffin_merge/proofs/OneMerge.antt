@@ -11,7 +11,7 @@ use Rattle.puffin_merge.specs.Merge.Occurrences.{Label, Path, Occurrence, is_pat
 use Rattle.puffin_merge.specs.Merge.Pieces.{Merged, pieces_at, merged_at}
 use Rattle.puffin_merge.specs.Merge.Starts.{Sibling, IsNowhereAbove, IsLeastFeasible}
 use Rattle.puffin_merge.specs.Merge.Tree.{Node, MergedForest, no_node, merged, row}
-use Rattle.puffin_merge.specs.Merge.{below, TellsOf, sibling_cmp, IsRising, sibling_of, IsRow, AreBelow, IsMerge}
+use Rattle.puffin_merge.specs.Merge.{below, HasSums, sibling_cmp, IsRising, sibling_of, IsRow, HasRowsBelow, IsMerge}
 use Rattle.puffin_merge.proofs.Paths.{one_path, label_cmp_total}
 
 -- ---- labels in order
@@ -26,8 +26,8 @@ from_contains (x ∷ xs) l (zero, lt, e) = inl (sym e)
 from_contains (x ∷ xs) l (suc k, lt, e) = inr (from_contains xs l (k, omega arith, e))
 
 not_itself : (cmp : Label → Label → Ordering) → IsTotalOrder cmp → (x : Label) → cmp x x ≡ Less → ⊥
-not_itself cmp total x e = let turned : Less ≡ ordering_reverse Less =
-    sym e ∙ total.antisymm x x ∙ ap ordering_reverse e in absurd (cc)
+not_itself cmp total x e =
+    let turned : Less ≡ ordering_reverse Less = sym e ∙ total.antisymm x x ∙ ap ordering_reverse e in absurd (cc)
 
 above_first : (cmp : Label → Label → Ordering) → IsTotalOrder cmp → (xs : List Label) (x : Label)
     → IsRising cmp (x ∷ xs) → (l : Label) → In l xs → cmp x l ≡ Less
@@ -79,7 +79,7 @@ has_label labels path l (o ∷ all) w h =
       by_test false e again h = again h
 
 told : (all : List Occurrence) (path : Path) (frames : ℕ) (nodes : List Node) (l : Label)
-    → AllByRecursion (λ n. TellsOf (merged_at all (below path n.label)) frames n) nodes
+    → AllByRecursion (λ n. HasSums (merged_at all (below path n.label)) frames n) nodes
     → In l (map (λ n. n.label) nodes) → 0 < (merged_at all (below path l)).number
 told all path frames [] l t h = absurd h
 told all path frames (n ∷ nodes) l t (inl e) =
@@ -90,7 +90,7 @@ labels_in : (all : List Occurrence) (frames : ℕ) (path : Path) (xs ys : List N
     → IsRow all frames path ys → (l : Label) → In l (map (λ n. n.label) xs) → In l (map (λ n. n.label) ys)
 labels_in all frames path xs ys r s l h =
     from_contains (map (λ n. n.label) ys) l (has_label (map (λ n. n.label) ys) path l all
-    (recursion_from_All _ all s.whole) (told all path frames xs l (recursion_from_All _ xs r.tell) h))
+    (recursion_from_All _ all s.whole) (told all path frames xs l (recursion_from_All _ xs r.sums) h))
 
 sibling_total : (at : Path → Merged) (path : Path) → IsTotalOrder (sibling_cmp at path)
 sibling_total at path =
@@ -117,7 +117,7 @@ siblings_of f (n ∷ nodes) = ap (λ (s : List Sibling). f n.label ∷ s) (sibli
 
 -- ---- one row
 
-one_node : (m : Merged) (frames : ℕ) (n k : Node) → TellsOf m frames n → TellsOf m frames k → n.label ≡ k.label
+one_node : (m : Merged) (frames : ℕ) (n k : Node) → HasSums m frames n → HasSums m frames k → n.label ≡ k.label
     → n.start ≡ k.start → n ≡ k
 one_node m frames n k a b label start =
     let total = a.total ∙ sym b.total in
@@ -134,8 +134,8 @@ one_node m frames n k a b label start =
     }
 
 one_list : (at : Path → Merged) (path : Path) (frames : ℕ) (xs ys : List Node)
-    → AllByRecursion (λ n. TellsOf (at (below path n.label)) frames n) xs
-    → AllByRecursion (λ n. TellsOf (at (below path n.label)) frames n) ys
+    → AllByRecursion (λ n. HasSums (at (below path n.label)) frames n) xs
+    → AllByRecursion (λ n. HasSums (at (below path n.label)) frames n) ys
     → map (λ n. n.label) xs ≡ map (λ n. n.label) ys → map (λ n. n.start) xs ≡ map (λ n. n.start) ys → xs ≡ ys
 one_list at path frames [] [] a b labels starts = refl
 one_list at path frames [] (y ∷ ys) a b labels starts = absurd (cc)
@@ -146,7 +146,7 @@ one_list at path frames (x ∷ xs) (y ∷ ys) a b labels starts =
     let more_labels : map (λ n. n.label) xs ≡ map (λ n. n.label) ys = cc in
     let more_starts : map (λ n. n.start) xs ≡ map (λ n. n.start) ys = cc in
     let first = one_node (at (below path x.label)) frames x y a.0
-    (subst (λ (l : Label). TellsOf (at (below path l)) frames y) (sym label) b.0) label start in
+    (subst (λ (l : Label). HasSums (at (below path l)) frames y) (sym label) b.0) label start in
     let rest = one_list at path frames xs ys a.1 b.1 more_labels more_starts in
     λ i. first i ∷ rest i
 
@@ -161,13 +161,13 @@ one_row all frames path xs ys r s =
     siblings_of f xs ∙ ap (map f) labels ∙ sym (siblings_of f ys) in
     let starts = one_least (map (λ n. f n.label) xs) (map (λ n. n.start) xs) (map (λ n. n.start) ys) r.starts
     (subst (λ (z : List Sibling). IsLeastFeasible z (map (λ n. n.start) ys)) (sym siblings) s.starts) in
-    one_list (merged_at all) path frames xs ys (recursion_from_All _ xs r.tell) (recursion_from_All _ ys s.tell)
+    one_list (merged_at all) path frames xs ys (recursion_from_All _ xs r.sums) (recursion_from_All _ ys s.sums)
     labels starts
 
 -- ---- one forest
 
 one_below : (f g : MergedForest) (all : List Occurrence) (frames : ℕ) (path : Path) → row f ≡ row g
-    → AreBelow all frames path f → AreBelow all frames path g → f ≡ g
+    → HasRowsBelow all frames path f → HasRowsBelow all frames path g → f ≡ g
 one_below no_node no_node all frames path e a b = refl
 one_below no_node (merged m d p) all frames path e a b = absurd (cc)
 one_below (merged n c o) no_node all frames path e a b = absurd (cc)
@@ -178,7 +178,7 @@ one_below (merged n c o) (merged m d p) all frames path e a b =
     let children = one_row all frames (below path n.label) (row c) (row d) a.0
     (subst (λ (l : Label). IsRow all frames (below path l) (row d)) label b.0) in
     let inner = one_below c d all frames (below path n.label) children a.1
-    (subst (λ (l : Label). AreBelow all frames (below path l) d) label b.1) in
+    (subst (λ (l : Label). HasRowsBelow all frames (below path l) d) label b.1) in
     let later = one_below o p all frames path others a.2 b.2 in
     λ i. merged (first i) (inner i) (later i)
 

@@ -11,7 +11,7 @@ use Rattle.puffin_merge.specs.declared.merge.table.Node.{Node}
 use Rattle.puffin_merge.specs.declared.merge.table.Key.{Key}
 use Rattle.puffin_merge.specs.Merge.Occurrences.{Label, Path, label_cmp, is_path}
 use Rattle.puffin_merge.specs.Merge.{below}
-use Rattle.puffin_merge.specs.inner.Found.{label_in}
+use Rattle.puffin_merge.specs.inner.Found.{key_label}
 use Rattle.puffin_merge.specs.inner.Tables.{with_path, paths_of, keys_in, path_at}
 
 -- ---- one path
@@ -55,7 +55,7 @@ length_from paths [] = omega arith
 length_from paths (k ∷ keys) = omega (
   arith,
   length_from (with_path paths k) keys,
-  length_push paths (below (get_or paths k.parent.number []) (label_in k)),
+  length_push paths (below (get_or paths k.parent.number []) (key_label k)),
 )
 
 pub length-paths : (keys : List Key) → length (paths_of keys) ≡ length keys + 1
@@ -74,14 +74,14 @@ pub path_at-kept : (nodes : List Node) (n : Node) (p : ℕ) → p ≤ length nod
     → path_at (nodes ++ (n ∷ [])) p ≡ path_at nodes p
 path_at-kept nodes n p h =
     ap (λ (ps : List Path). get_or ps p []) (paths-push nodes n)
-    ∙ get_or_append_left (paths_of (keys_in nodes)) (below (path_at nodes n.key.parent.number) (label_in n.key) ∷ [])
+    ∙ get_or_append_left (paths_of (keys_in nodes)) (below (path_at nodes n.key.parent.number) (key_label n.key) ∷ [])
     [] p (omega (arith, length-paths_in nodes))
 
 pub path_at-new : (nodes : List Node) (n : Node) (p : ℕ) → p ≡ length nodes + 1
-    → path_at (nodes ++ (n ∷ [])) p ≡ below (path_at nodes n.key.parent.number) (label_in n.key)
+    → path_at (nodes ++ (n ∷ [])) p ≡ below (path_at nodes n.key.parent.number) (key_label n.key)
 path_at-new nodes n p e =
     ap (λ (ps : List Path). get_or ps p []) (paths-push nodes n)
-    ∙ get_or_push (paths_of (keys_in nodes)) (below (path_at nodes n.key.parent.number) (label_in n.key)) [] p
+    ∙ get_or_push (paths_of (keys_in nodes)) (below (path_at nodes n.key.parent.number) (key_label n.key)) [] p
     (omega (arith, length-paths_in nodes))
 
 keys-set : (nodes : List Node) (i : ℕ) (n d : Node) → n.key ≡ (get_or nodes i d).key
@@ -102,5 +102,5 @@ top_path nodes = first ([] ∷ []) (keys_in nodes) (omega arith) where
       → get_or (fold with_path paths keys) 0 [] ≡ get_or paths 0 []
   first paths [] h = refl
   first paths (k ∷ keys) h = first (with_path paths k)
-      keys (omega (arith, length_push paths (below (get_or paths k.parent.number []) (label_in k))))
+      keys (omega (arith, length_push paths (below (get_or paths k.parent.number []) (key_label k))))
       ∙ get_or_append_left paths _ [] 0 h

@@ -105,8 +105,8 @@ nothing_taken form t a b bytes e none = record {
   tries = refl;
 }
 
-pub taken_of_frame : (form own : Form) (t : Table) (a
-    b : ℤ) (bytes read : List ℕ) (w : Merging) (made : ℕ) (r : Result (Unit {0}) Error)
+pub taken_of_frame : (form own : Form) (t : Table) (a b : ℤ)
+    (bytes read : List ℕ) (w : Merging) (made : ℕ) (r : Result (Unit {0}) Error)
     → form ≡ own → a ≡ b → bytes ≡ read → IfOk r (λ _. TakesAll form TakesScopes (at_origin t a) w bytes made)
     → IfOk r (λ _. TakesAll own TakesScopes (at_origin t b) w read made)
 taken_of_frame form own t a b bytes read w made (Err e) ef ea eb h = tt

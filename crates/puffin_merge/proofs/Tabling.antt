@@ -12,8 +12,8 @@ use Rattle.puffin_merge.specs.Merge.Pieces.{Merged, pieces_at, merged_at}
 use Rattle.puffin_merge.specs.Merge.{below}
 use Rattle.puffin_merge.specs.Merge.Refusals.{SumsFit}
 use Rattle.puffin_merge.proofs.OnePiece.{with_piece, one_piece}
-use Rattle.puffin_merge.specs.inner.Found.{label_in, IsUnder, IsSameKey, HasKey, HasLabel}
-use Rattle.puffin_merge.specs.inner.Tables.{merged_in, path_at, made_node, grown_node, IsNodeOf, IsTableOf, occurrence_at, FitsOneMore, GrowsAt, AddsAt}
+use Rattle.puffin_merge.specs.inner.Found.{key_label, IsKeyOf, IsSameKey, HasLabel, IsNewKey}
+use Rattle.puffin_merge.specs.inner.Tables.{merged_of_sums, path_at, new_node, node_with_piece, IsNodeOf, IsTableOf, occurrence_at, FitsOneMore, AddsPieceAt, AddsAt}
 use Rattle.puffin_merge.proofs.Paths.{same_path, other_path, path_at-kept, path_at-new, path_at-set, top_path}
 use Rattle.puffin_merge.proofs.Finding.{some_of, same_at}
 use Rattle.puffin_merge.proofs.Growing.{merged_at-other, merged_at-more, merged_at-first}
@@ -39,7 +39,7 @@ below-same p q l m e = snoc-same p q l m e
 -- the sums of a path that has a node, with one piece more
 pub more_at : (all : List Occurrence) (nodes : List Node) (k : ℕ) (n : Node) (o : Occurrence) → IsNodeOf all nodes k n
     → o.path ≡ path_at nodes (k + 1) →
-    merged_at (all ++ (o ∷ [])) o.path ≡ with_piece (merged_in n.sums) o.own_start o.duration
+    merged_at (all ++ (o ∷ [])) o.path ≡ with_piece (merged_of_sums n.sums) o.own_start o.duration
 more_at all nodes k n o is e =
     let some : 0 < (merged_at all o.path).number =
     subst (λ (m : Merged). 0 < m.number) (is.sums ∙ ap (merged_at all) (sym e)) is.some in
@@ -83,9 +83,9 @@ sums_fit all nodes k n o is e fits =
 
 -- the path of a node with this key
 pub path_of_key : (all : List Occurrence) (nodes : List Node) (k : ℕ) (n : Node) (parent : ℕ) (label : Label)
-    → IsNodeOf all nodes k n → IsUnder n.key parent label → path_at nodes (k + 1) ≡ below (path_at nodes parent) label
+    → IsNodeOf all nodes k n → IsKeyOf n.key parent label → path_at nodes (k + 1) ≡ below (path_at nodes parent) label
 path_of_key all nodes k n parent label is same =
-    is.path ∙ ap (λ (p : ℕ). below (path_at nodes p) (label_in n.key)) same.parent
+    is.path ∙ ap (λ (p : ℕ). below (path_at nodes p) (key_label n.key)) same.parent
     ∙ ap (λ (l : Label). below (path_at nodes parent) l) same.label
 
 -- ---- one piece more at a node
@@ -102,7 +102,7 @@ path_apart all t i k table h lt other e =
 -- the node at k once a piece is taken in at the node at i
 grown_each : (all : List Occurrence) (t u : Table) (i k : ℕ) (o : Occurrence) (d n : Node) → IsTableOf all t
     → i < vec_len t.nodes → k < vec_len t.nodes → o.path ≡ path_at t.nodes.items (i + 1)
-    → n ≡ grown_node (get_or t.nodes.items i d) o.own_start o.duration → u.nodes.items ≡ set t.nodes.items i n
+    → n ≡ node_with_piece (get_or t.nodes.items i d) o.own_start o.duration → u.nodes.items ≡ set t.nodes.items i n
     → (get_or t.nodes.items i d).sums.total + o.duration < 2 ^ 63
     → IsNodeOf (all ++ (o ∷ [])) (set t.nodes.items i n) k (get_or (set t.nodes.items i n) k d)
 grown_each all t u i k o d n table h lt path is items fits =
@@ -113,7 +113,7 @@ grown_each all t u i k o d n table h lt path is items fits =
     elim (cases_eq k i) [
       | inl same ↦
           let old = table.each i d h in
-          let now : get_or (set nodes i n) k d ≡ grown_node (get_or nodes i d) o.own_start o.duration =
+          let now : get_or (set nodes i n) k d ≡ node_with_piece (get_or nodes i d) o.own_start o.duration =
           set_at nodes i k n d (omega arith) same ∙ is in
           let at : path_at (set nodes i n) (k + 1) ≡ o.path =
           paths (k + 1) ∙ ap (λ (j : ℕ). path_at nodes (j + 1)) same ∙ sym path in
@@ -122,7 +122,7 @@ grown_each all t u i k o d n table h lt path is items fits =
             id = old.id;
             earlier = subst (λ (j : ℕ). (get_or nodes i d).key.parent.number ≤ j) (sym same) old.earlier;
             path = paths (k + 1) ∙ ap (λ (j : ℕ). path_at nodes (j + 1)) same ∙ old.path ∙ ap (λ (p : Path). below p
-                (label_in (get_or nodes i d).key)) (sym (paths (get_or nodes i d).key.parent.number));
+                (key_label (get_or nodes i d).key)) (sym (paths (get_or nodes i d).key.parent.number));
             sums = sym (more_at all nodes i (get_or nodes i d) o old path) ∙ ap (merged_at (all ++ (o ∷ []))) (sym at);
             some = omega arith;
             small = fits;
@@ -136,7 +136,7 @@ grown_each all t u i k o d n table h lt path is items fits =
           subst (λ (m : Node). IsNodeOf (all ++ (o ∷ [])) (set nodes i n) k m) (sym now) (record {
             id = old.id;
             earlier = old.earlier;
-            path = paths (k + 1) ∙ old.path ∙ ap (λ (p : Path). below p (label_in (get_or nodes k d).key))
+            path = paths (k + 1) ∙ old.path ∙ ap (λ (p : Path). below p (key_label (get_or nodes k d).key))
                 (sym (paths (get_or nodes k d).key.parent.number));
             sums = old.sums ∙ sym (merged_at-other all o (path_at nodes (k + 1)) apart)
                 ∙ ap (merged_at (all ++ (o ∷ []))) (sym (paths (k + 1)));
@@ -149,7 +149,7 @@ grown_each all t u i k o d n table h lt path is items fits =
 -- the same for the table
 pub grown : (all : List Occurrence) (t u : Table) (i : ℕ) (o : Occurrence) (d n : Node) → IsTableOf all t
     → i < vec_len t.nodes → o.path ≡ path_at t.nodes.items (i + 1)
-    → n ≡ grown_node (get_or t.nodes.items i d) o.own_start o.duration → u.nodes.items ≡ set t.nodes.items i n
+    → n ≡ node_with_piece (get_or t.nodes.items i d) o.own_start o.duration → u.nodes.items ≡ set t.nodes.items i n
     → (get_or t.nodes.items i d).sums.total + o.duration < 2 ^ 63 → IsTableOf (all ++ (o ∷ [])) u
 grown all t u i o d n table h path is items fits =
     let size : vec_len t.nodes ≡ length t.nodes.items = t.nodes.ok.0 in
@@ -176,16 +176,15 @@ grown all t u i o d n table h path is items fits =
 
 -- no node has the path of a new key
 fresh_path : (all : List Occurrence) (t : Table) (key : Key) (k : ℕ) → IsTableOf all t
-    → key.parent.number ≤ vec_len t.nodes → ((j : ℕ) → j < vec_len t.nodes → HasKey t.nodes.items j key → ⊥)
-    → k < vec_len t.nodes
-    → path_at t.nodes.items (k + 1) ≡ below (path_at t.nodes.items key.parent.number) (label_in key) → ⊥
+    → key.parent.number ≤ vec_len t.nodes → IsNewKey t.nodes key → k < vec_len t.nodes
+    → path_at t.nodes.items (k + 1) ≡ below (path_at t.nodes.items key.parent.number) (key_label key) → ⊥
 fresh_path all t key k table parent fresh lt e =
     let size : vec_len t.nodes ≡ length t.nodes.items = t.nodes.ok.0 in
     let d = some_of t.nodes.items k (omega arith) in
     let is = table.each k d lt in
     let early = is.earlier in
     let parts = below-same (path_at t.nodes.items (get_or t.nodes.items k d).key.parent.number) (path_at t.nodes.items
-    key.parent.number) (label_in (get_or t.nodes.items k d).key) (label_in key) (sym is.path ∙ e) in
+    key.parent.number) (key_label (get_or t.nodes.items k d).key) (key_label key) (sym is.path ∙ e) in
     let parents : (get_or t.nodes.items k d).key.parent.number ≡ key.parent.number =
     table.apart _ _ (omega arith) parent parts.0 in
     fresh k lt (λ f. subst (λ (m : Node). IsSameKey m.key key) (same_at t.nodes.items k d f (omega arith))
@@ -193,14 +192,14 @@ fresh_path all t key k table parent fresh lt e =
 
 started_each : (all : List Occurrence) (t : Table) (key : Key) (o : Occurrence) (k : ℕ) (d : Node)
     → IsTableOf all t → 0 < key.id → key.parent.number ≤ vec_len t.nodes → o.duration < 2 ^ 63
-    → o.path ≡ below (path_at t.nodes.items key.parent.number) (label_in key)
+    → o.path ≡ below (path_at t.nodes.items key.parent.number) (key_label key)
     → ((j : ℕ) → j < vec_len t.nodes → path_at t.nodes.items (j + 1) ≡ o.path → ⊥) → k < vec_len t.nodes + 1
-    → IsNodeOf (all ++ (o ∷ [])) (t.nodes.items ++ (made_node key o.own_start o.duration ∷ [])) k (get_or
-    (t.nodes.items ++ (made_node key o.own_start o.duration ∷ [])) k d)
+    → IsNodeOf (all ++ (o ∷ [])) (t.nodes.items ++ (new_node key o.own_start o.duration ∷ [])) k (get_or
+    (t.nodes.items ++ (new_node key o.own_start o.duration ∷ [])) k d)
 started_each all t key o k d table id parent small path fresh lt =
     let size : vec_len t.nodes ≡ length t.nodes.items = t.nodes.ok.0 in
     let nodes = t.nodes.items in
-    let n = made_node key o.own_start o.duration in
+    let n = new_node key o.own_start o.duration in
     let kept : (p : ℕ) → p ≤ length nodes → path_at (nodes ++ (n ∷ [])) p ≡ path_at nodes p =
     λ p h. path_at-kept nodes n p h in
     elim (cases_lt k (vec_len t.nodes)) [
@@ -214,7 +213,7 @@ started_each all t key o k d table id parent small path fresh lt =
             id = old.id;
             earlier = old.earlier;
             path = kept (k + 1) (omega (arith, inside))
-                ∙ old.path ∙ ap (λ (p : Path). below p (label_in (get_or nodes k d).key))
+                ∙ old.path ∙ ap (λ (p : Path). below p (key_label (get_or nodes k d).key))
                 (sym (kept (get_or nodes k d).key.parent.number (omega (arith, inside, early))));
             sums = old.sums ∙ sym (merged_at-other all o (path_at nodes (k + 1)) apart)
                 ∙ ap (merged_at (all ++ (o ∷ []))) (sym (kept (k + 1) (omega (arith, inside))));
@@ -232,7 +231,7 @@ started_each all t key o k d table id parent small path fresh lt =
             id = id;
             earlier = omega (arith, at, parent);
             path = new ∙ path
-                ∙ ap (λ (p : Path). below p (label_in key)) (sym (kept key.parent.number (omega (arith, parent))));
+                ∙ ap (λ (p : Path). below p (key_label key)) (sym (kept key.parent.number (omega (arith, parent))));
             sums = sym first ∙ ap (merged_at (all ++ (o ∷ []))) (sym new);
             some = omega arith;
             small = small;
@@ -242,13 +241,13 @@ started_each all t key o k d table id parent small path fresh lt =
 
 pub started : (all : List Occurrence) (t u : Table) (key : Key) (o : Occurrence)
     → IsTableOf all t → 0 < key.id → key.parent.number ≤ vec_len t.nodes → o.duration < 2 ^ 63
-    → o.path ≡ below (path_at t.nodes.items key.parent.number) (label_in key)
-    → ((j : ℕ) → j < vec_len t.nodes → HasKey t.nodes.items j key → ⊥)
-    → u.nodes.items ≡ t.nodes.items ++ (made_node key o.own_start o.duration ∷ []) → IsTableOf (all ++ (o ∷ [])) u
+    → o.path ≡ below (path_at t.nodes.items key.parent.number) (key_label key)
+    → IsNewKey t.nodes key → u.nodes.items ≡ t.nodes.items ++ (new_node key o.own_start o.duration ∷ [])
+    → IsTableOf (all ++ (o ∷ [])) u
 started all t u key o table id parent small path new_key items =
     let size : vec_len t.nodes ≡ length t.nodes.items = t.nodes.ok.0 in
     let nodes = t.nodes.items in
-    let n = made_node key o.own_start o.duration in
+    let n = new_node key o.own_start o.duration in
     let wide : vec_len u.nodes ≡ vec_len t.nodes + 1 =
     u.nodes.ok.0 ∙ ap length items ∙ length_push nodes n ∙ ap (λ (m : ℕ). m + 1) (sym size) in
     let fresh : (j : ℕ) → j < vec_len t.nodes → path_at nodes (j + 1) ≡ o.path → ⊥ =
@@ -286,10 +285,10 @@ started all t u key o table id parent small path new_key items =
     }
   where
     not_new : (all : List Occurrence) (t : Table) (key : Key) (o : Occurrence) (p : ℕ) → IsTableOf all t
-        → o.path ≡ below (path_at t.nodes.items key.parent.number) (label_in key) → ((j : ℕ) → j < vec_len t.nodes
+        → o.path ≡ below (path_at t.nodes.items key.parent.number) (key_label key) → ((j : ℕ) → j < vec_len t.nodes
         → path_at t.nodes.items (j + 1) ≡ o.path → ⊥) → p ≤ vec_len t.nodes → path_at t.nodes.items p ≡ o.path → ⊥
     not_new all t key o zero table path fresh h e =
-        no_snoc (path_at t.nodes.items key.parent.number) (label_in key) (sym (top_path t.nodes.items) ∙ e ∙ path)
+        no_snoc (path_at t.nodes.items key.parent.number) (key_label key) (sym (top_path t.nodes.items) ∙ e ∙ path)
     not_new all t key o (suc p) table path fresh h e =
         fresh p (omega arith) (ap (path_at t.nodes.items) (omega arith) ∙ e)
 
@@ -298,7 +297,7 @@ started all t u key o table id parent small path new_key items =
 pub adds_grown : (t u : Table) (parent : ℕ) (label : Label) (own_start : ℤ) (duration x : ℕ)
     → (all : List Occurrence) × IsTableOf all t → 0 < x → x ≤ vec_len t.nodes
     → HasLabel t.nodes.items (x - 1) parent label
-    → GrowsAt t (x - 1) own_start duration u → AddsAt t parent label own_start duration x u
+    → AddsPieceAt t (x - 1) own_start duration u → AddsAt t (occurrence_at t parent label own_start duration) x u
 adds_grown t u parent label own_start duration x some low high has new =
     let size : vec_len t.nodes ≡ length t.nodes.items = t.nodes.ok.0 in
     let nodes = t.nodes.items in
@@ -336,14 +335,13 @@ grown_refused t parent label own_start duration x low high has no_fit all table 
 
 pub adds_started : (t u : Table) (key : Key) (own_start : ℤ) (duration x : ℕ) → 0 < key.id
     → key.parent.number ≤ vec_len t.nodes → duration < 2 ^ 63 → x ≡ vec_len t.nodes + 1
-    → ((j : ℕ) → j < vec_len t.nodes → HasKey t.nodes.items j key → ⊥)
-    → u.nodes.items ≡ t.nodes.items ++ (made_node key own_start duration ∷ [])
-    → AddsAt t key.parent.number (label_in key) own_start duration x u
+    → IsNewKey t.nodes key → u.nodes.items ≡ t.nodes.items ++ (new_node key own_start duration ∷ [])
+    → AddsAt t (occurrence_at t key.parent.number (key_label key) own_start duration) x u
 adds_started t u key own_start duration x id parent small is new_key items =
     let size : vec_len t.nodes ≡ length t.nodes.items = t.nodes.ok.0 in
     let nodes = t.nodes.items in
-    let n = made_node key own_start duration in
-    let o = occurrence_at t key.parent.number (label_in key) own_start duration in
+    let n = new_node key own_start duration in
+    let o = occurrence_at t key.parent.number (key_label key) own_start duration in
     let wide : vec_len u.nodes ≡ vec_len t.nodes + 1 =
     u.nodes.ok.0 ∙ ap length items ∙ length_push nodes n ∙ ap (λ (m : ℕ). m + 1) (sym size) in
     record {

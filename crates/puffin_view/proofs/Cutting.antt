@@ -121,8 +121,8 @@ stored-cut_slow held new recent slow last R S gone h go =
           (subst (λ rs. IsStrictlySortedBy rank_cmp rs) (h.slow_at ∙ ranks-append S) h.in_order)
 
 -- of the recent frames, the last ones stay
-pub stored-cut_recent : (held new : HeldFrames) (recent : List ℕ) (slow : List
-    SlowRank) (last : Option ℕ) (gone R S : List Frame) → AreStored held recent slow last (gone ++ R) S
+pub stored-cut_recent : (held new : HeldFrames) (recent : List ℕ) (slow : List SlowRank) (last : Option ℕ)
+    (gone R S : List Frame) → AreStored held recent slow last (gone ++ R) S
     → LetsGo held (map index_of S) (map index_of gone) new → AreStored new (map index_of R) slow last R S
 stored-cut_recent held new recent slow last gone R S h go =
     let stays : ℕ → Bool = λ q. has_number q (map index_of S) in
@@ -213,8 +213,8 @@ recent_step old mid new slow is k i b h e go ensured off on =
     subst P (indices_next is k i h e) (at b ensured off on) where
       at : (b : Bool) → b ≡ list_any (λ r. nat_eq r.frame_index i) slow → (b ≡ false → new ≡ fin.remove mid i)
           → (b ≡ true → new ≡ mid) → LetsGo old (map rank_index slow) (take k is ++ i ∷ []) new
-      at true ensured off on = let Q : HeldFrames → Type 0 =
-          λ m. LetsGo old (map rank_index slow) (take k is ++ i ∷ []) m in subst Q (sym (on refl))
+      at true ensured off on = let Q : HeldFrames
+          → Type 0 = λ m. LetsGo old (map rank_index slow) (take k is ++ i ∷ []) m in subst Q (sym (on refl))
           (LetsGo-kept old mid (map rank_index slow) (take k is) i go (sym (any_ranks i slow) ∙ sym ensured))
       at false ensured off on = LetsGo-more old mid new (map rank_index slow) (take k is) i go (off refl)
           (sym (any_ranks i slow) ∙ sym ensured)

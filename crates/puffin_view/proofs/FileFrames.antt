@@ -103,6 +103,6 @@ tested b ds said is same = ap (list_any lacks_id) (sym same) ∙ sym (is ∙ any
 -- details that weren't refused all have ids
 pub has_ids : (b : Bool) (r : Result (Unit {0}) Error) (done : Unit {0}) → r ≡ Ok done
     → ((r ≡ Err MissingId) ↔ (b ≡ true)) → b ≡ false
-has_ids true r done ok h = let e : ◌≡◌ {A = Result (Unit {0}) Error} (Ok done) (Err MissingId) =
-    sym ok ∙ h.1 refl in absurd (cc)
+has_ids true r done ok h =
+    let e : ◌≡◌ {A = Result (Unit {0}) Error} (Ok done) (Err MissingId) = sym ok ∙ h.1 refl in absurd (cc)
 has_ids false r done ok h = refl

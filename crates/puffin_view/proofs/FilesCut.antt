@@ -120,8 +120,8 @@ all_back (c ∷ cs) ds h = all_back cs ds h.1
 
 ids_front : (cs ds : List PacketFields) → list_any lacks_ids (cs ++ ds) ≡ false → list_any lacks_ids cs ≡ false
 ids_front [] ds h = refl
-ids_front (c ∷ cs) ds h = let n =
-    neither (lacks_ids c) (list_any lacks_ids (cs ++ ds)) h in rw n.0 (ids_front cs ds n.1)
+ids_front (c ∷ cs) ds h = let n = neither (lacks_ids c) (list_any lacks_ids (cs ++ ds)) h in
+    rw n.0 (ids_front cs ds n.1)
 
 ids_back : (cs ds : List PacketFields) → list_any lacks_ids (cs ++ ds) ≡ false → list_any lacks_ids ds ≡ false
 ids_back [] ds h = h
@@ -298,8 +298,8 @@ pub cut_given : (cs : List PacketFields) (bytes : List ℕ) (whole : List Packet
     → list_any lacks_ids cs ≡ false
     → HasGiven (Some bytes) mid frames
     → (given more : List PacketFields) × (whole ≡ given ++ more) × (frames ≡ map packed given)
-cut_given cs bytes whole h mid frames again all ids g = let w =
-    (walked cs bytes whole h mid frames again all ids g).2 in (w.given, w.more, w.in_order, w.are)
+cut_given cs bytes whole h mid frames again all ids g =
+    let w = (walked cs bytes whole h mid frames again all ids g).2 in (w.given, w.more, w.in_order, w.are)
 
 -- where no whole frame is left, all were given
 all_walked : (whole : List PacketFields) (left : List ℕ) (frames : List Stored) (m : List ℕ)

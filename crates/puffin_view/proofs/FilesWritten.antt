@@ -39,8 +39,9 @@ all_more [] c h p = (p, tt)
 all_more (d ∷ done) c h p = (h.0, all_more done c h.1 p)
 
 -- the frames that are left begin with one
-pub one_left : (done : List PacketFields) (o : Option Collection) (c : PacketFields) (f : Frame) (now next : List
-    Frame) (cs : List PacketFields) → cs ≡ done ++ first_with o (map fields_of now) → now ≡ f ∷ next → c ≡ fields_of f
+pub one_left : (done : List PacketFields) (o : Option Collection) (c : PacketFields) (f : Frame)
+    (now next : List Frame) (cs : List PacketFields) → cs ≡ done ++ first_with o (map fields_of now) → now ≡ f ∷ next
+    → c ≡ fields_of f
     → cs ≡ done ++ record c { details = details_or c.details o } ∷ map fields_of next
 one_left done o c f now next cs is left same =
     is ∙ (ap (λ (fs : List Frame). done ++ first_with o (map fields_of fs)) left ∙ ap
@@ -103,8 +104,8 @@ nothing_begun old mid new cs c h same = (
       (sym (append-nil (file_of cs))) (subst (λ (m : Option (List ℕ)). Appends old m (file_of cs)) (sym same) h),
 )
 
-pub begun : (old mid new : Option (List ℕ)) (done : List PacketFields) (c : PacketFields) (left cs : List
-    PacketFields) (e : FileError) → cs ≡ done ++ c ∷ left → Appends old mid (file_of done)
+pub begun : (old mid new : Option (List ℕ)) (done : List PacketFields) (c : PacketFields)
+    (left cs : List PacketFields) (e : FileError) → cs ≡ done ++ c ∷ left → Appends old mid (file_of done)
     → (e ≡ file.Io → WritesBeginning mid new (packet c)) → ((e ≡ file.Io → ⊥) → new ≡ mid) → Cause e
     → WritesBeginning old new (file_of cs)
 begun old mid new done c left cs e is first io other (inl long) =
@@ -141,8 +142,8 @@ more_begun old mid new cs c e h io other (inl long) =
     nothing_begun old mid new cs c h (other (λ at. not_io_long (sym long ∙ at)))
 more_begun old mid new cs c e h io other (inr (inl memory)) =
     nothing_begun old mid new cs c h (other (λ at. not_io_memory (sym memory ∙ at)))
-more_begun old mid new cs c e h io other (inr (inr at)) = let w =
-    io at in (w.0, w.1, w.2, Appends-trans old mid new (file_of cs) w.0 h w.3)
+more_begun old mid new cs c e h io other (inr (inr at)) =
+    let w = io at in (w.0, w.1, w.2, Appends-trans old mid new (file_of cs) w.0 h w.3)
 
 abbrev failed : FileError → Bool
 failed e = is_io {X = Unit {0}} (Err e)
@@ -157,8 +158,8 @@ refused_ids e is (inr memory) f = absurd (not_refused (sym (ap file_error_of mem
     not_refused h = cc
 
 -- a call that didn't touch the device, whose fault isn't `Io`, leaves what it held
-kept : {D : Type 0} (contents : D → Option (List ℕ)) (before after : D) (c : PacketFields) (was is : Bool) (e
-    fault : FileError) → was ≡ false → is ≡ failed e → e ≡ fault → failed fault ≡ false → after ≡ before
+kept : {D : Type 0} (contents : D → Option (List ℕ)) (before after : D) (c : PacketFields) (was is : Bool)
+    (e fault : FileError) → was ≡ false → is ≡ failed e → e ≡ fault → failed fault ≡ false → after ≡ before
     → (old : Option (List ℕ)) (cs : List PacketFields) → HoldsSoFar was old (contents before) cs
     → HoldsSoFar is old (contents after) cs
 kept contents before after c was is e fault sound now this not same old cs h =
@@ -166,8 +167,9 @@ kept contents before after c was is e fault sound now this not same old cs h =
     (subst (λ (m : Option (List ℕ)). HoldsFile old m cs) (sym (ap contents same))
     (subst (λ (b : Bool). HoldsSoFar b old (contents before) cs) sound h))
 
-pub packet_begun : {D : Type 0} (contents : D → Option (List ℕ)) (before after : D) (c : PacketFields) (r : Result
-    (Unit {0}) FileError) → IfErr r (λ e. e ≡ file.Io → WritesBeginning (contents before) (contents after) (packet c))
+pub packet_begun : {D : Type 0}
+    (contents : D → Option (List ℕ)) (before after : D) (c : PacketFields) (r : Result (Unit {0}) FileError)
+    → IfErr r (λ e. e ≡ file.Io → WritesBeginning (contents before) (contents after) (packet c))
     → IfErr r (λ e. (e ≡ file.Io → ⊥) → after ≡ before) → IfErr r Cause → IfErr r (λ e. (old : Option (List ℕ))
     (cs : List PacketFields) → HoldsFile old (contents before) cs → HoldsBegun old (contents after) cs c)
 packet_begun contents before after c (Ok x) io other cause = tt
@@ -175,8 +177,8 @@ packet_begun contents before after c (Err e) io other cause =
     λ old cs h. more_begun old (contents before) (contents after) cs c e h io (λ no. ap contents (other no)) cause
 
 -- what the device holds after a call: one frame more, or a prefix of it behind which nothing comes, or what it held
-pub packet_so_far : {D : Type 0} (contents : D → Option (List ℕ)) (before after : D) (c : PacketFields) (was
-    is : Bool) (r : Result (Unit {0}) FileError) → was ≡ false → is ≡ is_io r
+pub packet_so_far : {D : Type 0} (contents : D → Option (List ℕ)) (before after : D) (c : PacketFields)
+    (was is : Bool) (r : Result (Unit {0}) FileError) → was ≡ false → is ≡ is_io r
     → OnOk r (Appends (contents before) (contents after) (packet c))
     → IfErr r (λ e. e ≡ file.Io → WritesBeginning (contents before) (contents after) (packet c))
     → IfErr r (λ e. (e ≡ file.Io → ⊥) → after ≡ before)

@@ -205,8 +205,9 @@ module _ {A : Type 0} where
       (lowered rest (was ∙ ap wrapped_sum (sym (without f es k before found)))) ∙ mod-add-mod rest (2 ^ 128) (f a)
       ∙ ap wrapped_sum more ∙ ap (λ l. wrapped_sum (sum_by f (values_of l))) (sym put)
 
-  pub sum_removed : (f : Arc FrameData A → ℕ) (es fs : List (ℕ × Arc FrameData A)) (k : ℕ) (before : Option
-      (Arc FrameData A)) (u v : ℕ) → fs ≡ remove_entry (is_at (nat_cmp k)) es → before ≡ lookup (is_at (nat_cmp k)) es
+  pub sum_removed : (f : Arc FrameData A → ℕ) (es fs : List (ℕ × Arc FrameData A))
+      (k : ℕ) (before : Option (Arc FrameData A)) (u v : ℕ) → fs ≡ remove_entry (is_at (nat_cmp k)) es
+      → before ≡ lookup (is_at (nat_cmp k)) es
       → u ≡ wrapped_sum (sum_by f (values_of es))
       → ((rest : ℕ) → u ≡ wrapped_sum (rest + unwrap_or (option_map f before) 0) → v ≡ wrapped_sum rest)
       → v ≡ wrapped_sum (sum_by f (values_of fs))

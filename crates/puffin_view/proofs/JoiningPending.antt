@@ -74,8 +74,8 @@ recent_cut held new recent recent' slow last max R S h go e =
     (map index_of (take n R)) (ranks_of_all slow S h.slow_at) gone go))
 
 -- a frame enters the slow ones, or not
-entered : (held new : HeldFrames) (recent : List ℕ) (slow : List SlowRank) (max : ℕ) (f : Frame) (R S : List
-    Frame) (b : Bool) → AreStored held recent slow (Some (index_of f)) R S → fin.get held (index_of f) ≡ Some f
+entered : (held new : HeldFrames) (recent : List ℕ) (slow : List SlowRank) (max : ℕ) (f : Frame) (R S : List Frame)
+    (b : Bool) → AreStored held recent slow (Some (index_of f)) R S → fin.get held (index_of f) ≡ Some f
     → AllByRecursion (λ g. index_of g < index_of f) S
     → LetsGo held recent (map rank_index (cond b (drop max (place is_before (rank_of f) slow)) [])) new
     → AreStored new recent (cond b (take max (place is_before (rank_of f) slow)) slow) (Some (index_of f)) R (cond
@@ -179,8 +179,8 @@ newest_is_packed v w f newest e =
     ap (with_packed (index_of f)) e ∙ ap (λ o. option_map_or (λ g. with_packed (index_of g) v) o v) (sym newest)
 
 -- the last of the indices are those of the last of the frames
-pub last_frames : (held : HeldFrames) (recent : List ℕ) (slow : List SlowRank) (last : Option ℕ) (n : ℕ) (R S : List
-    Frame) → AreStored held recent slow last R S → frames_under held (last_of n recent) ≡ last_of n R
+pub last_frames : (held : HeldFrames) (recent : List ℕ) (slow : List SlowRank) (last : Option ℕ) (n : ℕ)
+    (R S : List Frame) → AreStored held recent slow last R S → frames_under held (last_of n recent) ≡ last_of n R
 last_frames held recent slow last n R S h =
     let m : ℕ = length R - n in
     let as_many : length recent - n ≡ m =

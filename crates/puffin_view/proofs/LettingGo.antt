@@ -31,8 +31,8 @@ slow_step old mid new recent gone r true go is off on =
 slow_step old mid new recent gone r false go is off on = LetsGo-more old mid new recent (map rank_index gone)
     (rank_index r) go (off refl) (sym (any_has (rank_index r) recent) ∙ sym is)
 
-pub one_more_gone : (old mid new : HeldFrames) (recent : List ℕ) (whole
-    left rest : List SlowRank) (r : SlowRank) (b : Bool) → LetsGoSome old recent whole mid left → left ≡ r ∷ rest
+pub one_more_gone : (old mid new : HeldFrames) (recent : List ℕ) (whole left rest : List SlowRank)
+    (r : SlowRank) (b : Bool) → LetsGoSome old recent whole mid left → left ≡ r ∷ rest
     → b ≡ list_any (λ y. nat_eq y (rank_index r)) recent → (b ≡ false → new ≡ fin.remove mid (rank_index r))
     → (b ≡ true → new ≡ mid)
     → LetsGoSome old recent whole new rest

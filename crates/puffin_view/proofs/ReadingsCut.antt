@@ -47,12 +47,12 @@ same_pair x y a b e = let p = same_ok (x, a) (y, b) e in (ap (λ q. q.0) p, ap (
 -- a value that is decided without bytes
 decided : {A B : Type 0} (r : Result A FileError) (f : A → B) → IsCuttable (λ bytes. r >>= λ y. Ok (f y, bytes))
 decided (Err e) f front more x after is = absurd cc
-decided (Ok y) f front more x after is = let p =
-    same_pair (f y) x (front ++ more) after is in inr (front, ap (λ z. Ok (z, front)) p.0, sym p.1)
+decided (Ok y) f front more x after is = let p = same_pair (f y) x (front ++ more) after is in
+    inr (front, ap (λ z. Ok (z, front)) p.0, sym p.1)
 
 valued : {A : Type 0} (y : A) → IsCuttable (λ bytes. Ok (y, bytes))
-valued y front more x after is = let p =
-    same_pair y x (front ++ more) after is in inr (front, ap (λ z. Ok (z, front)) p.0, sym p.1)
+valued y front more x after is =
+    let p = same_pair y x (front ++ more) after is in inr (front, ap (λ z. Ok (z, front)) p.0, sym p.1)
 
 either : {A : Type 0} (b : Bool) (f g : Reading A) → IsCuttable f → IsCuttable g
     → IsCuttable (λ bytes. cond b (f bytes) (g bytes))

@@ -133,8 +133,9 @@ module _ {A : Type 0} where
       → HoldsAt (λ a. key a ≡ k) xs i
   some_found xs k i found d = tied (key (get_or xs i d)) k (found d)
 
-  module _ (es : List (ℕ × Arc FrameData A)) (xs : List (Arc FrameData A)) (k i : ℕ) (found : (i < length xs)
-      × HoldsAt (λ a. key a ≡ k) xs i) (sorted : IsStrictlySortedBy nat_cmp (keys_of (es ++ keyed xs))) where
+  module _ (es : List (ℕ × Arc FrameData A)) (xs : List (Arc FrameData A))
+      (k i : ℕ) (found : (i < length xs) × HoldsAt (λ a. key a ≡ k) xs i)
+      (sorted : IsStrictlySortedBy nat_cmp (keys_of (es ++ keyed xs))) where
     pub got_at : (o : Option (Bor (Arc FrameData A))) → IsSome o → IfSome o (λ x. x.now ≡ get_or xs i x.now)
         → option_copied o ≡ lookup (at k) (es ++ keyed xs)
     got_at None some is = cc

@@ -20,8 +20,8 @@ regroup done left rest whole c e h = append_assoc done (c ∷ []) rest ∙ ap (�
 rank_of : ℕ → Frame → Rank
 rank_of k f = record { duration = duration_of f; index = index_of f; place = k }
 
-pub ranked_more : {A X : Type 0} (g : A → Frame) (s : X → Rank) (hs : List
-    A) (k : ℕ) (a : A) (done new : List X) (x : X) (whole : List Rank) → k < length hs → a ≡ get_or hs k a
+pub ranked_more : {A X : Type 0} (g : A → Frame) (s : X → Rank) (hs : List A)
+    (k : ℕ) (a : A) (done new : List X) (x : X) (whole : List Rank) → k < length hs → a ≡ get_or hs k a
     → s x ≡ record { duration = duration_of (g a); index = index_of (g a); place = k } → new ≡ done ++ x ∷ []
     → map s done ++ ranks_from k (drop k (map g hs)) ≡ whole
     → map s new ++ ranks_from (k + 1) (drop (k + 1) (map g hs)) ≡ whole
@@ -36,8 +36,8 @@ ranked_more g s hs k a done new x whole h here same is so =
     done) (ranks_from k (drop k (map g hs))) (ranks_from (suc k) (drop (suc k) (map g hs))) whole (s x) left so)
 
 -- an order seen through a function that can be undone
-pub map_sorted : {A B : Type 0} (f : A → B) (back : B → A) (undo : (b : B) → f (back b) ≡ b) (lt : B → B
-    → Bool) (xs : List A) → IsSortedBy (λ x y. lt (f x) (f y)) xs → IsSortedBy lt (map f xs)
+pub map_sorted : {A B : Type 0} (f : A → B) (back : B → A) (undo : (b : B) → f (back b) ≡ b) (lt : B → B → Bool)
+    (xs : List A) → IsSortedBy (λ x y. lt (f x) (f y)) xs → IsSortedBy lt (map f xs)
 map_sorted f back undo lt xs h = λ k d low high.
     let far : k + 1 < length xs = rw (sym (map-length f xs)) high in
     let later : get_or (map f xs) (k + 1) d ≡ f (get_or xs (k + 1) (back d)) =

@@ -140,15 +140,15 @@ has_index-place q f (g ∷ fs) h = at (is_slower_frame f g) h (has_index-place q
       → (has_index q (place is_slower_frame f fs) ≡ false → has_index q fs ≡ false)
       → (nat_eq q (index_of g) || has_index q fs) ≡ false
   at true h later = (neither (nat_eq q (index_of f)) (nat_eq q (index_of g) || has_index q fs) h).1
-  at false h later = let both =
-      neither (nat_eq q (index_of g)) (has_index q (place is_slower_frame f fs)) h in rw both.0 (later both.1)
+  at false h later = let both = neither (nat_eq q (index_of g)) (has_index q (place is_slower_frame f fs)) h in
+      rw both.0 (later both.1)
 
 pub first_false : {a b : Bool} → a ≡ false → b ≡ false → (a || b) ≡ false
 first_false {a} {b} e p = rw (e, p) refl
 
 -- with the slow ones as they were
-pub stored-added : (held : HeldFrames) (recent : List ℕ) (slow : List SlowRank) (last : Option ℕ) (f : Frame) (R
-    S : List Frame) → AreStored held recent slow last R S
+pub stored-added : (held : HeldFrames) (recent : List ℕ) (slow : List SlowRank) (last : Option ℕ) (f : Frame)
+    (R S : List Frame) → AreStored held recent slow last R S
     → AllByRecursion (λ g. index_of g < index_of f) R → AllByRecursion (λ g. index_of g < index_of f) S → AreStored
     (fin.insert held (index_of f) f) (recent ++ index_of f ∷ []) slow (Some (index_of f)) (R ++ f ∷ []) S
 stored-added held recent slow last f R S h before slow_before = record {
@@ -242,8 +242,8 @@ stored_as held recent slow last R S h =
     let Q : List Frame → Type 0 = λ fs. AreStored held recent slow last R fs in
     subst P (sym (recent_back held recent slow last R S h)) (subst Q (sym (slow_back held recent slow last R S h)) h)
 
-pub view_as : (held : HeldFrames) (recent : List ℕ) (slow : List SlowRank) (last : Option ℕ) (max_recent
-    max_slow : ℕ) (packs : Bool) (v : View) → AreStored held recent slow last v.recent v.slow → last ≡ v.last
+pub view_as : (held : HeldFrames) (recent : List ℕ) (slow : List SlowRank) (last : Option ℕ) (max_recent max_slow : ℕ)
+    (packs : Bool) (v : View) → AreStored held recent slow last v.recent v.slow → last ≡ v.last
     → max_recent ≡ v.max_recent → max_slow ≡ v.max_slow → packs ≡ v.packs
     → record {
       recent = frames_under held recent;

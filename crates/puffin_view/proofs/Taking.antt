@@ -250,12 +250,12 @@ Took-more v f (x ∷ xs) steady h = record {
 -- what a view holds when it has taken one more
 pub HoldsAlso-taking : (v w : View) (f : Frame) → IsSteady v → w ≡ after_taking v f → HoldsAlso f v w
 HoldsAlso-taking v w f steady is = record {
-  took = λ cs h. let P : View → Type 0 =
-      λ u. Took (cs ++ fields_of f ∷ []) u in subst P (sym is) (Took-more v f cs steady h);
+  took = λ cs h. let P : View → Type 0 = λ u. Took (cs ++ fields_of f ∷ []) u in
+      subst P (sym is) (Took-more v f cs steady h);
   more = λ cs ds p h. let P : View → Type 0 = λ u. Holds (cs ++ fields_of f ∷ []) (ds ++ fields_of f ∷ []) u in
       subst P (sym is) (Holds-more v f cs ds steady p h);
-  anew = λ p. let P : View → Type 0 =
-      λ u. Holds (fields_of f ∷ []) (fields_of f ∷ []) u in subst P (sym is) (Holds-anew v f p);
+  anew = λ p. let P : View → Type 0 = λ u. Holds (fields_of f ∷ []) (fields_of f ∷ []) u in
+      subst P (sym is) (Holds-anew v f p);
 }
 
 -- a view that took some frames, and takes more

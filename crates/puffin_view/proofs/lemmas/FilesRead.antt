@@ -182,8 +182,8 @@ end_stays (a ∷ b ∷ d ∷ []) rest e h = absurd (omega arith)
 end_stays (a ∷ b ∷ d ∷ f ∷ []) rest e h = rw (four_end a b d f rest h) refl
 end_stays (a ∷ b ∷ d ∷ f ∷ g ∷ more) rest e h = absurd (omega arith)
 
-stays_or_ends : (old mid new : Option (List ℕ)) (frames : List Stored) (n : ℕ) (h : HasGiven old mid frames) (t : List
-    ℕ) → next_at t ≡ Ok (None, []) → (length t ≡ 4) ⊎ IsAtEnd new
+stays_or_ends : (old mid new : Option (List ℕ)) (frames : List Stored) (n : ℕ) (h : HasGiven old mid frames)
+    (t : List ℕ) → next_at t ≡ Ok (None, []) → (length t ≡ 4) ⊎ IsAtEnd new
     → ((rest : List ℕ) → frames_at (suc n + length frames) ((h.bytes ++ t) ++ rest) ≡ Ok (frames, rest)) ⊎ IsAtEnd new
 stays_or_ends old mid new frames n h t is (inl four) =
     inl (λ rest. step old mid frames h n t rest

@@ -69,8 +69,8 @@ Fails p f = p (fields_of f) ≡ false
 fail_all : (p : PacketFields → Bool) (fs : List Frame) → list_any p (map fields_of fs) ≡ false
     → AllByRecursion (Fails p) fs
 fail_all p [] h = tt
-fail_all p (f ∷ fs) h = let both =
-    neither (p (fields_of f)) (list_any p (map fields_of fs)) h in (both.0, fail_all p fs both.1)
+fail_all p (f ∷ fs) h = let both = neither (p (fields_of f)) (list_any p (map fields_of fs)) h in
+    (both.0, fail_all p fs both.1)
 
 none_passes : (p : PacketFields → Bool) (fs : List Frame) → AllByRecursion (Fails p) fs
     → list_any p (map fields_of fs) ≡ false
@@ -199,14 +199,14 @@ found_first q (f ∷ fs) gs h =
 -- and none under another
 not_found : (q : ℕ) (fs : List Frame) → has_index q fs ≡ false → fin.find nat_cmp q (map by_own_index fs) ≡ None
 not_found q [] h = refl
-not_found q (f ∷ fs) h = let both =
-    neither (nat_eq q (index_of f)) (has_index q fs) h in rw (is_at q (index_of f), both.0) (not_found q fs both.1)
+not_found q (f ∷ fs) h = let both = neither (nat_eq q (index_of f)) (has_index q fs) h in
+    rw (is_at q (index_of f), both.0) (not_found q fs both.1)
 
 has_either : (q : ℕ) (fs gs : List Frame) → has_index q fs ≡ false → has_index q gs ≡ false
     → has_index q (fs ++ gs) ≡ false
 has_either q [] gs h k = k
-has_either q (f ∷ fs) gs h k = let both =
-    neither (nat_eq q (index_of f)) (has_index q fs) h in rw both.0 (has_either q fs gs both.1 k)
+has_either q (f ∷ fs) gs h k = let both = neither (nat_eq q (index_of f)) (has_index q fs) h in
+    rw both.0 (has_either q fs gs both.1 k)
 
 -- an index that no first frame has none of frames has whose indices they have
 none_of_these : (q : ℕ) (fs gs : List Frame) → has_index q fs ≡ false

@@ -2,5 +2,6 @@
 use Rattle.puffin_view.specs.declared.profile_view.select.ByDuration.{ByDuration}
 use Rattle.puffin_view.specs.View.Selection.{Rank}
 
+-- a `ByDuration` of the code, as a rank
 abbrev pub slow_place : ByDuration → Rank
-slow_place r = record { duration = r.duration_ns.0; index = r.frame_index; place = r.place }
+slow_place at = record { duration = at.duration_ns.0; index = at.frame_index; place = at.place }

@@ -23,7 +23,7 @@ struct ByDuration {
 }
 
 impl ByDuration {
-    /// Makes the place of a frame.
+    /// Makes the place of a frame, given where it is in the list.
     fn of(frame: &FrameData, place: usize) -> ByDuration
         ensures { slow_place result ≡ rank_at place (frame_of frame.now) }
     {
@@ -46,7 +46,8 @@ pub(super) struct ByIndex {
 
 /// Returns the places of all frames of a list. Fails only with `Memory`.
 fn slow_places(alloc: Global, frames: &[Arc<FrameData>]) -> Result<Vec<ByDuration>>
-    ensures ok { IfOk result (λ v. map slow_place v.items ≡ ranks_from 0 (frames_of frames.now)) }
+    ensures ok { IfOk result (λ places.
+        map slow_place places.items ≡ ranks_from 0 (frames_of frames.now)) }
     ensures cause { IsOkUnless result Error.Memory }
 {
     let mut places = Vec::with_capacity(alloc, frames.len())?;
@@ -58,7 +59,7 @@ fn slow_places(alloc: Global, frames: &[Arc<FrameData>]) -> Result<Vec<ByDuratio
 
 /// Converts places to `ByIndex`, in the same order. Fails only with `Memory`.
 fn old_places(alloc: Global, slow: &[ByDuration]) -> Result<Vec<ByIndex>>
-    ensures ok { IfOk result (λ v. map old_place v.items ≡ map slow_place slow.now) }
+    ensures ok { IfOk result (λ places. map old_place places.items ≡ map slow_place slow.now) }
     ensures cause { IsOkUnless result Error.Memory }
 {
     let mut places = Vec::with_capacity(alloc, slow.len())?;
@@ -94,8 +95,8 @@ fn frames_at(
     frames: &[Arc<FrameData>],
     places: &[ByIndex],
 ) -> Result<Vec<Arc<FrameData>>>
-    ensures ok { IfOk result (λ v.
-        frames_of v.items ≡ filter_map (λ r. slice_get (frames_of frames.now) r.place) (
+    ensures ok { IfOk result (λ chosen.
+        frames_of chosen.items ≡ filter_map (λ rank. slice_get (frames_of frames.now) rank.place) (
         map old_place places.now)) }
     ensures cause { IsOkUnless result Error.Memory }
 {
@@ -118,9 +119,11 @@ pub fn select_slowest(
     frames: &[Arc<FrameData>],
     max: usize,
 ) -> Result<Vec<Arc<FrameData>>>
-    ensures ok { IfOk result (λ v. IsSelection max (frames_of frames.now) (frames_of v.items)) }
+    ensures ok { IfOk result (λ chosen.
+        IsSelection max (frames_of frames.now) (frames_of chosen.items)) }
     ensures cause { IsOkUnless result Error.Memory }
 {
+    // First the slowest are chosen, by duration; then these are sorted by index.
     let places = slow_places(alloc, frames)?;
     let ranked: Vec<ByDuration> = places.into_iter().sorted(alloc)?.take(max).collect(alloc)?;
     let old = old_places(alloc, &ranked)?;

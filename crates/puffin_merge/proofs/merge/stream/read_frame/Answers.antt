@@ -3,7 +3,7 @@ use Rattle.std.proofs.Common.{◌∙◌, ℤ, ◌-ℤ◌, length, refl, sym, ap,
 use mir.Syntax.{w128}
 use mir.Val.{to_z, of_z}
 use Rattle.puffin_threads.proofs.lemmas.ThreadKeys.{key_cmp_total}
-use Rattle.puffin_merge.specs.declared.merge.stream.Open.{Open}
+use Rattle.puffin_merge.specs.declared.merge.stream.OpenScope.{OpenScope}
 use Rattle.puffin_merge.specs.inner.Merging.{StandsFor}
 use Rattle.puffin_merge.specs.inner.Origins.{IsOrigin}
 use Rattle.puffin_merge.proofs.Paths.{top_path}
@@ -16,7 +16,7 @@ walk_with-requires c κs =
     let same = passed_128 c.origin_of-merging.result
     (origin_fits c.origin_of-merging.result c.origin_of-merging.ensures.is) in (
       (refl, tt),
-      subst (λ (w : Open). StandsFor (record {
+      subst (λ (w : OpenScope). StandsFor (record {
         table = c.args.merging.now.table;
         origin = to_z w128 (of_z w128 c.origin_of-merging.result);
       }) w _) (sym c.outside-outside.ensures) (record {

@@ -13,8 +13,8 @@ pub returns-in-Some : goal.returns-in-Some
 returns-in-Some c =
     let s = c.args.self.now in
     let found = c.in-Some.ensures.found in
-    let within : c.in-Some.at < deque_len s.newest = let low : c.in-Some.at < length s.newest.items =
-    found.0 in omega arith in
+    let within : c.in-Some.at < deque_len s.newest = let low : c.in-Some.at < length s.newest.items = found.0 in
+    omega arith in
     got_at s.older.entries s.newest.items c.args.index c.in-Some.at found s.in_order c.get.result
     (c.get.ensures.variant.1 within) c.get.ensures.lookup
 

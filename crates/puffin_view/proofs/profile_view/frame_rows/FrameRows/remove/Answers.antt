@@ -14,8 +14,8 @@ pub returns-in-Some-clause-value : goal.returns-in-Some-clause-value
 returns-in-Some-clause-value c =
     let s = c.args.self.now in
     let found = c.in-Some.ensures.found in
-    let within : c.in-Some.at < deque_len s.newest = let low : c.in-Some.at < length s.newest.items =
-    found.0 in omega arith in
+    let within : c.in-Some.at < deque_len s.newest = let low : c.in-Some.at < length s.newest.items = found.0 in
+    omega arith in
     taken_at s.older.entries s.newest.items c.args.index c.in-Some.at found s.in_order c.remove.result
     (c.remove.ensures.variant.1 within) c.remove.ensures.value
 
@@ -23,8 +23,8 @@ pub returns-in-Some-clause-entries : goal.returns-in-Some-clause-entries
 returns-in-Some-clause-entries c =
     let s = c.args.self.now in
     let found = c.in-Some.ensures.found in
-    let within : c.in-Some.at < deque_len s.newest = let low : c.in-Some.at < length s.newest.items =
-    found.0 in omega arith in
+    let within : c.in-Some.at < deque_len s.newest = let low : c.in-Some.at < length s.newest.items = found.0 in
+    omega arith in
     rest_at s.older.entries s.newest.items c.remove.new.self.items c.args.index c.in-Some.at found s.in_order
     c.remove.result (c.remove.ensures.variant.1 within) c.remove.ensures.items
 
@@ -44,8 +44,8 @@ pub invariant_of-self : goal.invariant_of-self
 invariant_of-self c =
     let s = c.args.self.now in
     let found = c.in-Some.ensures.found in
-    let within : c.in-Some.at < deque_len s.newest = let low : c.in-Some.at < length s.newest.items =
-    found.0 in omega arith in
+    let within : c.in-Some.at < deque_len s.newest = let low : c.in-Some.at < length s.newest.items = found.0 in
+    omega arith in
     let without = rest_at s.older.entries s.newest.items c.remove.new.self.items c.args.index c.in-Some.at found
     s.in_order c.remove.result (c.remove.ensures.variant.1 within) c.remove.ensures.items in
     record { in_order = sorted-removed (at c.args.index) (rows_of s) _ without s.in_order }
