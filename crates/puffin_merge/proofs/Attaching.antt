@@ -120,12 +120,13 @@ forest_fits : (nodes : List Node) (frames : ℕ) (ordered_nodes : List OrderedNo
     → EachOf EndFits (placements_from nodes frames before ordered_nodes blank)
     → EndsFit (forest_below frames q (entries_from nodes frames before ordered_nodes blank))
 forest_fits nodes frames [] before q h = tt
-forest_fits nodes frames (p ∷ ordered_nodes) before q h =
+forest_fits nodes frames (p ∷ ordered_nodes) before q (end_fits, later_fit) =
     let x = next_placement nodes frames before p blank in
     let rest = entries_from nodes frames x ordered_nodes blank in
     both_fit (eqb p.parent.number q) (node_of frames (entry_of nodes p x blank))
-    (forest_below frames p.number.number rest) (forest_below frames q rest) h.0
-    (forest_fits nodes frames ordered_nodes x p.number.number h.1) (forest_fits nodes frames ordered_nodes x q h.1)
+    (forest_below frames p.number.number rest) (forest_below frames q rest) end_fits
+    (forest_fits nodes frames ordered_nodes x p.number.number later_fit)
+    (forest_fits nodes frames ordered_nodes x q later_fit)
 
 -- ---- rows
 
@@ -144,7 +145,7 @@ AreEmpty rows = EachOf (λ r. r.items ≡ []) rows
 turned : (ordered_nodes : List OrderedNode) (q : ℕ) → EachOf (λ z. q ≡ z.number.number → ⊥) ordered_nodes
     → IsNot q ordered_nodes
 turned [] q h = tt
-turned (z ∷ ordered_nodes) q h = (λ e. h.0 (sym e), turned ordered_nodes q h.1)
+turned (z ∷ ordered_nodes) q (other, others) = (λ e. other (sym e), turned ordered_nodes q others)
 
 eqb_same : (a b : ℕ) → a ≡ b → eqb a b ≡ true
 eqb_same a b h = grind arith
@@ -204,7 +205,7 @@ pub apart_from : (ordered_nodes : List OrderedNode) (i : ℕ) (q : OrderedNode)
     → AreApart ordered_nodes → i < length ordered_nodes
     → EachOf (λ z. (get_or ordered_nodes i q).number.number ≡ z.number.number → ⊥) (drop (i + 1) ordered_nodes)
 apart_from [] i q h lt = absurd (omega arith)
-apart_from (p ∷ ordered_nodes) zero q h lt = h.0
+apart_from (p ∷ ordered_nodes) zero q (apart, others) lt = apart
 apart_from (p ∷ ordered_nodes) (suc i) q h lt =
     let e : suc (i + 1) ≡ suc i + 1 = omega arith in
     subst (λ (n : ℕ). EachOf (λ z. (get_or (p ∷ ordered_nodes) (suc i) q).number.number ≡ z.number.number → ⊥)

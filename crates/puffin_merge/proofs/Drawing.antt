@@ -22,13 +22,14 @@ no_place = record {
 
 pub place_low : (nodes : List Node) (ordered_nodes : List OrderedNode) (i : ℕ) (q : OrderedNode)
     → AreOrderedNodesOf nodes ordered_nodes → i < length ordered_nodes → 1 ≤ (get_or ordered_nodes i q).number.number
-place_low nodes ordered_nodes i q are lt = let of = are.each i q lt in let number = of.2.number in omega arith
+place_low nodes ordered_nodes i q are lt =
+    let (k, inside, at) = are.each i q lt in let number = at.number in omega arith
 
 pub place_high : (nodes : List Node) (ordered_nodes : List OrderedNode) (i : ℕ) (q : OrderedNode)
     → AreOrderedNodesOf nodes ordered_nodes → i < length ordered_nodes
     → (get_or ordered_nodes i q).number.number - 1 < length nodes
-place_high nodes ordered_nodes i q are lt = let of = are.each i q lt in let number = of.2.number in
-    let inside = of.1 in omega arith
+place_high nodes ordered_nodes i q are lt =
+    let (k, inside, at) = are.each i q lt in let number = at.number in omega arith
 
 pub small_at : (t : Table) (ordered_nodes : List OrderedNode) (i : ℕ) (q : OrderedNode) (n d : Node)
     → (all : List Occurrence) × IsTableOf all t → AreOrderedNodesOf t.nodes.items ordered_nodes
@@ -78,7 +79,7 @@ pub fit_push : (done all : List Placement) (next : Placement) → all ≡ done +
 fit_push done all next e h x = subst (EachOf EndFits) (sym e) (push done h x) where
   push : (done : List Placement) → EachOf EndFits done → EndFits next → EachOf EndFits (done ++ (next ∷ []))
   push [] h x = (x, tt)
-  push (y ∷ done) h x = (h.0, push done h.1 x)
+  push (y ∷ done) (first, others) x = (first, push done others x)
 
 -- an end that doesn't fit is among all
 pub placements_refused : (nodes : List Node) (frames : ℕ) (last : Placement) (ordered_nodes : List OrderedNode)
@@ -93,5 +94,5 @@ placements_refused nodes frames last ordered_nodes i q n e done are lt same no_f
     ∙ ap (λ (xs : List Placement). done ++ xs) (placements_step nodes frames last ordered_nodes i q d lt)) all)))
   where
     at : (done : List Placement) (x : Placement) (xs : List Placement) → EachOf EndFits (done ++ (x ∷ xs)) → EndFits x
-    at [] x xs h = h.0
-    at (y ∷ done) x xs h = at done x xs h.1
+    at [] x xs (first, others) = first
+    at (y ∷ done) x xs (first, others) = at done x xs others

@@ -32,12 +32,12 @@ eqb_same a b h = grind arith
 -- the ends of what stands below a number, without the first entry
 later_fit : (b : Bool) (n : _) (below others : MergedForest) → EndsFit (cond b (merged n below others) others)
     → EndsFit others
-later_fit true n below others h = h.2
+later_fit true n below others (ends, in_children, in_others) = in_others
 later_fit false n below others h = h
 
 first_fit : (b : Bool) (n : _) (below others : MergedForest) → b ≡ true
     → EndsFit (cond b (merged n below others) others) → FitsSigned w64 (n.start +ℤ n.per_frame) × EndsFit below
-first_fit true n below others e h = (h.0, h.1)
+first_fit true n below others e (ends, in_children, in_others) = (ends, in_children)
 first_fit false n below others e h = absurd (cc)
 
 all_fit : (nodes : List Node) (frames : ℕ) (ordered_nodes : List OrderedNode) (before : Placement) (d : Node)
@@ -45,19 +45,20 @@ all_fit : (nodes : List Node) (frames : ℕ) (ordered_nodes : List OrderedNode) 
     → ((q : ℕ) → known q → EndsFit (forest_below frames q (entries_from nodes frames before ordered_nodes d)))
     → EachOf EndFits (placements_from nodes frames before ordered_nodes d)
 all_fit nodes frames [] before d known k h = tt
-all_fit nodes frames (p ∷ ordered_nodes) before d known k h =
+all_fit nodes frames (p ∷ ordered_nodes) before d known (parent_known, later_known) h =
     let x = next_placement nodes frames before p d in
     let e = entry_of nodes p x d in
     let rest = entries_from nodes frames x ordered_nodes d in
-    let first = first_fit (eqb p.parent.number p.parent.number)
+    let (ends, in_children) = first_fit (eqb p.parent.number p.parent.number)
     (node_of frames e) (forest_below frames p.number.number rest) (forest_below frames p.parent.number rest)
-    (eqb_same p.parent.number p.parent.number refl) (h p.parent.number k.0) in (
-      first.0,
-      all_fit nodes frames ordered_nodes x d (λ q. known q ⊎ (q ≡ p.number.number)) k.1 (λ q known_q. elim known_q [
-        | inl before_it ↦ later_fit (eqb p.parent.number q) (node_of frames e)
-            (forest_below frames p.number.number rest) (forest_below frames q rest) (h q before_it)
-        | inr is_it ↦ subst (λ (n : ℕ). EndsFit (forest_below frames n rest)) (sym is_it) first.1
-      ]),
+    (eqb_same p.parent.number p.parent.number refl) (h p.parent.number parent_known) in (
+      ends,
+      all_fit nodes frames ordered_nodes x d (λ q. known q ⊎ (q ≡ p.number.number)) later_known
+          (λ q known_q. elim known_q [
+            | inl before_it ↦ later_fit (eqb p.parent.number q) (node_of frames e)
+                (forest_below frames p.number.number rest) (forest_below frames q rest) (h q before_it)
+            | inr is_it ↦ subst (λ (n : ℕ). EndsFit (forest_below frames n rest)) (sym is_it) in_children
+          ]),
     )
 
 -- ---- each parent's ordered node stands before
@@ -66,11 +67,10 @@ all_fit nodes frames (p ∷ ordered_nodes) before d known k h =
 parent_low : (t : Table) (p : OrderedNode) (all : List Occurrence) → IsTableOf all t → IsOrderedNodeOf t.nodes.items p
     → p.parent.number < p.number.number
 parent_low t p all table of =
-    let k = of.0 in
-    let inside = of.1 in
-    let number = of.2.number in
+    let (k, inside, at) = of in
+    let number = at.number in
     let d = some_node t.nodes.items k inside in
-    let parent = of.2.parent d in
+    let parent = at.parent d in
     let early = (table.each k d (omega (arith, inside, t.nodes.ok.0))).earlier in
     omega (arith, number, parent, early)
   where
@@ -83,9 +83,10 @@ not_after : (all : List Occurrence) (t : Table) (q : ℕ) (ordered_nodes : List 
     → AllByRecursion (IsOrderedNodeOf t.nodes.items) ordered_nodes → EachOf (λ z. q ≤ z.parent.number) ordered_nodes
     → SomeOf (λ z. z.number.number ≡ q) ordered_nodes → ⊥
 not_after all t q [] table of low none = elim none [ ]
-not_after all t q (z ∷ ordered_nodes) table of low (inl is) =
-    let under = parent_low t z all table of.0 in let high = low.0 in absurd (omega arith)
-not_after all t q (z ∷ ordered_nodes) table of low (inr more) = not_after all t q ordered_nodes table of.1 low.1 more
+not_after all t q (z ∷ ordered_nodes) table (of, others) (high, highs) (inl is) =
+    let under = parent_low t z all table of in absurd (omega arith)
+not_after all t q (z ∷ ordered_nodes) table (of, others) (high, highs) (inr more) =
+    not_after all t q ordered_nodes table others highs more
 
 parents_known : (all : List Occurrence) (t : Table) (ordered_nodes : List OrderedNode) (known : ℕ → Type 0)
     → IsTableOf all t → AllByRecursion (IsOrderedNodeOf t.nodes.items) ordered_nodes → InRow ordered_nodes → known 0

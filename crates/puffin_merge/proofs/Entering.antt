@@ -83,32 +83,38 @@ start_refused v w s t fault low is e =
       no.1,
     )
 
--- what the table is given is the scope's occurrence
+-- what the table is given for a scope below an open scope: the parent's number, the scope's label, its own start and its duration
+pub record IsGiven (w : OpenScope) (s : Span) (key : KeyRef) (own : ℤ) (duration : ℕ) : Type 0 where
+  pub low : w.depth < 1024
+  pub parent : key.parent.number ≡ w.node.number
+  pub label : ref_label key ≡ label_of s
+  pub start : own ≡ s.start -ℤ w.origin
+  pub lasts : duration ≡ nat_abs (s.stop -ℤ s.start)
+
+-- this is the scope's occurrence
 given : (v : Merging) (w : OpenScope) (around : List Span) (s : Span) (key : KeyRef) (own : ℤ) (duration : ℕ)
-    → StandsFor v w around → key.parent.number ≡ w.node.number → ref_label key ≡ label_of s
-    → own ≡ s.start -ℤ w.origin → duration ≡ nat_abs (s.stop -ℤ s.start)
+    → StandsFor v w around → IsGiven w s key own duration
     → occurrence_of_key v.table key own duration ≡ occurrence_of v.origin (record { around = around; span = s })
-given v w around s key own duration stands parent label start lasts =
+given v w around s key own duration stands is =
     let path : below (path_at v.table.nodes.items key.parent.number) (ref_label key)
     ≡ path_of around ++ (label_of s ∷ []) =
-    ap (λ (n : ℕ). below (path_at v.table.nodes.items n) (ref_label key)) parent
-    ∙ ap (λ (p : Path). below p (ref_label key)) stands.path ∙ ap (below (path_of around)) label in
-    let own-is : own ≡ s.start -ℤ origin_in v.origin around = start ∙ ap (λ (o : ℤ). s.start -ℤ o) stands.origin in
-    λ i. record { path = path i; own_start = own-is i; duration = lasts i }
+    ap (λ (n : ℕ). below (path_at v.table.nodes.items n) (ref_label key)) is.parent
+    ∙ ap (λ (p : Path). below p (ref_label key)) stands.path ∙ ap (below (path_of around)) is.label in
+    let own-is : own ≡ s.start -ℤ origin_in v.origin around = is.start ∙ ap (λ (o : ℤ). s.start -ℤ o) stands.origin in
+    λ i. record { path = path i; own_start = own-is i; duration = is.lasts i }
 
 pub sums_refused : (v : Merging) (w : OpenScope) (s : Span) (key : KeyRef) (own : ℤ) (duration : ℕ) (fault : Error)
-    → w.depth < 1024 → key.parent.number ≡ w.node.number → ref_label key ≡ label_of s → own ≡ s.start -ℤ w.origin
-    → duration ≡ nat_abs (s.stop -ℤ s.start)
+    → IsGiven w s key own duration
     → (fault ≡ Memory) ⊎ ((fault ≡ TooLarge) × ((all : List Occurrence)
     → IsTableOf all v.table → SumsFit all (occurrence_of_key v.table key own duration) → ⊥))
     → (fault ≡ Memory) ⊎ Refusing RefusesScope StandsFor v w s fault
-sums_refused v w s key own duration fault low parent label start lasts (inl memory) = inl memory
-sums_refused v w s key own duration fault low parent label start lasts (inr sums) =
+sums_refused v w s key own duration fault is (inl memory) = inl memory
+sums_refused v w s key own duration fault is (inr (too_large, no_fit)) =
     inr (λ around stands. λ all table. inr (
-      shallow v w around s low stands,
-      λ fits. sums.1 all table (subst (λ (o : Occurrence). SumsFit all o)
-          (sym (given v w around s key own duration stands parent label start lasts)) fits.sums),
-      sums.0,
+      shallow v w around s is.low stands,
+      λ fits. no_fit all table
+          (subst (λ (o : Occurrence). SumsFit all o) (sym (given v w around s key own duration stands is)) fits.sums),
+      too_large,
     ))
 
 origin_last : (origin : ℤ) (around : List Span) (s : Span) → origin_in origin (around ++ (s ∷ [])) ≡ s.start
@@ -118,16 +124,18 @@ origin_last origin (x ∷ around) s = origin_last x.start around s
 time_is_origin : (t : ℤ) → FitsSigned w64 t → IsOrigin t
 time_is_origin t h = record { low = omega (arith, ints); high = omega (arith, ints) }
 
+-- the table takes the scope's occurrence, and what the walk then keeps stands for the scope
 pub scope_taken : (v : Merging) (w : OpenScope) (s : Span) (u : Table) (key : KeyRef) (own : ℤ) (duration : ℕ)
-    (at : NodeNumber) (origin : ℤ) → w.depth < 1024 → key.parent.number ≡ w.node.number → ref_label key ≡ label_of s
-    → own ≡ s.start -ℤ w.origin → FitsSigned w64 own
-    → duration ≡ nat_abs (s.stop -ℤ s.start) → origin ≡ s.start → FitsSigned w64 s.start
+    (at : NodeNumber) (origin : ℤ) → IsGiven w s key own duration → FitsSigned w64 own → origin ≡ s.start
+    → FitsSigned w64 s.start
     → AddsAt v.table (occurrence_of_key v.table key own duration) at.number u
     → Entering TakesScopes StandsFor v w s (record { node = at; depth = w.depth + 1; origin = origin })
     (record { table = u; origin = v.origin })
-scope_taken v w s u key own duration at origin low parent label start own_fits lasts origin_is fits adds around stands =
-    let o = given v w around s key own duration stands parent label start lasts in
+scope_taken v w s u key own duration at origin is own_fits origin_is fits adds around stands =
+    let o = given v w around s key own duration stands is in
+    let low = is.low in
     let depth = stands.depth in
+    let (all_so_far, is_table) = stands.table in
     let path = adds.path in (
       record {
         origin = refl;
@@ -140,10 +148,7 @@ scope_taken v w s u key own duration at origin low parent label start own_fits l
         table = λ all table. subst (λ (x : Occurrence). IsTableOf (all ++ (x ∷ [])) u) o (adds.table all table);
       },
       record {
-        table = (
-          stands.table.0 ++ (occurrence_of_key v.table key own duration ∷ []),
-          adds.table stands.table.0 stands.table.1,
-        );
+        table = (all_so_far ++ (occurrence_of_key v.table key own duration ∷ []), adds.table all_so_far is_table);
         node = adds.number;
         path = path ∙ ap (λ (x : Occurrence). x.path) o ∙ sym (map-append label_of around (s ∷ []));
         depth = ap (λ (n : ℕ). n + 1) depth ∙ sym (length_push around s);

@@ -1,5 +1,5 @@
--- The children of each parent, placed one after the other, have the earliest starts. The ordered nodes of one parent stand together,
--- so all children of a parent are placed without another node between them.
+-- The children of each parent, placed one after the other, have the earliest starts. The ordered nodes of one parent stand
+-- together, so all children of a parent are placed without another node between them.
 use Rattle.std.proofs.Common.{◌≡◌, ℕ, ◌-◌, ◌/◌, ◌<◌, ◌≤◌, ℤ, pos, Bool, true, false, cond, eqb, List, [], ◌∷◌, get_or, map, inl, inr, refl, sym, ap, ◌∙◌, arith}
 use Rattle.std.specs.List.{AllByRecursion}
 use Rattle.std.proofs.lemmas.Bool.Decides.{nat_tests}

@@ -65,19 +65,18 @@ scopes_decided s t children d =
     (both_decide (unsigned_Decides (out-MergeScope s).id (out-MergeScope t).id)
     (both_decide
     (bytes_decides (cow_str_bytes (out-MergeScope s).text) (cow_str_bytes (out-MergeScope t).text)) d)))))))
-    (λ e. together s t no_node no_node
-    (λ i. record {
-      label = record { id = e.1.1.1.1.1.0 i; text = e.1.1.1.1.1.1.0 i };
-      start = e.0 i;
-      total = e.1.0 i;
-      per_frame = e.1.1.0 i;
-      greatest = e.1.1.1.0 i;
-      pieces = e.1.1.1.1.0 i;
-    })
-    e.1.1.1.1.1.1.1 refl)
+    (λ fields.
+    let (start, (total, (per_frame, (greatest, (pieces, (id, (text, children_same))))))) = fields in
+    together s t no_node no_node (λ i. record {
+      label = record { id = id i; text = text i };
+      start = start i;
+      total = total i;
+      per_frame = per_frame i;
+      greatest = greatest i;
+      pieces = pieces i;
+    }) children_same refl)
     (λ e.
-    let parts = apart s t no_node no_node e in
-    let node = parts.0 in (
+    let (node, (children_same, others_same)) = apart s t no_node no_node e in (
       ap (λ (n : Node). n.start) node,
       (
         ap (λ (n : Node). n.total) node,
@@ -87,7 +86,7 @@ scopes_decided s t children d =
             ap (λ (n : Node). n.greatest) node,
             (
               ap (λ (n : Node). n.pieces) node,
-              (ap (λ (n : Node). n.label.id) node, (ap (λ (n : Node). n.label.text) node, parts.1.0)),
+              (ap (λ (n : Node). n.label.id) node, (ap (λ (n : Node). n.label.text) node, children_same)),
             ),
           ),
         ),
@@ -134,10 +133,10 @@ module _ (eq : MergeScope → MergeScope → Bool)
     rows_decided m (more_of-MergeScope x rest) (y ∷ ys) =
         let xs = items-the_row-MergeScope _ rest in
         decides_as (both_decide (all_decided x y) (rows_decided _ rest ys))
-        (λ e. let parts = apart x y no_node no_node e.0 in
-        together x y (forest_in xs) (forest_in ys) parts.0 parts.1.0 e.1)
-        (λ e. let parts = apart x y (forest_in xs) (forest_in ys) e in
-        (together x y no_node no_node parts.0 parts.1.0 refl, parts.1.1))
+        (λ both. let (node, (children, none)) = apart x y no_node no_node both.0 in
+        together x y (forest_in xs) (forest_in ys) node children both.1)
+        (λ e. let (node, (children, others)) = apart x y (forest_in xs) (forest_in ys) e in
+        (together x y no_node no_node node children refl, others))
 
 -- ---- the comparison that is made of a step
 

@@ -32,7 +32,7 @@ have_push : (frames : List FrameBytes) (scopes : List FrameScopes) (f : FrameByt
 have_push [] [] f s h x = (x, tt)
 have_push [] (t ∷ scopes) f s h x = absurd h
 have_push (g ∷ frames) [] f s h x = absurd h
-have_push (g ∷ frames) (t ∷ scopes) f s h x = (h.0, have_push frames scopes f s h.1 x)
+have_push (g ∷ frames) (t ∷ scopes) f s (has, have) x = (has, have_push frames scopes f s have x)
 
 from_push : (first : ℤ) (scopes : List FrameScopes) (s : FrameScopes)
     → occurrences_from first (scopes ++ (s ∷ [])) ≡ occurrences_from first scopes ++ occurrences_of first s
@@ -134,7 +134,7 @@ pub starts_same : (frames : List FrameBytes) (scopes : List FrameScopes) → Hav
 starts_same [] [] h = refl
 starts_same [] (s ∷ scopes) h = absurd h
 starts_same (f ∷ frames) [] h = absurd h
-starts_same (f ∷ frames) (s ∷ scopes) h = sym h.0.start
+starts_same (f ∷ frames) (s ∷ scopes) (has, have) = sym has.start
 
 have_all : (frames : List FrameBytes) (scopes : List FrameScopes) (i : ℕ) → i ≡ length frames
     → HaveScopes (take i frames) scopes → HaveScopes frames scopes

@@ -27,7 +27,7 @@ small : (done : List Occurrence) (o : Occurrence) → SumsFit done o → AreSmal
 small done o s = (s.number, s.total)
 
 fit : (done : List Occurrence) (o : Occurrence) → AreSmall (merged_at (done ++ (o ∷ [])) o.path) → SumsFit done o
-fit done o h = record { number = h.0; total = h.1 }
+fit done o (number, total) = record { number = number; total = total }
 
 small-reordered : {xs ys : List Occurrence} (path : Path) → Reordered xs ys → AreSmall (merged_at xs path)
     → AreSmall (merged_at ys path)
@@ -100,7 +100,8 @@ accepted-behind (o ∷ xs) r a = (
 accepted-reordered : {xs ys : List Occurrence} → Reordered xs ys → (done : List Occurrence) → AreAccepted done xs
     → AreAccepted done ys
 accepted-reordered none_left done a = a
-accepted-reordered (keeps x r) done a = (a.0, a.1, accepted-reordered r (done ++ (x ∷ [])) a.2)
+accepted-reordered (keeps x r) done (shallow, fits, later) =
+    (shallow, fits, accepted-reordered r (done ++ (x ∷ [])) later)
 accepted-reordered (turns x y xs) done a =
     let later = a.2 in (
       later.0,
@@ -123,11 +124,12 @@ have-reordered : {frames again : List FrameBytes} → Reordered frames again →
 have-reordered none_left [] h = ([], none_left, tt)
 have-reordered none_left (s ∷ scopes) h = absurd h
 have-reordered (keeps f r) [] h = absurd h
-have-reordered (keeps f r) (s ∷ scopes) h =
-    let rest = have-reordered r scopes h.1 in (s ∷ rest.0, keeps s rest.1, (h.0, rest.2))
+have-reordered (keeps f r) (s ∷ scopes) (has, have) = let (others, reordered, have_others) =
+    have-reordered r scopes have in (s ∷ others, keeps s reordered, (has, have_others))
 have-reordered (turns f g fs) [] h = absurd h
 have-reordered (turns f g fs) (s ∷ []) h = absurd h.1
-have-reordered (turns f g fs) (s ∷ t ∷ scopes) h = (t ∷ s ∷ scopes, turns s t scopes, (h.1.0, (h.0, h.1.1)))
+have-reordered (turns f g fs) (s ∷ t ∷ scopes) (first, (second, have)) =
+    (t ∷ s ∷ scopes, turns s t scopes, (second, (first, have)))
 have-reordered (goes_on a b) scopes h =
     let first = have-reordered a scopes h in
     let second = have-reordered b first.0 first.2 in

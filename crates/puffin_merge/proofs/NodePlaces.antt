@@ -18,15 +18,15 @@ some-reordered P (goes_on r s) h = some-reordered P s (some-reordered P r h)
 
 each-reordered : {A : Type 0} (P : A → Type 0) → {xs ys : List A} → Reordered xs ys → EachOf P xs → EachOf P ys
 each-reordered P none_left h = h
-each-reordered P (keeps x r) h = (h.0, each-reordered P r h.1)
-each-reordered P (turns x y xs) h = (h.1.0, (h.0, h.1.1))
+each-reordered P (keeps x r) (first, others) = (first, each-reordered P r others)
+each-reordered P (turns x y xs) (first, (second, others)) = (second, (first, others))
 each-reordered P (goes_on r s) h = each-reordered P s (each-reordered P r h)
 
 apart-reordered : {xs ys : List OrderedNode} → Reordered xs ys → AreApart xs → AreApart ys
 apart-reordered none_left h = h
-apart-reordered (keeps x r) h =
-    (each-reordered (λ q. x.number.number ≡ q.number.number → ⊥) r h.0, apart-reordered r h.1)
-apart-reordered (turns x y xs) h = ((λ e. h.0.0 (sym e), h.1.0), (h.0.1, h.1.1))
+apart-reordered (keeps x r) (first, others) =
+    (each-reordered (λ q. x.number.number ≡ q.number.number → ⊥) r first, apart-reordered r others)
+apart-reordered (turns x y xs) ((apart, first), (second, others)) = ((λ e. apart (sym e), second), (first, others))
 apart-reordered (goes_on r s) h = apart-reordered s (apart-reordered r h)
 
 some_at : {A : Type 0} (P : A → Type 0) (xs : List A) (k : ℕ) (d : A) → k < length xs → P (get_or xs k d) → SomeOf P xs

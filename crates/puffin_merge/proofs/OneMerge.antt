@@ -32,12 +32,12 @@ not_itself cmp total x e =
 above_first : (cmp : Label → Label → Ordering) → IsTotalOrder cmp → (xs : List Label) (x : Label)
     → IsRising cmp (x ∷ xs) → (l : Label) → In l xs → cmp x l ≡ Less
 above_first cmp total [] x r l h = absurd h
-above_first cmp total (y ∷ xs) x r l (inl e) = subst (λ (m : Label). cmp x m ≡ Less) (sym e) r.0
-above_first cmp total (y ∷ xs) x r l (inr h) = total.trans x y l r.0 (above_first cmp total xs y r.1 l h)
+above_first cmp total (y ∷ xs) x (first, rest) l (inl e) = subst (λ (m : Label). cmp x m ≡ Less) (sym e) first
+above_first cmp total (y ∷ xs) x (first, rest) l (inr h) = total.trans x y l first (above_first cmp total xs y rest l h)
 
 rest_rises : (cmp : Label → Label → Ordering) (x : Label) (xs : List Label) → IsRising cmp (x ∷ xs) → IsRising cmp xs
 rest_rises cmp x [] r = tt
-rest_rises cmp x (y ∷ xs) r = r.1
+rest_rises cmp x (y ∷ xs) (first, rest) = rest
 
 first_same : (cmp : Label → Label → Ordering) → IsTotalOrder cmp → (x y : Label) (xs ys : List Label)
     → IsRising cmp (x ∷ xs) → IsRising cmp (y ∷ ys) → In x (y ∷ ys) → In y (x ∷ xs) → x ≡ y
@@ -70,27 +70,27 @@ one_rising cmp total (x ∷ xs) (y ∷ ys) r s f g =
 has_label : (labels : List Label) (path : Path) (l : Label) (all : List Occurrence) → AllByRecursion (λ o. (m : Label)
     → o.path ≡ below path m → Contains labels m) all → 0 < length (pieces_at all (below path l)) → Contains labels l
 has_label labels path l [] w h = absurd (omega arith)
-has_label labels path l (o ∷ all) w h =
-    by_test (is_path o.path (below path l)) refl (λ k. has_label labels path l all w.1 k) h where
+has_label labels path l (o ∷ all) (here, others) h =
+    by_test (is_path o.path (below path l)) refl (λ k. has_label labels path l all others k) h where
       by_test : (b : Bool)
           → is_path o.path (below path l) ≡ b → (0 < length (pieces_at all (below path l)) → Contains labels l)
           → 0 < length (cond b (o ∷ pieces_at all (below path l)) (pieces_at all (below path l))) → Contains labels l
-      by_test true e again h = w.0 l (one_path o.path (below path l) e)
+      by_test true e again h = here l (one_path o.path (below path l) e)
       by_test false e again h = again h
 
-told : (all : List Occurrence) (path : Path) (frames : ℕ) (nodes : List Node) (l : Label)
+has_pieces : (all : List Occurrence) (path : Path) (frames : ℕ) (nodes : List Node) (l : Label)
     → AllByRecursion (λ n. HasSums (merged_at all (below path n.label)) frames n) nodes
     → In l (map (λ n. n.label) nodes) → 0 < (merged_at all (below path l)).number
-told all path frames [] l t h = absurd h
-told all path frames (n ∷ nodes) l t (inl e) =
-    subst (λ (m : Label). 0 < (merged_at all (below path m)).number) (sym e) t.0.any
-told all path frames (n ∷ nodes) l t (inr h) = told all path frames nodes l t.1 h
+has_pieces all path frames [] l t h = absurd h
+has_pieces all path frames (n ∷ nodes) l (sums, others) (inl e) =
+    subst (λ (m : Label). 0 < (merged_at all (below path m)).number) (sym e) sums.any
+has_pieces all path frames (n ∷ nodes) l (sums, others) (inr h) = has_pieces all path frames nodes l others h
 
 labels_in : (all : List Occurrence) (frames : ℕ) (path : Path) (xs ys : List Node) → IsRow all frames path xs
     → IsRow all frames path ys → (l : Label) → In l (map (λ n. n.label) xs) → In l (map (λ n. n.label) ys)
 labels_in all frames path xs ys r s l h =
     from_contains (map (λ n. n.label) ys) l (has_label (map (λ n. n.label) ys) path l all
-    (recursion_from_All _ all s.whole) (told all path frames xs l (recursion_from_All _ xs r.sums) h))
+    (recursion_from_All _ all s.whole) (has_pieces all path frames xs l (recursion_from_All _ xs r.sums) h))
 
 sibling_total : (at : Path → Merged) (path : Path) → IsTotalOrder (sibling_cmp at path)
 sibling_total at path =
@@ -102,9 +102,9 @@ nowhere_same : (xs ys : List ℤ) → IsNowhereAbove xs ys → IsNowhereAbove ys
 nowhere_same [] [] a b = refl
 nowhere_same [] (y ∷ ys) a b = absurd a
 nowhere_same (x ∷ xs) [] a b = absurd a
-nowhere_same (x ∷ xs) (y ∷ ys) a b =
+nowhere_same (x ∷ xs) (y ∷ ys) (low, lows) (high, highs) =
     let first : x ≡ y = omega (arith, ints) in
-    let rest = nowhere_same xs ys a.1 b.1 in
+    let rest = nowhere_same xs ys lows highs in
     λ i. first i ∷ rest i
 
 one_least : (siblings : List Sibling) (xs ys : List ℤ) → IsLeastFeasible siblings xs
@@ -140,14 +140,14 @@ one_list : (at : Path → Merged) (path : Path) (frames : ℕ) (xs ys : List Nod
 one_list at path frames [] [] a b labels starts = refl
 one_list at path frames [] (y ∷ ys) a b labels starts = absurd (cc)
 one_list at path frames (x ∷ xs) [] a b labels starts = absurd (cc)
-one_list at path frames (x ∷ xs) (y ∷ ys) a b labels starts =
+one_list at path frames (x ∷ xs) (y ∷ ys) (sums, more_sums) (others, more_others) labels starts =
     let label : x.label ≡ y.label = cc in
     let start : x.start ≡ y.start = cc in
     let more_labels : map (λ n. n.label) xs ≡ map (λ n. n.label) ys = cc in
     let more_starts : map (λ n. n.start) xs ≡ map (λ n. n.start) ys = cc in
-    let first = one_node (at (below path x.label)) frames x y a.0
-    (subst (λ (l : Label). HasSums (at (below path l)) frames y) (sym label) b.0) label start in
-    let rest = one_list at path frames xs ys a.1 b.1 more_labels more_starts in
+    let first = one_node (at (below path x.label)) frames x y sums
+    (subst (λ (l : Label). HasSums (at (below path l)) frames y) (sym label) others) label start in
+    let rest = one_list at path frames xs ys more_sums more_others more_labels more_starts in
     λ i. first i ∷ rest i
 
 one_row : (all : List Occurrence) (frames : ℕ) (path : Path) (xs ys : List Node) → IsRow all frames path xs

@@ -43,9 +43,9 @@ one_list w [] [] (y ∷ ys) a b = absurd b
 one_list w [] (x ∷ xs) ys a b = absurd a
 one_list w (f ∷ frames) [] ys a b = absurd a
 one_list w (f ∷ frames) (x ∷ xs) [] a b = absurd b
-one_list w (f ∷ frames) (x ∷ xs) (y ∷ ys) a b =
-    let first = one_frame w f x y a.0 b.0 in
-    let rest = one_list w frames xs ys a.1 b.1 in
+one_list w (f ∷ frames) (x ∷ xs) (y ∷ ys) (has, have) (other_has, others_have) =
+    let first = one_frame w f x y has other_has in
+    let rest = one_list w frames xs ys have others_have in
     λ i. first i ∷ rest i
 
 -- a frame among others, and its scopes
@@ -58,13 +58,13 @@ record HasAt (frame : FrameBytes) (early scopes : List FrameScopes) : Type 0 whe
 has_at : Walks → (earlier later : List FrameBytes) (frame : FrameBytes) (early scopes : List FrameScopes)
     → HaveScopes earlier early → HaveScopes (earlier ++ (frame ∷ later)) scopes → HasAt frame early scopes
 has_at w [] later frame [] [] a b = absurd b
-has_at w [] later frame [] (s ∷ scopes) a b = record { this = s; later = scopes; has = b.0; are = refl }
+has_at w [] later frame [] (s ∷ scopes) a (has, have) = record { this = s; later = scopes; has = has; are = refl }
 has_at w [] later frame (e ∷ early) scopes a b = absurd a
 has_at w (f ∷ earlier) later frame [] scopes a b = absurd a
 has_at w (f ∷ earlier) later frame (e ∷ early) [] a b = absurd b
-has_at w (f ∷ earlier) later frame (e ∷ early) (s ∷ scopes) a b =
-    let rest = has_at w earlier later frame early scopes a.1 b.1 in
-    let first = one_frame w f s e b.0 a.0 in
+has_at w (f ∷ earlier) later frame (e ∷ early) (s ∷ scopes) (early_has, early_have) (has, have) =
+    let rest = has_at w earlier later frame early scopes early_have have in
+    let first = one_frame w f s e has early_has in
     let all = rest.are in
     record { this = rest.this; later = rest.later; has = rest.has; are = λ i. first i ∷ all i }
 
@@ -78,13 +78,13 @@ from_append first (x ∷ xs) ys = ap (λ (l : List Occurrence). occurrences_of f
 
 accepted_after : (xs ys done : List Occurrence) → AreAccepted done (xs ++ ys) → AreAccepted (done ++ xs) ys
 accepted_after [] ys done a = subst (λ (l : List Occurrence). AreAccepted l ys) (sym (append-nil done)) a
-accepted_after (x ∷ xs) ys done a = subst (λ (l : List Occurrence). AreAccepted l ys) (append_assoc done (x ∷ []) xs)
-    (accepted_after xs ys (done ++ (x ∷ [])) a.2)
+accepted_after (x ∷ xs) ys done (shallow, fits, later) = subst (λ (l : List Occurrence). AreAccepted l ys)
+    (append_assoc done (x ∷ []) xs) (accepted_after xs ys (done ++ (x ∷ [])) later)
 
 not_refused : (done more : List Occurrence) (o : Occurrence) (refusal : Error) → AreAccepted done (o ∷ more)
     → IsRefusedFor done o refusal → ⊥
-not_refused done more o refusal a (inl deep) = let shallow = a.0 in let depth = deep.0 in absurd (omega arith)
-not_refused done more o refusal a (inr large) = large.1 a.1
+not_refused done more o refusal (shallow, fits, later) (inl (depth, is)) = absurd (omega arith)
+not_refused done more o refusal (shallow, fits, later) (inr (is_shallow, no_fit, is)) = no_fit fits
 
 -- ---- a frame whose scopes are accepted isn't refused
 

@@ -116,8 +116,8 @@ entry_start all t p d table of =
     own_is t.nodes.items p d of ∙ ap (λ (m : Merged). m.own_start)
     ((one_entry all t p above_all d table of).merged ∙ ap (merged_at all) (entry_path all t p d table of))
 
--- A later ordered node has no lower parent, or is a later sibling: if its place among the siblings were the same, it would have the
--- same path, so the same number.
+-- A later ordered node has no lower parent, or is a later sibling: if its place among the siblings were the same, it would have
+-- the same path, so the same number.
 stands_before : (all : List Occurrence) (t : Table) (p q : OrderedNode) (x y : Placement) (d : Node) → IsTableOf all t
     → IsOrderedNodeOf t.nodes.items p → IsOrderedNodeOf t.nodes.items q → is_gt (ordered_node_cmp p q) ≡ false
     → (p.number.number ≡ q.number.number → ⊥)

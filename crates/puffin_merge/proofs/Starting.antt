@@ -45,18 +45,18 @@ earliest-least : (siblings : List Sibling) (others : List ℤ) (free : ℤ) → 
 earliest-least [] [] free h k = tt
 earliest-least [] (u ∷ others) free h k = k
 earliest-least (s ∷ siblings) [] free h k = k
-earliest-least (s ∷ siblings) (u ∷ others) free h k =
-    let first : earliest_start free s ≤ℤ u = above free u s k.0 k.1 h in (
+earliest-least (s ∷ siblings) (u ∷ others) free h (own, nonnegative, later, rest) =
+    let first : earliest_start free s ≤ℤ u = above free u s own nonnegative h in (
       first,
       earliest-least siblings others (end_from (earliest_start free s) s)
-          (free-below _ _ (ends_above _ u s first) others k.2) k.3,
+          (free-below _ _ (ends_above _ u s first) others later) rest,
     )
 
 feasible-free : (siblings : List Sibling) (others : List ℤ) → IsFeasible siblings others → IsFree (pos 0) others
 feasible-free [] [] k = tt
 feasible-free [] (u ∷ others) k = absurd k
 feasible-free (s ∷ siblings) [] k = tt
-feasible-free (s ∷ siblings) (u ∷ others) k = k.1
+feasible-free (s ∷ siblings) (u ∷ others) (own, nonnegative, later, rest) = nonnegative
 
 pub earliest-is_least : (siblings : List Sibling) → IsLeastFeasible siblings (earliest_starts (pos 0) siblings)
 earliest-is_least siblings = record {

@@ -52,8 +52,8 @@ none_at : (all : List Occurrence) (path : Path) → AllByRecursion (λ o. o.path
 none_at all path h = ap length (no_pieces all h) where
   no_pieces : (all : List Occurrence) → AllByRecursion (λ o. o.path ≡ path → ⊥) all → pieces_at all path ≡ []
   no_pieces [] h = refl
-  no_pieces (o ∷ all) h = ap (λ (b : Bool). cond b (o ∷ pieces_at all path) (pieces_at all path))
-      (other_path o.path path h.0) ∙ no_pieces all h.1
+  no_pieces (o ∷ all) (other, others) = ap (λ (b : Bool). cond b (o ∷ pieces_at all path) (pieces_at all path))
+      (other_path o.path path other) ∙ no_pieces all others
 
 pub first_at : (all : List Occurrence) (o : Occurrence) → All (λ x. x.path ≡ o.path → ⊥) all
     → merged_at (all ++ (o ∷ [])) o.path ≡ one_piece o.own_start o.duration
@@ -65,11 +65,11 @@ first_at all o h = merged_at-first all o o.path (same_path o.path o.path refl)
 fits_sums : (all : List Occurrence) (nodes : List Node) (k : ℕ) (n : Node) (o : Occurrence) → IsNodeOf all nodes k n
     → o.path ≡ path_at nodes (k + 1) → (n.sums.number + 1 < 2 ^ 64) × (n.sums.total + o.duration < 2 ^ 63)
     → SumsFit all o
-fits_sums all nodes k n o is e fits =
+fits_sums all nodes k n o is e (number_fits, total_fits) =
     let more = more_at all nodes k n o is e in
     record {
-      number = subst (λ (m : Merged). m.number < 2 ^ 64) (sym more) fits.0;
-      total = subst (λ (m : Merged). m.total < 2 ^ 63) (sym more) fits.1;
+      number = subst (λ (m : Merged). m.number < 2 ^ 64) (sym more) number_fits;
+      total = subst (λ (m : Merged). m.total < 2 ^ 63) (sym more) total_fits;
     }
 
 sums_fit : (all : List Occurrence) (nodes : List Node) (k : ℕ) (n : Node) (o : Occurrence)
@@ -167,8 +167,8 @@ grown all t u i o d n table h path is items fits =
           (sym (paths p) ∙ e ∙ paths q);
       whole = All-push
           (λ (x : Occurrence). (k : ℕ) × (k < vec_len u.nodes) × (path_at u.nodes.items (k + 1) ≡ x.path)) all o
-          (λ j e lt. let old = table.whole j e lt in
-          (old.0, subst (λ (m : ℕ). old.0 < m) (sym wide) old.1, paths (old.0 + 1) ∙ old.2))
+          (λ j e lt. let (at, inside, its_path) = table.whole j e lt in
+          (at, subst (λ (m : ℕ). at < m) (sym wide) inside, paths (at + 1) ∙ its_path))
           (i, omega (arith, h, wide), paths (i + 1) ∙ sym path);
     }
 
@@ -183,13 +183,15 @@ fresh_path all t key k table parent fresh lt e =
     let d = some_of t.nodes.items k (omega arith) in
     let is = table.each k d lt in
     let early = is.earlier in
-    let parts = below-same (path_at t.nodes.items (get_or t.nodes.items k d).key.parent.number) (path_at t.nodes.items
+    let (paths_same, labels_same) =
+    below-same (path_at t.nodes.items (get_or t.nodes.items k d).key.parent.number) (path_at t.nodes.items
     key.parent.number) (key_label (get_or t.nodes.items k d).key) (key_label key) (sym is.path ∙ e) in
     let parents : (get_or t.nodes.items k d).key.parent.number ≡ key.parent.number =
-    table.apart _ _ (omega arith) parent parts.0 in
+    table.apart _ _ (omega arith) parent paths_same in
     fresh k lt (λ f. subst (λ (m : Node). IsSameKey m.key key) (same_at t.nodes.items k d f (omega arith))
-    (record { parent = parents; label = parts.1 }))
+    (record { parent = parents; label = labels_same }))
 
+-- The nodes of a table to which a node was added: those before it are as they were, since the new path is none of theirs.
 started_each : (all : List Occurrence) (t : Table) (key : Key) (o : Occurrence) (k : ℕ) (d : Node)
     → IsTableOf all t → 0 < key.id → key.parent.number ≤ vec_len t.nodes → o.duration < 2 ^ 63
     → o.path ≡ below (path_at t.nodes.items key.parent.number) (key_label key)
@@ -225,7 +227,8 @@ started_each all t key o k d table id parent small path fresh lt =
           let at : k ≡ length nodes = omega arith in
           let new : path_at (nodes ++ (n ∷ [])) (k + 1) ≡ o.path =
           path_at-new nodes n (k + 1) (omega arith) ∙ sym path in
-          let first = first_at all o (λ j e lt2. λ same. let w = table.whole j e lt2 in fresh w.0 w.1 (w.2 ∙ same)) in
+          let first = first_at all o (λ j e lt2. λ same. let (at, inside, its_path) = table.whole j e lt2 in
+          fresh at inside (its_path ∙ same)) in
           subst (λ (m : Node). IsNodeOf (all ++ (o ∷ [])) (nodes ++ (n ∷ [])) k m)
           (sym (get_or_push nodes n d k (sym at))) (record {
             id = id;
@@ -279,8 +282,8 @@ started all t u key o table id parent small path new_key items =
       ];
       whole = All-push
           (λ (x : Occurrence). (k : ℕ) × (k < vec_len u.nodes) × (path_at u.nodes.items (k + 1) ≡ x.path)) all o
-          (λ j e lt. let old = table.whole j e lt in let inside = old.1 in
-          (old.0, omega (arith, inside, wide), kept (old.0 + 1) (omega (arith, inside)) ∙ old.2))
+          (λ j e lt. let (at, inside, its_path) = table.whole j e lt in
+          (at, omega (arith, inside, wide), kept (at + 1) (omega (arith, inside)) ∙ its_path))
           (vec_len t.nodes, omega (arith, wide), last);
     }
   where
@@ -298,27 +301,28 @@ pub adds_grown : (t u : Table) (parent : ℕ) (label : Label) (own_start : ℤ) 
     → (all : List Occurrence) × IsTableOf all t → 0 < x → x ≤ vec_len t.nodes
     → HasLabel t.nodes.items (x - 1) parent label
     → AddsPieceAt t (x - 1) own_start duration u → AddsAt t (occurrence_at t parent label own_start duration) x u
-adds_grown t u parent label own_start duration x some low high has new =
+adds_grown t u parent label own_start duration x (occurrences, is_table) low high has
+    (texts, numbers, items, fits_more) =
     let size : vec_len t.nodes ≡ length t.nodes.items = t.nodes.ok.0 in
     let nodes = t.nodes.items in
     let d = some_of nodes (x - 1) (omega arith) in
     let wide : vec_len u.nodes ≡ vec_len t.nodes =
-    u.nodes.ok.0 ∙ ap length (new.2 d) ∙ length-set nodes (x - 1) _ ∙ sym size in
+    u.nodes.ok.0 ∙ ap length (items d) ∙ length-set nodes (x - 1) _ ∙ sym size in
     let one : x ≡ (x - 1) + 1 = omega arith in
     let kept : (p : ℕ) → path_at u.nodes.items p ≡ path_at nodes p =
-    λ p. ap (λ (xs : List Node). path_at xs p) (new.2 d) ∙ path_at-set nodes (x - 1) _ d p refl in
+    λ p. ap (λ (xs : List Node). path_at xs p) (items d) ∙ path_at-set nodes (x - 1) _ d p refl in
     let path : (all : List Occurrence) → IsTableOf all t
     → below (path_at nodes parent) label ≡ path_at nodes ((x - 1) + 1) =
     λ all table. sym (path_of_key all nodes (x - 1) (get_or nodes (x - 1) d) parent label
     (table.each (x - 1) d (omega arith)) (has d)) in
     record {
       number = omega (arith, high, wide);
-      path = kept x ∙ ap (path_at nodes) one ∙ sym (path some.0 some.1);
+      path = kept x ∙ ap (path_at nodes) one ∙ sym (path occurrences is_table);
       extends = record { longer = omega (arith, wide); kept = λ k h. kept k };
       fits = λ all table. fits_sums all nodes (x - 1) (get_or nodes (x - 1) d) (occurrence_at t parent label own_start
-          duration) (table.each (x - 1) d (omega arith)) (path all table) (new.3 d);
+          duration) (table.each (x - 1) d (omega arith)) (path all table) (fits_more d);
       table = λ all table. grown all t u (x - 1) (occurrence_at t parent label own_start duration) d _ table
-          (omega arith) (path all table) refl (new.2 d) (new.3 d).1;
+          (omega arith) (path all table) refl (items d) (fits_more d).1;
     }
 
 pub grown_refused : (t : Table) (parent : ℕ) (label : Label) (own_start : ℤ) (duration x : ℕ)
@@ -353,8 +357,8 @@ adds_started t u key own_start duration x id parent small is new_key items =
             ∙ path_at-kept nodes n k (omega (arith, h));
       };
       fits = λ all table.
-          let first = first_at all o (λ j e lt. λ same. let w = table.whole j e lt in
-          fresh_path all t key w.0 table parent new_key w.1 (w.2 ∙ same)) in
+          let first = first_at all o (λ j e lt. λ same. let (at, inside, its_path) = table.whole j e lt in
+          fresh_path all t key at table parent new_key inside (its_path ∙ same)) in
           record {
             number = subst (λ (m : Merged). m.number < 2 ^ 64) (sym first) (omega arith);
             total = subst (λ (m : Merged). m.total < 2 ^ 63) (sym first) small;

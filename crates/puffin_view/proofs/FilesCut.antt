@@ -112,11 +112,11 @@ file_cut cs (a ∷ b ∷ d ∷ f ∷ l) lost e long =
 
 all_front : (cs ds : List PacketFields) → AllByRecursion IsPacked (cs ++ ds) → AllByRecursion IsPacked cs
 all_front [] ds h = tt
-all_front (c ∷ cs) ds h = (h.0, all_front cs ds h.1)
+all_front (c ∷ cs) ds (first, others) = (first, all_front cs ds others)
 
 all_back : (cs ds : List PacketFields) → AllByRecursion IsPacked (cs ++ ds) → AllByRecursion IsPacked ds
 all_back [] ds h = h
-all_back (c ∷ cs) ds h = all_back cs ds h.1
+all_back (c ∷ cs) ds (first, others) = all_back cs ds others
 
 ids_front : (cs ds : List PacketFields) → list_any lacks_ids (cs ++ ds) ≡ false → list_any lacks_ids cs ≡ false
 ids_front [] ds h = refl

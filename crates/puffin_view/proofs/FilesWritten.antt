@@ -36,7 +36,7 @@ file_with done left = ap (λ (t : List ℕ). magic ++ t) (flat_map-append packet
 pub all_more : (done : List PacketFields) (c : PacketFields) → AllByRecursion IsPacked done → IsPacked c
     → AllByRecursion IsPacked (done ++ c ∷ [])
 all_more [] c h p = (p, tt)
-all_more (d ∷ done) c h p = (h.0, all_more done c h.1 p)
+all_more (d ∷ done) c (first, others) p = (first, all_more done c others p)
 
 -- the frames that are left begin with one
 pub one_left : (done : List PacketFields) (o : Option Collection) (c : PacketFields) (f : Frame)

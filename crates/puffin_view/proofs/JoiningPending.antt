@@ -21,7 +21,8 @@ use Rattle.puffin_view.proofs.Taking.{steady_before}
 use Rattle.puffin_view.proofs.Searching.{stored_rising, stored_ranked}
 use Rattle.puffin_view.proofs.Members.{held_back, has_index-append, none_has}
 use Rattle.puffin_view.proofs.Cutting.{stored-cut_slow, stored-cut_recent}
-use Rattle.puffin_view.proofs.Storing.{stored-added, stored-placed, stored-packed, enters_same, index-rank_of, got_itself, first_false}
+use Rattle.puffin_view.proofs.Storing.{stored-added, stored-placed, enters_same, index-rank_of, got_itself, first_false}
+use Rattle.puffin_view.proofs.StoringPacked.{stored-packed}
 
 -- a view whose lists of frames were changed
 pub known_as : (v w : KnownView) (frames made : View) → v ≡ w → frames ≡ made

@@ -74,7 +74,7 @@ module _ {F : Type 0} (before : F → F → Bool) where
   pub place-last : (f : F) (xs : List F) → AllByRecursion (λ x. before f x ≡ false) xs
       → place before f xs ≡ xs ++ f ∷ []
   place-last f [] h = refl
-  place-last f (x ∷ xs) h = rw h.0 (ap (λ ys. x ∷ ys) (place-last f xs h.1))
+  place-last f (x ∷ xs) (first, others) = rw first (ap (λ ys. x ∷ ys) (place-last f xs others))
 
 -- one more at the end: of the last n, the last n are known from the last n
 pub last_of-more : {F : Type 0} (n : ℕ) (xs : List F) (f : F)
@@ -99,12 +99,13 @@ module _ {F : Type 0} (before : F → F → Bool) where
   pub all_take : (P : F → Type 0) (k : ℕ) (xs : List F) → AllByRecursion P xs → AllByRecursion P (take k xs)
   all_take P zero xs h = tt
   all_take P (suc k) [] h = tt
-  all_take P (suc k) (x ∷ xs) h = (h.0, all_take P k xs h.1)
+  all_take P (suc k) (x ∷ xs) (first, others) = (first, all_take P k xs others)
 
   pub in_order-take : (k : ℕ) (xs : List F) → IsInOrder xs → IsInOrder (take k xs)
   in_order-take zero xs h = tt
   in_order-take (suc k) [] h = tt
-  in_order-take (suc k) (x ∷ xs) h = (all_take (λ y. before y x ≡ false) k xs h.0, in_order-take k xs h.1)
+  in_order-take (suc k) (x ∷ xs) (first, others) =
+      (all_take (λ y. before y x ≡ false) k xs first, in_order-take k xs others)
 
   all_first_at : (P : F → Type 0) (f x : F) (xs : List F) (b : Bool)
       → P f → P x → AllByRecursion P xs → AllByRecursion P (place_first before f xs)
@@ -115,13 +116,14 @@ module _ {F : Type 0} (before : F → F → Bool) where
   all_first : (P : F → Type 0) (f : F) (xs : List F) → P f → AllByRecursion P xs
       → AllByRecursion P (place_first before f xs)
   all_first P f [] p h = (p, tt)
-  all_first P f (x ∷ xs) p h = all_first_at P f x xs (before x f) p h.0 h.1 (all_first P f xs p h.1)
+  all_first P f (x ∷ xs) p (first, others) =
+      all_first_at P f x xs (before x f) p first others (all_first P f xs p others)
 
 module _ {F : Type 0} (before : F → F → Bool) (o : IsStrictWeakOrder before) where
   all_weaker : (f x : F) (xs : List F) → before x f ≡ false → AllByRecursion (λ y. before y x ≡ false) xs
       → AllByRecursion (λ y. before y f ≡ false) xs
   all_weaker f x [] p h = tt
-  all_weaker f x (y ∷ ys) p h = (o.chain y x f h.0 p, all_weaker f x ys p h.1)
+  all_weaker f x (y ∷ ys) p (first, others) = (o.chain y x f first p, all_weaker f x ys p others)
 
   first_keeps_at : (f x : F) (xs : List F) (b : Bool) → before x f ≡ b → IsInOrder before (x ∷ xs)
       → IsInOrder before (place_first before f xs)
@@ -191,15 +193,17 @@ none_below k h = omega arith
 at_all : {F : Type 0} (P : F → Type 0) (xs : List F) (k : ℕ) (d : F) → k < length xs → AllByRecursion P xs
     → P (get_or xs k d)
 at_all P [] k d b h = absurd (none_below k b)
-at_all P (x ∷ xs) zero d b h = h.0
-at_all P (x ∷ xs) (suc k) d b h = at_all P xs k d (omega arith) h.1
+at_all P (x ∷ xs) zero d b (first, others) = first
+at_all P (x ∷ xs) (suc k) d b (first, others) = at_all P xs k d (omega arith) others
 
 pub in_pairs : {F : Type 0} (before : F → F → Bool) (xs : List F) → IsInOrder before xs
     → AllPairs (λ x y. before y x ≡ false) xs
 in_pairs before [] h i j d low high = absurd (none_below j high)
 in_pairs before (x ∷ xs) h i zero d low high = absurd (none_below i low)
-in_pairs before (x ∷ xs) h zero (suc j) d low high = at_all (λ y. before y x ≡ false) xs j d (omega arith) h.0
-in_pairs before (x ∷ xs) h (suc i) (suc j) d low high = in_pairs before xs h.1 i j d (omega arith) (omega arith)
+in_pairs before (x ∷ xs) (first, others) zero (suc j) d low high =
+    at_all (λ y. before y x ≡ false) xs j d (omega arith) first
+in_pairs before (x ∷ xs) (first, others) (suc i) (suc j) d low high =
+    in_pairs before xs others i j d (omega arith) (omega arith)
 
 module _ {F : Type 0} (before : F → F → Bool) (o : IsStrictWeakOrder before) (k : ℕ) (xs : List F) where
   pub first_in_pairs : AllPairs (λ x y. before y x ≡ false) (first_in_order before k xs)

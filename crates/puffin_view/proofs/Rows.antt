@@ -51,22 +51,22 @@ module _ {X : Type 0} where
 
   lookup-past : (k : ℕ) (es ms : List (ℕ × X)) → AreBelow k es → lookup (at k) (es ++ ms) ≡ lookup (at k) ms
   lookup-past k [] ms h = refl
-  lookup-past k (e ∷ es) ms h = rw (above e.0 k h.0) (lookup-past k es ms h.1)
+  lookup-past k (e ∷ es) ms (low, lows) = rw (above e.0 k low) (lookup-past k es ms lows)
 
   insert-past : (k : ℕ) (a : X) (es ms : List (ℕ × X)) → AreBelow k es
       → insert_entry nat_cmp (es ++ ms) k a ≡ es ++ insert_entry nat_cmp ms k a
   insert-past k a [] ms h = refl
-  insert-past k a (e ∷ es) ms h = rw (above e.0 k h.0) (ap (λ l. e ∷ l) (insert-past k a es ms h.1))
+  insert-past k a (e ∷ es) ms (low, lows) = rw (above e.0 k low) (ap (λ l. e ∷ l) (insert-past k a es ms lows))
 
   remove-past : (k : ℕ) (es ms : List (ℕ × X)) → AreBelow k es
       → remove_entry (at k) (es ++ ms) ≡ es ++ remove_entry (at k) ms
   remove-past k [] ms h = refl
-  remove-past k (e ∷ es) ms h = rw (above e.0 k h.0) (ap (λ l. e ∷ l) (remove-past k es ms h.1))
+  remove-past k (e ∷ es) ms (low, lows) = rw (above e.0 k low) (ap (λ l. e ∷ l) (remove-past k es ms lows))
 
   pub insert-last : (k : ℕ) (a : X) (es : List (ℕ × X)) → AreBelow k es
       → insert_entry nat_cmp es k a ≡ es ++ (k, a) ∷ []
   insert-last k a [] h = refl
-  insert-last k a (e ∷ es) h = rw (above e.0 k h.0) (ap (λ l. e ∷ l) (insert-last k a es h.1))
+  insert-last k a (e ∷ es) (low, lows) = rw (above e.0 k low) (ap (λ l. e ∷ l) (insert-last k a es lows))
 
   -- ---- at a key that stands between
 
@@ -128,7 +128,7 @@ module _ {X : Type 0} where
       → AreBelow k es
   unfolding IsStrictlySortedBy
   below_sorted k x [] ms s = tt
-  below_sorted k x (e ∷ es) ms s = (lower e.0 k (one es s.0), below_sorted k x es ms s.1) where
+  below_sorted k x (e ∷ es) ms (first, rest) = (lower e.0 k (one es first), below_sorted k x es ms rest) where
     one : (fs : List (ℕ × X)) → AllByRecursion (λ y. nat_cmp e.0 y ≡ Less) (keys_of (fs ++ (k, x) ∷ ms))
         → nat_cmp e.0 k ≡ Less
     one [] h = h.0
@@ -138,34 +138,34 @@ module _ {X : Type 0} where
       → IsStrictlySortedBy nat_cmp (keys_of ms)
   unfolding IsStrictlySortedBy
   rest_sorted [] ms s = s
-  rest_sorted (e ∷ es) ms s = rest_sorted es ms s.1
+  rest_sorted (e ∷ es) ms (first, rest) = rest_sorted es ms rest
 
   all_inserted : (P : ℕ → Type 0) (k : ℕ) (a : X) (es : List (ℕ × X)) → P k → AllByRecursion P (keys_of es)
       → AllByRecursion P (keys_of (insert_entry nat_cmp es k a))
   all_inserted P k a [] p h = (p, tt)
-  all_inserted P k a (e ∷ es) p h = by (nat_cmp k e.0) (all_inserted P k a es p h.1) where
+  all_inserted P k a (e ∷ es) p (first, rest) = by (nat_cmp k e.0) (all_inserted P k a es p rest) where
     by : (o : Ordering) → AllByRecursion P (keys_of (insert_entry nat_cmp es k a)) → AllByRecursion P (keys_of
         (match_ordering o ((k, a) ∷ e ∷ es) ((e.0, a) ∷ es) (e ∷ insert_entry nat_cmp es k a)))
-    by Less later = (p, h)
-    by Equal later = h
-    by Greater later = (h.0, later)
+    by Less later = (p, (first, rest))
+    by Equal later = (first, rest)
+    by Greater later = (first, later)
 
   all_further : (k j : ℕ) (es : List (ℕ × X)) → nat_cmp k j ≡ Less
       → AllByRecursion (λ y. nat_cmp j y ≡ Less) (keys_of es) → AllByRecursion (λ y. nat_cmp k y ≡ Less) (keys_of es)
   all_further k j [] e h = tt
-  all_further k j (f ∷ fs) e h = (less_on k j f.0 e h.0, all_further k j fs e h.1)
+  all_further k j (f ∷ fs) e (first, rest) = (less_on k j f.0 e first, all_further k j fs e rest)
 
   sorted-insert : (k : ℕ) (a : X) (es : List (ℕ × X)) → IsStrictlySortedBy nat_cmp (keys_of es)
       → IsStrictlySortedBy nat_cmp (keys_of (insert_entry nat_cmp es k a))
   unfolding IsStrictlySortedBy
   sorted-insert k a [] s = (tt, tt)
-  sorted-insert k a (e ∷ es) s = by (nat_cmp k e.0) refl (sorted-insert k a es s.1) where
+  sorted-insert k a (e ∷ es) (first, rest) = by (nat_cmp k e.0) refl (sorted-insert k a es rest) where
     by : (o : Ordering) → nat_cmp k e.0 ≡ o
         → IsStrictlySortedBy nat_cmp (keys_of (insert_entry nat_cmp es k a)) → IsStrictlySortedBy nat_cmp (keys_of
         (match_ordering o ((k, a) ∷ e ∷ es) ((e.0, a) ∷ es) (e ∷ insert_entry nat_cmp es k a)))
-    by Less p later = ((p, all_further k e.0 es p s.0), s)
-    by Equal p later = s
-    by Greater p later = (all_inserted (λ y. nat_cmp e.0 y ≡ Less) k a es (back k e.0 p) s.0, later)
+    by Less p later = ((p, all_further k e.0 es p first), (first, rest))
+    by Equal p later = (first, rest)
+    by Greater p later = (all_inserted (λ y. nat_cmp e.0 y ≡ Less) k a es (back k e.0 p) first, later)
 
   pub sorted-inserted : (k : ℕ) (a : X) (es fs : List (ℕ × X)) → fs ≡ insert_entry nat_cmp es k a
       → IsStrictlySortedBy nat_cmp (keys_of es) → IsStrictlySortedBy nat_cmp (keys_of fs)
@@ -179,21 +179,21 @@ module _ {X : Type 0} where
   all_removed : (P : ℕ → Type 0) (t : ℕ → Bool) (es : List (ℕ × X)) → AllByRecursion P (keys_of es)
       → AllByRecursion P (keys_of (remove_entry t es))
   all_removed P t [] h = tt
-  all_removed P t (e ∷ es) h = by (t e.0) (all_removed P t es h.1) where
+  all_removed P t (e ∷ es) (first, rest) = by (t e.0) (all_removed P t es rest) where
     by : (b : Bool) → AllByRecursion P (keys_of (remove_entry t es))
         → AllByRecursion P (keys_of (cond b es (e ∷ remove_entry t es)))
-    by true later = h.1
-    by false later = (h.0, later)
+    by true later = rest
+    by false later = (first, later)
 
   sorted-remove : (t : ℕ → Bool) (es : List (ℕ × X)) → IsStrictlySortedBy nat_cmp (keys_of es)
       → IsStrictlySortedBy nat_cmp (keys_of (remove_entry t es))
   unfolding IsStrictlySortedBy
   sorted-remove t [] s = tt
-  sorted-remove t (e ∷ es) s = by (t e.0) (sorted-remove t es s.1) where
+  sorted-remove t (e ∷ es) (first, rest) = by (t e.0) (sorted-remove t es rest) where
     by : (b : Bool) → IsStrictlySortedBy nat_cmp (keys_of (remove_entry t es))
         → IsStrictlySortedBy nat_cmp (keys_of (cond b es (e ∷ remove_entry t es)))
-    by true later = s.1
-    by false later = (all_removed (λ y. nat_cmp e.0 y ≡ Less) t es s.0, later)
+    by true later = rest
+    by false later = (all_removed (λ y. nat_cmp e.0 y ≡ Less) t es first, later)
 
   pub sorted-removed : (t : ℕ → Bool) (es fs : List (ℕ × X)) → fs ≡ remove_entry t es
       → IsStrictlySortedBy nat_cmp (keys_of es) → IsStrictlySortedBy nat_cmp (keys_of fs)

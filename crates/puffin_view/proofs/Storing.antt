@@ -1,4 +1,4 @@
--- How a view's frames are kept, as one more is added and the newest is packed.
+-- A view stores the frames of its two lists: after one more frame, in a view without frames, and as they are found again.
 use Rattle.std.proofs.Common.{◌≡◌, ℕ, suc, ◌<◌, ◌≤◌, Bool, true, false, cond, ◌||◌, List, [], ◌∷◌, ◌++◌, length, map, Option, Some, None, refl, sym, ap, subst, ◌∙◌, arith}
 use Rattle.std.specs.Prelude.{nat_eq, nat_lt, int_lt, ◌≢◌, IsSome}
 use Rattle.std.specs.List.{AllByRecursion}
@@ -11,16 +11,15 @@ use Rattle.std.specs.Cmp.{nat_cmp_total}
 use Rattle.std.specs.FinMap as fin
 use Rattle.puffin_view.specs.declared.profile_view.slow_rank.SlowRank.{SlowRank}
 use Rattle.puffin_view.specs.View.Ranking.{place, last_from, last_in, rank_index}
-use Rattle.puffin_view.specs.View.ViewedFrames.{Frame, index_of, duration_of, is_slower_frame, packed_alone, packed_under, frames_by_index}
+use Rattle.puffin_view.specs.View.ViewedFrames.{Frame, index_of, duration_of, is_slower_frame, frames_by_index}
 use Rattle.puffin_view.specs.inner.Held.{HeldFrames}
 use Rattle.puffin_view.specs.inner.Ranks.{is_before, rank_enters}
 use Rattle.puffin_view.specs.View.FrameRanks.{rank_of, rank_cmp}
 use Rattle.puffin_view.specs.inner.Kept.{AreRising, HaveOwnIndices}
 use Rattle.puffin_view.specs.View.{View, enters_among}
 use Rattle.puffin_view.specs.inner.Store.{frames_under, AreHeld, has_index, AreStored}
-use Rattle.puffin_view.proofs.Keeping.{IsKept-packed, index_packed_at}
 use Rattle.puffin_view.proofs.Placing.{rank_cmp_total}
-use Rattle.puffin_view.proofs.Members.{neither, has_index-append, equal_to, equals, apart_to, is_at, all_map, all_both, all_more, all_place, held_back, one_some, map-last_from, last_map, all_last_from, all_last}
+use Rattle.puffin_view.proofs.Members.{neither, has_index-append, equal_to, equals, apart_to, is_at, all_map, all_both, all_more, all_place, held_back, map-last_from, last_map, all_last_from, all_last}
 
 -- one frame more
 
@@ -93,7 +92,7 @@ all_ranks_place P r (x ∷ xs) p h = at (is_before r x) (all_ranks_place P r xs 
 all_ranks : (P Q : SlowRank → Type 0) → ((r : SlowRank) → P r → Q r) → (rs : List SlowRank) → AllByRecursion P rs
     → AllByRecursion Q rs
 all_ranks P Q k [] h = tt
-all_ranks P Q k (r ∷ rs) h = (k r h.0, all_ranks P Q k rs h.1)
+all_ranks P Q k (r ∷ rs) (first, others) = (k r first, all_ranks P Q k rs others)
 
 never_tied : (r x : SlowRank) → x.frame_index < r.frame_index → rank_cmp r x ≡ Equal → ⊥
 never_tied r x low e = absurd (not_equal (int_cmp x.duration_ns.0 r.duration_ns.0) e) where
@@ -130,7 +129,7 @@ in_order-place r (x ∷ xs) h low = at (rank_cmp r x) refl (in_order-place r xs 
 ranks_low : (f : Frame) (fs : List Frame) → AllByRecursion (λ g. index_of g < index_of f) fs
     → AllByRecursion (λ s. s.frame_index < index_of f) (map rank_of fs)
 ranks_low f [] h = tt
-ranks_low f (g ∷ fs) h = (h.0, ranks_low f fs h.1)
+ranks_low f (g ∷ fs) (low, lows) = (low, ranks_low f fs lows)
 
 has_index-place : (q : ℕ) (f : Frame) (fs : List Frame) → has_index q (place is_slower_frame f fs) ≡ false
     → has_index q fs ≡ false
@@ -273,7 +272,7 @@ find_held h q (f ∷ fs) held = ap (λ b. cond b (Some f) (fin.find nat_cmp q (m
 
 held_append : (h : ℕ → Option Frame) (fs gs : List Frame) → AreHeld h fs → AreHeld h gs → AreHeld h (fs ++ gs)
 held_append h [] gs p q = q
-held_append h (f ∷ fs) gs p q = (p.0, held_append h fs gs p.1 q)
+held_append h (f ∷ fs) gs (first, others) q = (first, held_append h fs gs others q)
 
 pub held_whole : (held : HeldFrames) (recent : List ℕ) (slow : List SlowRank) (last : Option ℕ) (R S : List Frame)
     → AreStored held recent slow last R S → held ≡ frames_by_index (R ++ S)
@@ -300,93 +299,6 @@ pub newest_there : (held : HeldFrames) (recent : List ℕ) (slow : List SlowRank
     → IsSome (fin.get held i)
 newest_there held recent slow last R S f i h newest e = subst IsSome
     (sym (ap (fin.get held) e ∙ all_last (λ g. fin.get held (index_of g) ≡ Some g) R f h.recent_held newest)) refl
-
--- packing
-
-packed_held : (held : HeldFrames) (f : Frame) (fs : List Frame) → fin.get held (index_of f) ≡ Some f
-    → AreHeld (fin.get held) fs
-    → AreHeld (fin.get (fin.insert held (index_of f) (packed_alone f))) (map (packed_under (index_of f)) fs)
-packed_held held f [] is h = tt
-packed_held held f (g ∷ fs) is h = (at (nat_eq (index_of g) (index_of f)) refl, packed_held held f fs is h.1) where
-  got : (q : ℕ) (b : Bool) → nat_eq q (index_of f) ≡ b
-      → fin.get (fin.insert held (index_of f) (packed_alone f)) q ≡ cond b (Some (packed_alone f)) (fin.get held q)
-  got q b e = fin.get-insert nat_cmp_total held (index_of f) (packed_alone f) q
-      ∙ ap (λ b. cond b (Some (packed_alone f)) (fin.get held q)) (is_at q (index_of f) ∙ e)
-
-  same : nat_eq (index_of g) (index_of f) ≡ true → g ≡ f
-  same e = one_some g f (sym h.0 ∙ ap (fin.get held) (equal_to (index_of g) (index_of f) e) ∙ is)
-
-  at : (b : Bool) → nat_eq (index_of g) (index_of f) ≡ b → fin.get (fin.insert held (index_of f) (packed_alone f))
-      (index_of (packed_under (index_of f) g)) ≡ Some (packed_under (index_of f) g)
-  at true e = rw e (got (index_of g) true e ∙ ap (λ h. Some (packed_alone h)) (sym (same e)))
-  at false e = rw e (got (index_of g) false e ∙ h.0)
-
-rank-packed_at : (i : ℕ) (f : Frame) → rank_of (packed_under i f) ≡ rank_of f
-rank-packed_at i f = at (nat_eq (index_of f) i) where
-  at : (b : Bool) → rank_of (cond b (packed_alone f) f) ≡ rank_of f
-  at true = refl
-  at false = refl
-
-indices-packed : (i : ℕ) (fs : List Frame) → map index_of (map (packed_under i) fs) ≡ map index_of fs
-indices-packed i [] = refl
-indices-packed i (f ∷ fs) = λ j. index_packed_at i f j ∷ indices-packed i fs j
-
-ranks-packed : (i : ℕ) (fs : List Frame) → map rank_of (map (packed_under i) fs) ≡ map rank_of fs
-ranks-packed i [] = refl
-ranks-packed i (f ∷ fs) = λ j. rank-packed_at i f j ∷ ranks-packed i fs j
-
-has_index-packed : (q i : ℕ) (fs : List Frame) → has_index q (map (packed_under i) fs) ≡ has_index q fs
-has_index-packed q i [] = refl
-has_index-packed q i (f ∷ fs) = λ j. nat_eq q (index_packed_at i f j) || has_index-packed q i fs j
-
-pub stored-packed : (held : HeldFrames) (recent : List ℕ) (slow : List SlowRank) (last : Option ℕ) (R S : List Frame)
-    (f : Frame) → AreStored held recent slow last R S → last_in R ≡ Some f
-    → AreStored (fin.insert held (index_of f) (packed_alone f)) recent slow last (map (packed_under (index_of f)) R)
-    (map (packed_under (index_of f)) S)
-stored-packed held recent slow last R S f h newest =
-    let i : ℕ = index_of f in
-    let there : fin.get held i ≡ Some f = all_last (λ g. fin.get held (index_of g) ≡ Some g) R f h.recent_held newest in
-    record {
-      recent_at = h.recent_at ∙ sym (indices-packed i R);
-      slow_at = h.slow_at ∙ sym (ranks-packed i S);
-      recent_held = packed_held held f R there h.recent_held;
-      slow_held = packed_held held f S there h.slow_held;
-      only = λ q out.
-          let none : fin.get held q ≡ None = h.only q
-          (has_index-append q R S ∙ (λ j. sym (has_index-packed q i R) j || sym (has_index-packed q i S) j)
-          ∙ sym (has_index-append q (map (packed_under i) R) (map (packed_under i) S)) ∙ out) in
-          fin.get-insert nat_cmp_total held i (packed_alone f) q
-          ∙ ap (λ b. cond b (Some (packed_alone f)) (fin.get held q)) (is_at q i)
-          ∙ at q (nat_eq q i) none (λ e. ap (fin.get held) (equal_to q i e) ∙ there);
-      kept = IsKept-packed i R S last h.kept;
-      in_order = h.in_order;
-    } where
-      at : (q : ℕ) (b : Bool) → fin.get held q ≡ None → (b ≡ true → fin.get held q ≡ Some f)
-          → cond b (Some (packed_alone f)) (fin.get held q) ≡ None
-      at q true none some = let both : None ≡ Some f = sym none ∙ some refl in cc
-      at q false none some = none
-
--- an insertion of what is there changes nothing
-insert_same : (held : HeldFrames) (i : ℕ) (f : Frame) → fin.get held i ≡ Some f → fin.insert held i f ≡ held
-insert_same held i f there =
-    fin.same_map nat_cmp_total fin.nat_cmp-IsAntisymmetric (fin.insert held i f) held
-    (λ q. fin.get-insert nat_cmp_total held i f q ∙ ap (λ b. cond b (Some f) (fin.get held q)) (is_at q i)
-    ∙ at q (nat_eq q i) refl) where
-      at : (q : ℕ) (b : Bool) → nat_eq q i ≡ b → cond b (Some f) (fin.get held q) ≡ fin.get held q
-      at q true e = sym (ap (fin.get held) (equal_to q i e) ∙ there)
-      at q false e = refl
-
--- a newest frame that is packed alone already
-pub stored-already : (held : HeldFrames) (recent : List ℕ) (slow : List SlowRank) (last : Option ℕ) (R S : List Frame)
-    (f : Frame) → AreStored held recent slow last R S → last_in R ≡ Some f → f ≡ packed_alone f
-    → AreStored held recent slow last (map (packed_under (index_of f)) R) (map (packed_under (index_of f)) S)
-stored-already held recent slow last R S f h newest same =
-    let there : fin.get held (index_of f) ≡ Some f =
-    all_last (λ g. fin.get held (index_of g) ≡ Some g) R f h.recent_held newest in
-    let P : HeldFrames → Type 0 =
-    λ m. AreStored m recent slow last (map (packed_under (index_of f)) R) (map (packed_under (index_of f)) S) in
-    subst P (ap (fin.insert held (index_of f)) (sym same) ∙ insert_same held (index_of f) f there)
-    (stored-packed held recent slow last R S f h newest)
 
 -- a rank whose index is above another's comes before it where it is longer
 longer_before : (r s : SlowRank) → s.frame_index < r.frame_index

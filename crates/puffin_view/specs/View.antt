@@ -107,7 +107,8 @@ enters_among limit slow next =
     nat_lt (length slow) limit
     || option_map_or (λ last. int_lt (duration_of last) (duration_of next)) (last_in slow) false
 
--- the `limit` slowest after one more frame: if it belongs among them, it is inserted in its place, and they are cut to the limit
+-- the `limit` slowest after one more frame: if it belongs among them, it is inserted in its place, and they are cut to the
+-- limit
 abbrev pub slow_after : ℕ → List Frame → Frame → List Frame
 slow_after limit slow next =
     cond (enters_among limit slow next) (take limit (place is_slower_frame next slow)) slow

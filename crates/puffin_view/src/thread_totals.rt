@@ -104,8 +104,8 @@ impl AllTotals {
         Ok(())
     }
 
-    /// Adds the streams of one more frame to the totals of their threads, thread after thread. A frame that is added twice counts
-    /// twice.
+    /// Adds the streams of one more frame to the totals of their threads, thread after thread. A frame that is added twice
+    /// counts twice.
     ///
     /// Fails only with `Memory`. Then the streams of the frame's first threads are added, and those of the others aren't.
     pub fn add(&mut self, frame: &UnpackedFrameData) -> Result<()>

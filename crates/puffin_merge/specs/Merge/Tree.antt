@@ -2,8 +2,8 @@
 use Rattle.std.specs.Prelude.{ℕ, ℤ, List, [], ◌∷◌}
 use Rattle.puffin_merge.specs.Merge.Occurrences.{Label}
 
--- one merged scope without its children: its label, its start, its pieces' total duration, that divided by the number of frames,
--- the duration of its longest piece, and the number of its pieces
+-- one merged scope without its children: its label, its start, its pieces' total duration, that divided by the number of
+-- frames, the duration of its longest piece, and the number of its pieces
 pub record Node : Type 0 where
   pub label : Label
   pub start : ℤ

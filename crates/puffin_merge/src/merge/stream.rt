@@ -126,8 +126,8 @@ fn origin_of(frame: &UnpackedFrameData, first: NanoSecond) -> i128
     frame.meta.range_ns.0 as i128 - first as i128
 }
 
-/// Adds the scopes of a frame's stream to the table, if the frame has a stream for this thread. Top-level starts are measured as if
-/// the frame's range began at `first`. Sets `tries` to the number of bytes `(` at which the walk tried to read a scope.
+/// Adds the scopes of a frame's stream to the table, if the frame has a stream for this thread. Top-level starts are measured
+/// as if the frame's range began at `first`. Sets `tries` to the number of bytes `(` at which the walk tried to read a scope.
 pub(crate) fn read_frame(
     alloc: Global,
     merging: &mut Merging,

@@ -1,5 +1,5 @@
-//! The table of a merge: one node for each path of ids and texts, with the sums of its pieces. All nodes are in one list, and each
-//! names its parent by number.
+//! The table of a merge: one node for each path of ids and texts, with the sums of its pieces. All nodes are in one list, and
+//! each names its parent by number.
 
 ghost use Rattle.std.specs.Prelude.{◌≡◌, ◌<◌, ◌≤◌, ◌+◌, ◌^◌, ◌⊎◌, max, IfSome, IfNone};
 ghost use Rattle.std.specs.Int.{int_min};

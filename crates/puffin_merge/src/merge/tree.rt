@@ -100,7 +100,8 @@ fn place_node(
     })
 }
 
-/// Computes the start and the end of each node, in the given order. Fails with `TooLarge` if an end doesn't fit, and with `Memory`.
+/// Computes the start and the end of each node, in the given order. Fails with `TooLarge` if an end doesn't fit, and with
+/// `Memory`.
 fn place_nodes(
     alloc: Global,
     table: &Table,
@@ -169,8 +170,8 @@ fn scope_at<'s>(
     })
 }
 
-/// Makes the merged scopes of a table, and returns those of the top level. Fails with `TooLarge` if an end doesn't fit, and with
-/// `Memory`.
+/// Makes the merged scopes of a table, and returns those of the top level. Fails with `TooLarge` if an end doesn't fit, and
+/// with `Memory`.
 pub(crate) fn tree_of<'s>(
     alloc: Global,
     table: &Table,

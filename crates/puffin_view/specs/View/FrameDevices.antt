@@ -1,5 +1,4 @@
--- What contracts see of readers and writers of frames. Of a reader: its source, how many frames it has returned, and whether it is
--- done. Of a writer: its drain, the details that it knows, and whether it is broken.
+-- What contracts see of a reader of frames, as its source, and of a writer of frames, as its drain and its details.
 use Rattle.std.specs.Prelude.{◌≡◌, ℕ, ◌+◌, ◌-◌, ◌^◌, Bool, true, false, [], Option, Some, None, Result, Ok, Err, min}
 use Rattle.puffin_data.specs.declared.file_error.FileError.{FileError}
 use Rattle.puffin_view.specs.declared.profile_view.frame_file.FrameReader.{FrameReader}

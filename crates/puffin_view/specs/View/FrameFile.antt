@@ -89,8 +89,8 @@ IsLeftOf left [] = left ≡ []
 IsLeftOf left (next ∷ others) =
     (lost : List ℕ) × (packet next ≡ left ++ lost) × (0 < length lost)
 
--- The file of these frames was cut, and these bytes remain: the file of the frames that are still whole, followed by what is left
--- of the next packet.
+-- The file of these frames was cut, and these bytes remain: the file of the frames that are still whole, followed by what is
+-- left of the next packet.
 pub record IsCut (frames : List PacketFields) (bytes : List ℕ) (whole : List PacketFields) :
     Type 0 where
   pub lost : List PacketFields

@@ -25,8 +25,8 @@ HaveOwnIndices [] = Unit {0}
 HaveOwnIndices (frame ∷ others) =
     AllByRecursion (λ other. index_of other ≢ index_of frame) others × HaveOwnIndices others
 
--- What holds of the two lists of a view and the index of the last frame that it took: no index is above that, the indices of the
--- recent frames strictly increase, and no two slow frames have the same index.
+-- What holds of the two lists of a view and the index of the last frame that it took: no index is above that, the indices of
+-- the recent frames strictly increase, and no two slow frames have the same index.
 pub record AreViewLists (recent slow : List Frame) (last : Option ℕ) : Type 0 where
   pub recent_taken : AllByRecursion (λ frame. IsUpTo last (index_of frame)) recent
   pub slow_taken : AllByRecursion (λ frame. IsUpTo last (index_of frame)) slow

@@ -40,8 +40,8 @@ fn is_slow(held: &HeldFrames, slow: &VecDeque<SlowRank>, index: FrameIndex) -> b
     }
 }
 
-/// Inserts a rank among the slowest if it belongs there, and then cuts them to `max`. Drops frames that are then neither slow nor
-/// recent.
+/// Inserts a rank among the slowest if it belongs there, and then cuts them to `max`. Drops frames that are then neither slow
+/// nor recent.
 pub(super) fn enter_slow(
     held: &mut HeldFrames,
     recent: &VecDeque<FrameIndex>,

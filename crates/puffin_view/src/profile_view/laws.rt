@@ -31,8 +31,8 @@ use crate::profile_view::select::ByIndex;
 use crate::profile_view::slow_rank::SlowRank;
 use puffin_frames::frame_data::laws::{only_packets_are_read, written_is_read};
 
-/// The slowest frames of a list, up to a number, are the first, up to that number, when the list is sorted by duration, longest first, then by index. They
-/// are listed in that order.
+/// The slowest frames of a list, up to some number, are the first ones when the list is sorted by duration, longest first, then
+/// by index. They are listed in that order.
 pub fn slowest_first()
     ensures first { (number : ℕ) (frames : List PacketFields) →
         AreFirst is_slower number frames (slowest number frames) }
@@ -83,8 +83,8 @@ pub fn ranks_by_duration()
 {}
 
 /// After taking frames, a view holds only frames that it held before or took, and its file has only frames that it holds. Both
-/// are stated for any test of frames: if no frame held before or taken passes it, no frame held afterwards does; and if no frame held
-/// passes it, no frame in the file does.
+/// are stated for any test of frames: if no frame held before or taken passes it, no frame held afterwards does; and if no
+/// frame held passes it, no frame in the file does.
 pub fn views_hold_what_they_took()
     ensures held { (test : PacketFields → Bool) (view : View) (taken : List Frame) →
         IsFalse (list_any test (fields_held view)) →
@@ -189,7 +189,8 @@ pub fn reading_keeps_what_rises()
 pub fn cut_files_give_whole_frames()
     // what is left of a file
     ensures cut { (written : List PacketFields) (bytes lost : List ℕ) →
-        file_of written ≡ bytes ++ lost → 4 ≤ length bytes → (whole : List PacketFields) × IsCut written bytes whole }
+        file_of written ≡ bytes ++ lost → 4 ≤ length bytes →
+        (whole : List PacketFields) × IsCut written bytes whole }
     // what a call that reads it at once returns
     ensures file { (written : List PacketFields) (bytes : List ℕ) (whole : List PacketFields)
         (cut : IsCut written bytes whole) → AllByRecursion IsPacked written →

@@ -104,8 +104,8 @@ impl FrameView {
         Ok(())
     }
 
-    /// Adds a frame, whose index must be above that of the last frame taken, and cuts both lists to their limits. Fails only with
-    /// `Memory`; nothing changes then.
+    /// Adds a frame, whose index must be above that of the last frame taken, and cuts both lists to their limits. Fails only
+    /// with `Memory`; nothing changes then.
     fn join(&mut self, frame: Arc<FrameData>) -> Result<()>
         requires { IsFalse (is_past (view_of self.old) (index_of (shared_frame frame))) }
         ensures ok { OnOk result (

@@ -38,11 +38,9 @@ index-node-requires c = let u = usable c.args.table.now c.in_ok-ordered_nodes.or
 pub index_mut-requires : goal.index_mut-requires
 index_mut-requires c = let u =
     usable c.args.table.now c.in_ok-ordered_nodes.ordered_nodes.items (c.nodes.i - 1) c.index-ordered.result.now
-    _ c.index-node.result.now _ c.requires.table c.in_ok-ordered_nodes.ensures.ordered_nodes (omega (
-      arith,
-      c.in_ok-ordered_nodes.ordered_nodes.ok.0,
-      c.len-i.ensures,
-    )) c.index-ordered.ensures c.index-node.ensures in
+    _ c.index-node.result.now _ c.requires.table c.in_ok-ordered_nodes.ensures.ordered_nodes
+    (omega (arith, c.in_ok-ordered_nodes.ordered_nodes.ok.0, c.len-i.ensures))
+    c.index-ordered.ensures c.index-node.ensures in
     let high = u.high in omega (
       arith,
       high,
@@ -53,13 +51,11 @@ index_mut-requires c = let u =
     )
 
 pub index_mut-requires-in-nodes : goal.index_mut-requires-in-nodes
-index_mut-requires-in-nodes c = let u = usable c.args.table.now c.in_ok-ordered_nodes.ordered_nodes.items
-    (c.nodes.i - 1) c.index-ordered.result.now _ c.index-node.result.now _ c.requires.table
-    c.in_ok-ordered_nodes.ensures.ordered_nodes (omega (
-      arith,
-      c.in_ok-ordered_nodes.ordered_nodes.ok.0,
-      c.len-i.ensures,
-    )) c.index-ordered.ensures c.index-node.ensures in let high = u.high in let parent = u.parent in
+index_mut-requires-in-nodes c = let u =
+    usable c.args.table.now c.in_ok-ordered_nodes.ordered_nodes.items (c.nodes.i - 1) c.index-ordered.result.now _
+    c.index-node.result.now _ c.requires.table c.in_ok-ordered_nodes.ensures.ordered_nodes
+    (omega (arith, c.in_ok-ordered_nodes.ordered_nodes.ok.0, c.len-i.ensures))
+    c.index-ordered.ensures c.index-node.ensures in let high = u.high in let parent = u.parent in
     omega (
       arith,
       high,
@@ -73,29 +69,23 @@ index_mut-requires-in-nodes c = let u = usable c.args.table.now c.in_ok-ordered_
 pub scope_at-requires-clause-id : goal.scope_at-requires-clause-id
 scope_at-requires-clause-id c = let u =
     usable c.args.table.now c.in_ok-ordered_nodes.ordered_nodes.items (c.nodes.i - 1) c.index-ordered.result.now _
-    c.index-node.result.now _ c.requires.table c.in_ok-ordered_nodes.ensures.ordered_nodes (omega (
-      arith,
-      c.in_ok-ordered_nodes.ordered_nodes.ok.0,
-      c.len-i.ensures,
-    )) c.index-ordered.ensures c.index-node.ensures in u.id
+    c.index-node.result.now _ c.requires.table c.in_ok-ordered_nodes.ensures.ordered_nodes
+    (omega (arith, c.in_ok-ordered_nodes.ordered_nodes.ok.0, c.len-i.ensures)) c.index-ordered.ensures
+    c.index-node.ensures in u.id
 
 pub scope_at-requires-clause-small : goal.scope_at-requires-clause-small
-scope_at-requires-clause-small c = let u = usable c.args.table.now c.in_ok-ordered_nodes.ordered_nodes.items
-    (c.nodes.i - 1) c.index-ordered.result.now _ c.index-node.result.now _ c.requires.table
-    c.in_ok-ordered_nodes.ensures.ordered_nodes (omega (
-      arith,
-      c.in_ok-ordered_nodes.ordered_nodes.ok.0,
-      c.len-i.ensures,
-    )) c.index-ordered.ensures c.index-node.ensures in u.small
+scope_at-requires-clause-small c = let u =
+    usable c.args.table.now c.in_ok-ordered_nodes.ordered_nodes.items (c.nodes.i - 1) c.index-ordered.result.now _
+    c.index-node.result.now _ c.requires.table c.in_ok-ordered_nodes.ensures.ordered_nodes
+    (omega (arith, c.in_ok-ordered_nodes.ordered_nodes.ok.0, c.len-i.ensures)) c.index-ordered.ensures
+    c.index-node.ensures in u.small
 
 pub scope_at-requires-clause-greatest : goal.scope_at-requires-clause-greatest
-scope_at-requires-clause-greatest c = let u = usable c.args.table.now c.in_ok-ordered_nodes.ordered_nodes.items
-    (c.nodes.i - 1) c.index-ordered.result.now _ c.index-node.result.now _ c.requires.table
-    c.in_ok-ordered_nodes.ensures.ordered_nodes (omega (
-      arith,
-      c.in_ok-ordered_nodes.ordered_nodes.ok.0,
-      c.len-i.ensures,
-    )) c.index-ordered.ensures c.index-node.ensures in u.greatest
+scope_at-requires-clause-greatest c = let u =
+    usable c.args.table.now c.in_ok-ordered_nodes.ordered_nodes.items (c.nodes.i - 1) c.index-ordered.result.now
+    _ c.index-node.result.now _ c.requires.table c.in_ok-ordered_nodes.ensures.ordered_nodes
+    (omega (arith, c.in_ok-ordered_nodes.ordered_nodes.ok.0, c.len-i.ensures)) c.index-ordered.ensures
+    c.index-node.ensures in u.greatest
 
 pub index-requires : goal.index-requires
 index-requires c =
@@ -115,11 +105,9 @@ nodes-preserved c =
     let size = ap length (c.in_ok-placements.ensures.ok blank) in
     let u =
     usable c.args.table.now c.in_ok-ordered_nodes.ordered_nodes.items (c.nodes.i - 1) c.index-ordered.result.now
-    _ c.index-node.result.now _ c.requires.table c.in_ok-ordered_nodes.ensures.ordered_nodes (omega (
-      arith,
-      c.in_ok-ordered_nodes.ordered_nodes.ok.0,
-      c.len-i.ensures,
-    )) c.index-ordered.ensures c.index-node.ensures in
+    _ c.index-node.result.now _ c.requires.table c.in_ok-ordered_nodes.ensures.ordered_nodes
+    (omega (arith, c.in_ok-ordered_nodes.ordered_nodes.ok.0, c.len-i.ensures)) c.index-ordered.ensures
+    c.index-node.ensures in
     let high = u.high in
     record {
       size = c.nodes.invariant.size;

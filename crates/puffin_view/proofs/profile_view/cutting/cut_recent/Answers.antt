@@ -1,3 +1,4 @@
+-- The loop has dropped the first recent frames, unless they are slow.
 use Rattle.std.proofs.Common.{◌<◌, ◌∙◌, arith, length, refl}
 use Rattle.puffin_view.proofs.Searching.{still_ranked}
 use Rattle.puffin_view.proofs.Cutting.{recent_step, unlike, dropped_next, first_dropped, some_dropped}

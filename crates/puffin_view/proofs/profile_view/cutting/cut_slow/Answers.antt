@@ -1,3 +1,4 @@
+-- The loop has dropped the frames of the ranks so far, unless they are recent.
 use Rattle.std.proofs.Common.{◌≡◌, length, drop, refl, ap, ◌∙◌, arith}
 use Rattle.std.specs.Prelude.{min}
 use Rattle.std.specs.VecDeque.{deque_len}

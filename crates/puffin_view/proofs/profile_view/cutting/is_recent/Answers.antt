@@ -1,3 +1,4 @@
+-- In sorted indices a search finds an equal one.
 use Rattle.std.proofs.Common.{◌≡◌, ◌∙◌, arith, length}
 use Rattle.std.specs.VecDeque.{deque_len}
 use Rattle.puffin_view.proofs.Searching.{searched_index}

@@ -1,3 +1,4 @@
+-- A frame is slow exactly if its own rank is among the ranks.
 use Rattle.std.proofs.Common.{◌∙◌, sym, ap, refl, rules, FitsSigned, w64}
 use Rattle.std.proofs.lemmas.Int.{to_z-of_z}
 use Rattle.puffin_view.specs.View.ViewedFrames.{duration_of}

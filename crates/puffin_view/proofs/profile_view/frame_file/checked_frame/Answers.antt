@@ -1,3 +1,4 @@
+-- What is read is checked for ids; a frame that lacks some is the fault.
 use Rattle.std.proofs.Common.{ap, sym, ◌∙◌}
 use Rattle.puffin_threads.specs.Details.{shared_details}
 use Rattle.puffin_frames.specs.Frame.Contents.{frame_details}

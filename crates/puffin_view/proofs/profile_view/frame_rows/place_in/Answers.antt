@@ -1,3 +1,4 @@
+-- Both guesses and the search look at the frame at their place; the search fails only if no frame has the index.
 use Rattle.std.proofs.Common.{arith, rules, of_calls}
 use Rattle.std.proofs.lemmas.Fn.{always_returns_same}
 use Rattle.puffin_view.specs.View.ViewedFrames.{index_of}

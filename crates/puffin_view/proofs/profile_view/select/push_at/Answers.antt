@@ -1,3 +1,4 @@
+-- The place of a list holds its frame, or nothing is there.
 use Rattle.std.proofs.Common.{ap}
 use Rattle.puffin_view.specs.View.FrameOf.{shared_frame, frame_of}
 use Rattle.puffin_view.proofs.Selecting.{pushed_at, not_pushed_at, get_past, get_within}

@@ -1,3 +1,4 @@
+-- Both sorts permute. The first puts the slowest in front, of which `max` are taken; the second sorts these by index.
 use Rattle.std.proofs.Common.{◌≡◌, List, map, take, length, ap, ◌∙◌, subst, refl, rules, arith, Ok}
 use Rattle.puffin_view.specs.View.FrameOf.{frames_of}
 use Rattle.std.specs.Prelude.{IsPermutation, filter_map, slice_get}

@@ -1,3 +1,4 @@
+-- One place more for each frame.
 use Rattle.std.proofs.Common.{ap, ◌∙◌, arith}
 use Rattle.puffin_view.specs.View.FrameOf.{frame_of, shared_frame}
 use Rattle.puffin_view.specs.View.Selection.{rank_at, ranks_from}

@@ -1,3 +1,4 @@
+-- The loop has added the streams so far, in the order of their threads.
 use Rattle.std.proofs.Common.{[], rules, refl, ap, subst, sym, ◌∙◌}
 use Rattle.std.proofs.lemmas.Map.Iter.{rest_more}
 use Rattle.std.proofs.lemmas.Result.{err_from_is_err_and}

@@ -1,3 +1,4 @@
+-- An insertion in the map, by the key of the thread.
 use Rattle.puffin_data.specs.Honesty.{facts_of}
 use Rattle.puffin_view.proofs.ThreadsTotaled.{stream_added}
 use Rattle.puffin_view.proofs.thread_totals.AllTotals.add_stream.Goals as goal

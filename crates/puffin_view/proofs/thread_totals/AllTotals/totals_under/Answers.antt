@@ -1,3 +1,4 @@
+-- A look-up in the map, by the key of the thread.
 use Rattle.std.proofs.Common.{Option, Some, None, ap, sym, ◌∙◌}
 use Rattle.std.specs.Prelude.{unwrap_or}
 use Rattle.puffin_view.specs.ThreadTotals.{no_totals}

@@ -1,3 +1,4 @@
+-- The occurrence is one more piece of the node that was found, or the first of a new node.
 use Rattle.std.proofs.Common.{inr, Ok, Err, Result, w64, ◌≡◌, ◌+◌, ◌<◌, ◌≤◌, ◌^◌, ◌++◌, ◌∷◌, [], ℕ, ℤ, vec_len, subst, sym}
 use Rattle.std.specs.Prelude.{IfOk, OnOk}
 use Rattle.std.proofs.lemmas.Int.{to_z-of_z}

@@ -1,3 +1,4 @@
+-- Only a node's sums change, so the maps still find the nodes by their keys.
 use Rattle.std.proofs.Common.{◌≡◌, ◌-◌, ◌<◌, ◌∙◌, arith, refl, ap, length, vec_len}
 use Rattle.puffin_merge.proofs.Finding.{parts_of, found_kept, same_at, key_at-set}
 use Rattle.puffin_merge.proofs.merge.table.Table.add_piece.Goals as goal

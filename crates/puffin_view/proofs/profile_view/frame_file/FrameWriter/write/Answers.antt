@@ -1,3 +1,4 @@
+-- The packet has the details of all frames so far if it is the first. After a refusal with `Io` a prefix of it may be written.
 use Rattle.std.proofs.Common.{rules, ◌≡◌, ℕ, List, Option, Err, refl, ap, subst, ◌∙◌}
 use Rattle.std.specs.Prelude.{IfErr, IsTrue}
 use Rattle.std.specs.List.{list_any}

@@ -1,3 +1,4 @@
+-- The copied map and the copied row have the same indices and frames.
 use Rattle.puffin_view.specs.inner.Rows.{rows_of}
 use Rattle.puffin_view.proofs.RowPlaces.{zipped, sorted-cloned}
 use Rattle.puffin_view.proofs.profile_view.frame_rows.FrameRows.clone.Goals as goal

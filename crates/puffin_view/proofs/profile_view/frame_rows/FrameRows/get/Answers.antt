@@ -1,3 +1,4 @@
+-- A frame is found in the row or, if the row has none with this index, in the map.
 use Rattle.std.proofs.Common.{◌<◌, arith, length, sym, ◌∙◌}
 use Rattle.std.specs.VecDeque.{deque_len}
 use Rattle.puffin_view.specs.inner.Held.{keyed}

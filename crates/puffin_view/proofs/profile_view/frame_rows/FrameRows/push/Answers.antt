@@ -1,3 +1,4 @@
+-- An index above all others goes to the end of the row, which stays in order.
 use Rattle.std.proofs.Common.{[], ◌∷◌, ◌++◌, ap, ◌∙◌}
 use Rattle.puffin_view.proofs.RowPlaces.{sorted-pushed}
 use Rattle.puffin_view.proofs.profile_view.frame_rows.FrameRows.push.Goals as goal

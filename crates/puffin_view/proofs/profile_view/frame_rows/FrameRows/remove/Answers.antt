@@ -1,3 +1,4 @@
+-- The frame is removed from the row or, if the row has none with its index, from the map. What is left stays in order.
 use Rattle.std.proofs.Common.{◌<◌, ◌++◌, arith, length, sym, ap, ◌∙◌}
 use Rattle.std.specs.VecDeque.{deque_len}
 use Rattle.puffin_view.specs.inner.Held.{keyed}

@@ -1,3 +1,4 @@
+-- The frame is replaced in the row or, if the row has none with its index, in the map. The indices stay, and so does their order.
 use Rattle.std.proofs.Common.{◌≡◌, ◌++◌, sym, ap, ◌∙◌, Some, refl, subst}
 use Rattle.std.specs.Prelude.{IsSome}
 use Rattle.std.specs.Map.{lookup}

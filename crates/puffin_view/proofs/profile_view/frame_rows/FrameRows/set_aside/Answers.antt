@@ -1,3 +1,4 @@
+-- The first frame of the row becomes the last of the map, or stays, so the frames in order are the same.
 use Rattle.std.proofs.Common.{◌≡◌, ap, ◌∙◌, sym, subst}
 use Rattle.std.specs.List.Sorted.{IsStrictlySortedBy}
 use Rattle.std.specs.Map.{keys_of}

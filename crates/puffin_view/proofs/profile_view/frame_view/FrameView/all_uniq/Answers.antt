@@ -1,3 +1,4 @@
+-- The frames that are held are those of both lists, each once, in order.
 use Rattle.std.proofs.Common.{ap, ◌∙◌}
 use Rattle.std.specs.FinMap as fin
 use Rattle.puffin_view.specs.View.FrameOf.{frames_of}

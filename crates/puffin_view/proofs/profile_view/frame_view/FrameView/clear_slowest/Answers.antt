@@ -1,3 +1,4 @@
+-- A cut to none drops the frames that are in no other list.
 use Rattle.std.proofs.Common.{refl, sym, ap, subst, ◌∙◌, []}
 use Rattle.puffin_view.specs.View.{View, Holds}
 use Rattle.puffin_view.specs.View.Known.{KnownView, view_of}

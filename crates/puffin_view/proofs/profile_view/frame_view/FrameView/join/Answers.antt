@@ -1,3 +1,4 @@
+-- The frame is held under its index, which is above all others. It joins both lists, and what is cut from both is dropped.
 use Rattle.std.proofs.Common.{◌≡◌, refl, sym, ap, ◌∙◌, ◌++◌, ◌∷◌, [], map, take, length, ◌-◌, ℕ, subst, Some}
 use Rattle.std.specs.FinMap as fin
 use Rattle.puffin_view.specs.View.{View, joined_by, is_past}

@@ -1,3 +1,4 @@
+-- The frame held under the last recent index is the newest.
 use Rattle.std.proofs.Common.{◌≡◌, ◌<◌, length, arith, refl, ap, ◌∙◌}
 use Rattle.std.specs.VecDeque.{deque_len}
 use Rattle.puffin_view.specs.View.Ranking.{last_in}

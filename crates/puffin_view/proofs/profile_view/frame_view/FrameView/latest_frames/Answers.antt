@@ -1,3 +1,4 @@
+-- The last recent indices hold the last recent frames.
 use Rattle.std.proofs.Common.{◌≡◌, ◌-◌, ap, ◌∙◌, length, arith}
 use Rattle.std.specs.FinMap as fin
 use Rattle.std.specs.List.{filter_map}

@@ -1,3 +1,4 @@
+-- A new view stores no frames.
 use Rattle.puffin_view.proofs.Storing.{stored-none}
 use Rattle.puffin_view.proofs.profile_view.frame_view.FrameView.new.Goals as goal
 

@@ -1,3 +1,4 @@
+-- The newest frame is held packed, under the same index. So both lists have it packed, and all else is as it was.
 use Rattle.std.proofs.Common.{◌≡◌, refl, sym, ap, ◌∙◌, map, Some}
 use Rattle.std.specs.Arc.{arc_value}
 use Rattle.std.specs.Option.{option_map, is_some}
@@ -10,7 +11,8 @@ use Rattle.puffin_view.specs.View.FrameOf.{frame_of, shared_frame}
 use Rattle.puffin_view.specs.inner.Store.{AreStored, frames_under}
 use Rattle.puffin_view.proofs.HoldingViews.{packed_copied, packed_already}
 use Rattle.puffin_view.proofs.JoiningPending.{known_as, packed_newest, newest_is_packed}
-use Rattle.puffin_view.proofs.Storing.{newest_there, stored_as, stored-already, view_as}
+use Rattle.puffin_view.proofs.Storing.{newest_there, stored_as, view_as}
+use Rattle.puffin_view.proofs.StoringPacked.{stored-already}
 use Rattle.puffin_view.proofs.profile_view.frame_view.FrameView.pack_newest.Goals as goal
 
 abbrev newest : goal.After-replace → Frame

@@ -1,3 +1,4 @@
+-- The reader has given the frames so far, and the view took each; at the end these are all frames of the file.
 use Rattle.std.proofs.Common.{List, [], ◌∷◌, ◌++◌, ◌-◌, ◌^◌, Ok, Err, None, refl, ap, ◌∙◌, arith, length-append}
 use Rattle.std.proofs.lemmas.Result.{err_from_is_err_and}
 use Rattle.puffin_frames.specs.Packet.Stored.{Stored}
@@ -12,8 +13,7 @@ use Rattle.puffin_view.proofs.profile_view.frame_view.FrameView.read.Goals as go
 
 pub packets-init : goal.packets-init
 packets-init g c =
-    let frames = ap view_of c.set_max_recent.ensures
-    ∙ ap (λ (v : View). record v { max_recent = 2 ^ 64 - 1 }) c.new-view.ensures.frames in (
+    let frames = ap view_of c.set_max_recent.ensures ∙ ap (λ (v : View). record v { max_recent = 2 ^ 64 - 1 }) c.new-view.ensures.frames in (
       [],
       c.in_ok-read_magic.ensures.begun,
       view_of_frames [] c.set_max_recent.new.self frames (ap collection_of
@@ -44,11 +44,9 @@ returns-in_err-add_read-clause-file g c =
     let before = c.packets.invariant in
     let next = rw c.in-Some.is at c.in_ok-frame.ensures.next in
     let fresh = rw c.in-Some.is at c.in_ok-frame.ensures.fresh in
-    rw (p.1, p.2) (refused_frame _ _ _ before.0 c.in_err-add_read.field-0.0 c.in-Some.frame before.1 (omega (
-      arith,
-      before.3,
-      c.packets-test.true,
-    )) fresh next c.in_err-add_read.ensures.missing c.in_err-add_read.ensures.cause)
+    rw (p.1, p.2) (refused_frame _ _ _ before.0 c.in_err-add_read.field-0.0 c.in-Some.frame
+    before.1 (omega (arith, before.3, c.packets-test.true)) fresh next c.in_err-add_read.ensures.missing
+    c.in_err-add_read.ensures.cause)
 
 pub packets-preserved : goal.packets-preserved
 packets-preserved g c =
@@ -60,8 +58,7 @@ packets-preserved g c =
     let one : List Stored = stored_of frame ∷ [] in (
       before.0 ++ one,
       given_frame _ _ _ before.0 frame before.1 fresh (rw c.in-Some.is at c.in_ok-frame.ensures.next) added.ids,
-      view_of_more before.0 (stored_of frame) (frame_of frame) c.packets.view c.add_read.new.view seen before.2
-          added.frames added.learnt,
+      view_of_more before.0 (stored_of frame) (frame_of frame) c.packets.view c.add_read.new.view seen before.2 added.frames added.learnt,
       omega (arith, length-append before.0 one, before.3),
       c.in_ok-frame.ensures.failures ∙ before.4,
     )

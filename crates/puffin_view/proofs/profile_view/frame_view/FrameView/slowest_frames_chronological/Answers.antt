@@ -1,3 +1,4 @@
+-- Of all frames that are held, those whose index has a rank are the slow ones, in order.
 use Rattle.std.proofs.Common.{ap, ◌∙◌, map, List}
 use Rattle.std.specs.List.{filter}
 use Rattle.puffin_view.specs.declared.profile_view.slow_rank.SlowRank.{SlowRank}

@@ -1,3 +1,4 @@
+-- Empty lists store no frames.
 use Rattle.puffin_view.proofs.Storing.{stored-none}
 use Rattle.puffin_view.proofs.profile_view.frame_view.FrameView.without_frames.Goals as goal
 

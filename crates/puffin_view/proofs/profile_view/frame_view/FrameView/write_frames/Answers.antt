@@ -1,3 +1,4 @@
+-- The drain holds the file of the frames so far, and each frame appends its packet; a refusal leaves a prefix of one more packet.
 use Rattle.std.proofs.Common.{◌≡◌, ℕ, ◌+◌, ◌⊎◌, List, [], ◌∷◌, ◌++◌, map, Err, inr, ap, sym, subst, ◌∙◌, append_assoc}
 use Rattle.std.specs.Prelude.{option_map}
 use Rattle.std.specs.List.{AllByRecursion}

@@ -1,3 +1,4 @@
+-- The copied rows stand for the same map, with the same sums.
 use Rattle.std.proofs.Common.{ap, ◌∙◌}
 use Rattle.std.specs.FinMap as fin
 use Rattle.puffin_view.specs.inner.Rows.{rows_of}

@@ -1,3 +1,4 @@
+-- A look-up in the rows is one in the map that they stand for.
 use Rattle.std.proofs.Common.{sym, ap, ◌∙◌}
 use Rattle.puffin_view.specs.inner.Rows.{rows_of}
 use Rattle.puffin_view.proofs.HoldingViews.{seen_copied, get-held_of}

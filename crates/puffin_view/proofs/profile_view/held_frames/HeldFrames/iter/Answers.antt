@@ -1,3 +1,4 @@
+-- The rows in order are the values of the map that they stand for.
 use Rattle.std.proofs.Common.{sym, ap, ◌∙◌}
 use Rattle.std.specs.FinMap as fin
 use Rattle.puffin_view.specs.View.FrameOf.{frames_of}

@@ -1,3 +1,4 @@
+-- The sums grow by the new frame, whose index had no frame before.
 use Rattle.std.proofs.Common.{◌≡◌, ℕ, ◌≤◌, sym, ap, ◌∙◌, ◌+◌, arith, None}
 use Rattle.std.specs.FinMap as fin
 use Rattle.std.specs.Map.{lookup}

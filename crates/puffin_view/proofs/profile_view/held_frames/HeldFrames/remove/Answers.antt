@@ -1,3 +1,4 @@
+-- The sums shrink by the removed frame, if there is one.
 use Rattle.std.proofs.Common.{ap, ◌∙◌}
 use Rattle.std.specs.FinMap as fin
 use Rattle.std.specs.Map.{keys_of, lookup}

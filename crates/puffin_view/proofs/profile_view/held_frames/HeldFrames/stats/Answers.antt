@@ -1,3 +1,4 @@
+-- The running sums fit, so they are those of the frames.
 use Rattle.std.proofs.Common.{ap, ◌∙◌}
 use Rattle.puffin_view.specs.View.Stats.{stats_of}
 use Rattle.puffin_view.specs.inner.Rows.{rows_of}

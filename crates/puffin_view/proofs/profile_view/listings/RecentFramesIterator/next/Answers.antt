@@ -1,3 +1,4 @@
+-- Indices under which nothing is held are skipped; the first other one gives its frame.
 use Rattle.std.proofs.Common.{◌≡◌, ◌∷◌}
 use Rattle.std.specs.FinMap as fin
 use Rattle.std.specs.VecDeque.Iter.{deque_iter_rest}

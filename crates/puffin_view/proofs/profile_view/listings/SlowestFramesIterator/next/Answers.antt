@@ -1,3 +1,4 @@
+-- Frames without a rank are skipped; the first other one is given.
 use Rattle.std.proofs.Common.{◌≡◌, true, false, map, ◌∷◌, ap}
 use Rattle.puffin_view.specs.View.ViewedFrames.{index_of}
 use Rattle.puffin_view.specs.View.FrameOf.{frame_of, shared_frame}

@@ -1,3 +1,4 @@
+-- A rank is before the last if the comparison says so.
 use Rattle.std.proofs.Common.{◌≡◌, ◌<◌, length, rules, arith, refl, ◌∙◌}
 use Rattle.std.specs.VecDeque.{deque_len}
 use Rattle.puffin_view.specs.inner.Ranks.{is_before}

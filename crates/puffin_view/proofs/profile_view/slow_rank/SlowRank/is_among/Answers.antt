@@ -1,3 +1,4 @@
+-- In sorted ranks a search finds an equal one, and none is behind the last.
 use Rattle.std.proofs.Common.{◌≡◌, ◌<◌, ◌∙◌, arith, rules, refl, sym, length}
 use Rattle.std.specs.VecDeque.{deque_len}
 use Rattle.std.specs.Ordering.{is_le}

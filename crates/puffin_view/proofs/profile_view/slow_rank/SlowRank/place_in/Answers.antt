@@ -1,3 +1,4 @@
+-- The ranks up to the partition point are those that the rank does not come before.
 use Rattle.std.proofs.Common.{arith, rules, of_calls}
 use Rattle.std.proofs.lemmas.Fn.{always_returns_same}
 use Rattle.puffin_view.proofs.Placing.{is_up_to, partitioned, placed_at_point}
