@@ -2,7 +2,6 @@
 use denote.RawPtr.{null_ptr}
 use Rattle.std.proofs.lemmas.Str.{IsUtf8-nil}
 use Rattle.std.proofs.Common.{◌≡◌, ℕ, ◌+◌, ◌-◌, ◌<◌, ◌≤◌, pos, ◌^◌, ◌+ℤ◌, FitsSigned, Bool, true, false, cond, eqb, List, [], ◌∷◌, length, get_or, ◌⊎◌, inl, inr, refl, sym, ap, subst, ◌∙◌, arith, w64, vec_len}
-use Rattle.std.specs.Prelude.{SomeIff, IsSome, Option, Some, None}
 use Rattle.std.specs.List.{AllByRecursion}
 use Rattle.std.proofs.lemmas.Bool.{cases_eq}
 use Rattle.std.proofs.lemmas.List.Elements.{recursion_from_All}

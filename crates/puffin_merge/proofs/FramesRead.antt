@@ -14,7 +14,7 @@ use Rattle.puffin_merge.specs.Merge.Occurrences.{Occurrence, FrameScopes, occurr
 use Rattle.puffin_merge.specs.Merge.Tree.{MergedForest, no_node}
 use Rattle.puffin_merge.specs.Merge.{IsMerge}
 use Rattle.puffin_merge.specs.Merge.FrameBytes.{FrameBytes, form_of, bytes_of, start_of, HasScopes, HaveScopes, most_tries_of, most_tries}
-use Rattle.puffin_merge.specs.Merge.Refusals.{IsRefusedFor, AreAccepted, faulty, refused, IsRefusalAfter, in_frame, at_end, EndsFit, AreMerged, ReadsFew}
+use Rattle.puffin_merge.specs.Merge.Refusals.{IsRefusedFor, AreAccepted, faulty, refused, IsRefusalAfter, in_frame, at_end, EndsFit, AreMerged}
 use Rattle.puffin_merge.specs.inner.Tables.{IsTableOf}
 use Rattle.puffin_merge.specs.inner.Merging.{TakesScopes, RefusesScope, accepted-append, append-nil}
 use Rattle.puffin_merge.proofs.Starting.{earliest-is_least}

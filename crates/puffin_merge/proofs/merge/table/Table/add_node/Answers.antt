@@ -1,5 +1,5 @@
 -- The maps find exactly the nodes: before the node is added as before, and then with the new node under its key.
-use Rattle.std.proofs.Common.{refl, [], ◌∷◌, ◌++◌, ◌+◌, ◌∙◌, arith, subst, sym, ap, get_or, ℕ, ◌<◌, vec_len}
+use Rattle.std.proofs.Common.{refl, [], ◌∷◌, ◌++◌, ◌+◌, ◌∙◌, arith, subst, sym, ap, get_or, vec_len}
 use Rattle.puffin_merge.specs.inner.Found.{IsNewKey}
 use Rattle.puffin_merge.proofs.Finding.{parts_of, found_more, found_kept}
 use Rattle.puffin_merge.proofs.merge.table.Table.add_node.Goals as goal

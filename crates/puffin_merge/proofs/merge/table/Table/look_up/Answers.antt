@@ -1,5 +1,5 @@
 -- The number of the text is looked up first, and then the number of the node.
-use Rattle.std.proofs.Common.{◌≡◌, ℕ, ◌-◌, ◌<◌, ◌≤◌, Option, Some, None, ◌∙◌, sym, vec_len}
+use Rattle.std.proofs.Common.{◌≡◌, Option, Some, None, ◌∙◌, sym}
 use Rattle.std.specs.Prelude.{IfSome, IfNone, string_bytes}
 use Rattle.std.specs.declared.cmp.Ordering.TheVariants.{Equal}
 use Rattle.std.specs.declared.string.String.{String}
