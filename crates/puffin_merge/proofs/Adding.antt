@@ -55,6 +55,7 @@ read_of added more m h =
       tries = ap length (sym same);
     }
 
+-- the frames that were added are read
 pub read_these : (added : List FrameBytes) (m : Merger) (h : HasAdded added m)
     → HasRead added (length added) m.merging.table (tries_for h)
 read_these added m h = subst (λ (xs : List FrameBytes). HasRead xs (length added) m.merging.table (tries_for h))
@@ -124,8 +125,8 @@ one_refused added f later m v w made e h table origin (inr stops) =
     sym (ap (λ (xs : List FrameBytes). take (length added) (added ++ (f ∷ later)) ++ (f ∷ xs))
     (ap (λ (k : ℕ). drop k (added ++ (f ∷ later))) next ∙ drop_one added f later)
     ∙ ap (λ (xs : List FrameBytes). xs ++ (f ∷ later)) (take_front added (f ∷ later))) in
-    inr (read_refused (added ++ (f ∷ later)) (length added) f v w (tries_for h) made e split
-    origin (subst (λ (t : Table). HasRead (added ++ (f ∷ later)) (length added) t (tries_for h)) (sym table)
+    inr (read_refused (added ++ (f ∷ later)) (length added) f v w (tries_for h) made e
+    split origin (subst (λ (t : Table). HasRead (added ++ (f ∷ later)) (length added) t (tries_for h)) (sym table)
     (read_of added (f ∷ later) m h)) stops)
 
 -- ---- the end
@@ -133,11 +134,13 @@ one_refused added f later m v w made e h table origin (inr stops) =
 abbrev Merged : List FrameBytes → MergedForest → ℕ → Type 0
 Merged added f tried = (m : AreMerged added f) × (tried ≡ length (occurrences m.scopes))
 
+-- without frames the merge has no scopes
 pub none_added : (added : List FrameBytes) (m : Merger) (h : HasAdded added m) → m.frames ≡ 0
     → Merged added no_node (tries_for h)
 none_added added m h none = read_no_frames added (length added) m.merging.table (tries_for h) (sym h.number ∙ none)
     refl (read_these added m h)
 
+-- the table's tree is the merge of the added frames
 pub all_merged : (added : List FrameBytes) (m : Merger) (h : HasAdded added m)
     (r : Result (Vec MergeScope Global) Error)
     → IfOk r (λ merged. (all : List Occurrence) → IsTableOf all m.merging.table
@@ -148,6 +151,7 @@ all_merged added m h (Ok merged) k =
     read_whole added (length added) m.merging.table (tries_for h) (forest_in merged.items) refl (read_these added m h)
     (λ all table. let x = k all table in (subst (λ (n : ℕ). IsMerge all n (forest_in merged.items)) h.number x.0, x.1))
 
+-- an end of the table's tree that doesn't fit refuses the merge of the added frames
 pub all_refused : (added : List FrameBytes) (m : Merger) (h : HasAdded added m) (e : Error)
     → (e ≡ Memory) ⊎ ((e ≡ TooLarge) × ((all : List Occurrence) → IsTableOf all m.merging.table → (f : MergedForest)
     × IsMerge all m.frames f × (EndsFit f → ⊥))) → (e ≡ Memory) ⊎ IsRefusalAfter added (tries_for h) e

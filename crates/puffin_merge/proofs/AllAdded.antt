@@ -29,6 +29,7 @@ bytes_in info held = frame_bytes info (arc_value held)
 abbrev pub AddedFirst : List FrameBytes → ℕ → Merger → ℕ → Type 0
 AddedFirst frames i m tried = (h : HasAdded (take i frames) m) × (tries_for h ≡ tried)
 
+-- before the loop no frame was added
 pub none_first : (frames : List FrameBytes) (m : Merger) → HasAdded [] m → AddedFirst frames 0 m 0
 none_first frames m h = (h, tried h.scopes h.have) where
   tried : (scopes : List FrameScopes) → HaveScopes [] scopes → length (occurrences scopes) ≡ 0
@@ -40,6 +41,7 @@ taken_size xs zero = omega arith
 taken_size [] (suc i) = omega arith
 taken_size (x ∷ xs) (suc i) = let rest = taken_size xs i in omega (arith, rest)
 
+-- one more of the frames was added
 pub one_more_first : (info : ThreadKey) (frames : List Held) (i : ℕ) (x : Held)
     (f : FrameBytes) (m n : Merger) (tried made : ℕ) → i < length frames → x ≡ get_or frames i x → f ≡ bytes_in info x
     → AddedFirst (frames_bytes info frames) i m tried
@@ -53,6 +55,7 @@ one_more_first info frames i x f m n tried made lt ex ef a adds =
     subst (λ (xs : List FrameBytes). (h : HasAdded xs n) × (tries_for h ≡ tried + made)) split
     (more.0, more.1 ∙ ap (λ (k : ℕ). k + made) a.1)
 
+-- a frame's refusal is the refusal of all frames
 pub refused_first : (info : ThreadKey) (frames : List Held) (i : ℕ) (x : Held) (f : FrameBytes)
     (m : Merger) (tried made : ℕ) (e : Error) → i < length frames → x ≡ get_or frames i x → f ≡ bytes_in info x
     → AddedFirst (frames_bytes info frames) i m tried
@@ -67,10 +70,12 @@ refused_first info frames i x f m tried made e lt ex ef a refuses =
     (subst (λ (k : ℕ). (e ≡ Memory) ⊎ IsRefusalAfter (take i all ++ (f ∷ drop (i + 1) all)) (k + made) e) a.1
     (refuses (take i all) (drop (i + 1) all) a.0))
 
+-- what the merger reads of a frame is what it holds for the thread
 pub same_bytes : (info again : ThreadKey) (frame : UnpackedFrameData) (x : Held) → again ≡ info → frame ≡ arc_value x
     → frame_bytes again frame ≡ bytes_in info x
 same_bytes info again frame x e f = λ i. frame_bytes (e i) (f i)
 
+-- the tries so far stay within the walks' bounds
 pub tries_first : (info : ThreadKey) (frames : List Held) (i : ℕ) (x : Held) (f : FrameBytes) (tried made : ℕ)
     → i < length frames → x ≡ get_or frames i x → f ≡ bytes_in info x
     → tried ≤ most_tries (take i (frames_bytes info frames)) → made ≤ most_tries_of f
@@ -79,6 +84,7 @@ tries_first info frames i x f tried made lt ex ef h k =
     tries_more (frames_bytes info frames) i (bytes_in info x) tried made (take_push (bytes_in info) frames i x lt ex)
     h (subst (λ (y : FrameBytes). made ≤ most_tries_of y) ef k)
 
+-- at most one frame was read after those that were added
 pub few_first : (frames : List FrameBytes) (i : ℕ) (m : Merger) (tried n : ℕ) → AddedFirst frames i m tried
     → n ≤ most_tries (take (i + 1) frames) → ReadsFew frames n
 few_first frames i m tried n a few =
@@ -106,6 +112,7 @@ all_first info frames i m tried e a =
     subst (λ (xs : List FrameBytes). AddedAll xs m tried)
     (ap (λ (k : ℕ). take k (frames_bytes info frames)) (e ∙ sym size) ∙ take_all (frames_bytes info frames)) a
 
+-- once all frames are added, what `finish` returns is their merge
 pub merged_first : (info : ThreadKey) (frames : List Held) (i : ℕ) (m : Merger) (tried : ℕ)
     (r : Result (Vec MergeScope Global) Error) → i ≡ length frames → AddedFirst (frames_bytes info frames) i m tried
     → IfOk r (λ merged. (added : List FrameBytes) → (h : HasAdded added m)
@@ -116,6 +123,7 @@ merged_first info frames i m tried (Err e) at a k = tt
 merged_first info frames i m tried (Ok merged) at a k = let all = all_first info frames i m tried at a in
     let x = k (frames_bytes info frames) all.0 in (x.0, sym all.1 ∙ x.1)
 
+-- once all frames are added, the refusal of `finish` is theirs
 pub ended_first : (info : ThreadKey) (frames : List Held) (i : ℕ) (m : Merger) (tried : ℕ)
     (r : Result (Vec MergeScope Global) Error) → i ≡ length frames → AddedFirst (frames_bytes info frames) i m tried
     → IfErr r (λ e. (added : List FrameBytes) → (h : HasAdded added m) → (e ≡ Memory) ⊎ IsRefusalAfter added

@@ -42,6 +42,7 @@ merged-reordered {xs = xs} {ys = ys} r =
     let least = least-reordered r in
     λ i. record { number = number i; total = total i; greatest = greatest i; own_start = least i }
 
+-- the sums of each path are the same in any order of occurrences
 pub merged_at-reordered : {xs ys : List Occurrence} → Reordered xs ys → merged_at xs ≡ merged_at ys
 merged_at-reordered r = λ i path. merged-reordered (filter-reordered (λ o. is_path o.path path) r) i
 
@@ -68,6 +69,7 @@ below-reordered xs ys p frames path (merged n children others) h = (
   below-reordered xs ys p frames path others h.2,
 )
 
+-- so the merge is
 pub merge-reordered : (xs ys : List Occurrence) → IsPermutation xs ys → (frames : ℕ) (f : MergedForest)
     → IsMerge xs frames f → IsMerge ys frames f
 merge-reordered xs ys p frames f m = record {

@@ -265,6 +265,7 @@ low-enough : (entries : List Entry) → Each (λ f. 0 ≤ f.parent) entries
 low-enough [] = tt
 low-enough (e ∷ entries) = (omega arith, low-enough entries)
 
+-- the forest that a table's entries make is the merge of its occurrences
 pub table-merged : (all : List Occurrence) (frames : ℕ) (path_of : ℕ → Path) (highest : ℕ) (entries : List Entry)
     → IsTable all frames path_of highest entries →
     IsMerge all frames (forest_below frames 0 entries)

@@ -157,8 +157,9 @@ eqb_other a b h = grind arith
 pub hold_more : (nodes : List Node) (frames : ℕ) (rows taken given : List Siblings) (p : OrderedNode) (x : Placement)
     (ordered_nodes : List OrderedNode) (placements : List Placement) (scope : MergeScope)
     (empty pushed r v : Siblings) (children : List MergeScope)
-    → HoldForests nodes frames rows ordered_nodes placements → EachOf (λ z. p.number.number ≡ z.number.number
-    → ⊥) ordered_nodes → p.parent.number < p.number.number → p.number.number < length rows
+    → HoldForests nodes frames rows ordered_nodes placements
+    → EachOf (λ z. p.number.number ≡ z.number.number → ⊥) ordered_nodes → p.parent.number < p.number.number
+    → p.number.number < length rows
     → taken ≡ set rows p.number.number empty → length taken ≡ length rows → given ≡ set taken p.parent.number pushed
     → pushed.items ≡ (get_or taken p.parent.number r).items ++ (scope ∷ [])
     → children ≡ reverse (get_or rows p.number.number v).items → ((others : MergedForest)
@@ -223,8 +224,8 @@ pub hold_next : (t : Table) (frames : ℕ) (rows : List Siblings) (ordered_nodes
     → below ≡ get_or rows p.number.number v → children ≡ reverse below.items
     → ((others : MergedForest)
     → scope_then scope others ≡ merged (placed_node frames n.sums p x) (forest_in children) others)
-    → HoldForests t.nodes.items frames (set (set rows p.number.number empty) p.parent.number pushed) (drop j
-    ordered_nodes) (drop j placements)
+    → HoldForests t.nodes.items frames (set (set rows p.number.number empty) p.parent.number pushed)
+    (drop j ordered_nodes) (drop j placements)
 hold_next t frames rows ordered_nodes placements i j p q x y n d scope empty pushed own below r v children are step lt
     lt_placement ordered_node placements_at node usable hold inside own_is push below_is turn is =
     let nodes = t.nodes.items in
@@ -259,8 +260,9 @@ hold_next t frames rows ordered_nodes placements i j p q x y n d scope empty pus
     (subst (λ (ps : List OrderedNode). HoldForests nodes frames
     (set (set rows p.number.number empty) p.parent.number pushed) ps (x ∷ drop i placements)) places_are step_on)
 
-no_zero : (nodes : List Node) (ordered_nodes : List OrderedNode) → ((i : ℕ) (q : OrderedNode)
-    → i < length ordered_nodes → 0 < (get_or ordered_nodes i q).number.number) → IsNot 0 ordered_nodes
+no_zero : (nodes : List Node) (ordered_nodes : List OrderedNode)
+    → ((i : ℕ) (q : OrderedNode) → i < length ordered_nodes → 0 < (get_or ordered_nodes i q).number.number)
+    → IsNot 0 ordered_nodes
 no_zero nodes [] h = tt
 no_zero nodes (p ∷ ordered_nodes) h = let low : 0 < p.number.number = h 0 p (omega arith) in
     (λ e. omega (arith, low, e), no_zero nodes ordered_nodes (λ i q lt. h (suc i) q (omega arith)))
@@ -277,8 +279,8 @@ pub top_merged : (t : Table) (frames : ℕ) (rows : List Siblings) (ordered_node
 top_merged t frames rows ordered_nodes placements r scopes are is fit hold some top all table =
     let forest : forest_in scopes
     ≡ forest_below frames 0 (entries_from t.nodes.items frames above_all ordered_nodes blank) =
-    ap forest_in top ∙ hold 0 r some (no_zero t.nodes.items ordered_nodes (λ i q lt. let of = are.each i q lt in
-    let number = of.2.number in omega (arith, number)))
+    ap forest_in top ∙ hold 0 r some (no_zero t.nodes.items ordered_nodes
+    (λ i q lt. let of = are.each i q lt in let number = of.2.number in omega (arith, number)))
     ∙ ap (λ (ds : List Placement). forest_below frames 0 (entries_of t.nodes.items ordered_nodes ds)) is
     ∙ sym (ap (forest_below frames 0) (entries_are t.nodes.items frames ordered_nodes above_all)) in (
       subst (IsMerge all frames) (sym forest) (forest_merged all t frames ordered_nodes blank table are),

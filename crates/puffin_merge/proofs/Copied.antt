@@ -25,6 +25,7 @@ node_of s = record {
 abbrev below : MergeScope → MergedForest
 below s = forest_in (out-MergeScope s).children.items
 
+-- what contracts see of a scope is its node, the forest of its children, and the scopes after it
 pub seen_as : (s : MergeScope) (others : MergedForest) → scope_then s others ≡ merged (node_of s) (below s) others
 unfolding out-MergeScope Rattle.puffin_merge.specs.declared.merge.scope.MergeScope.TheBlock.shown-the_row-MergeScope-0
     denote.Hole.Carrier.out
@@ -62,13 +63,15 @@ same_push xs ys zs s t is e f =
 
 -- ---- one scope
 
+-- a scope with the same fields, and children that are seen as the same, is seen as the same
 pub same_scope : (s : MergeScope) (start total per_frame greatest : ℤ) (pieces id : ℕ) (text : CowStr Global)
     (children : Siblings)
     → start ≡ (out-MergeScope s).relative_start_ns → total ≡ (out-MergeScope s).total_duration_ns
     → per_frame ≡ (out-MergeScope s).duration_per_frame_ns → greatest ≡ (out-MergeScope s).max_duration_ns
     → pieces ≡ (out-MergeScope s).num_pieces → id ≡ (out-MergeScope s).id
     → cow_str_bytes text ≡ cow_str_bytes (out-MergeScope s).text → forest_in children.items ≡ below s
-    → forest_in (roll-MergeScope (record {
+    → forest_in (roll-MergeScope
+    (record {
       relative_start_ns = start;
       total_duration_ns = total;
       duration_per_frame_ns = per_frame;
@@ -77,7 +80,8 @@ pub same_scope : (s : MergeScope) (start total per_frame greatest : ℤ) (pieces
       id = id;
       text = text;
       children = children;
-    }) ∷ []) ≡ forest_in (s ∷ [])
+    }) ∷ [])
+    ≡ forest_in (s ∷ [])
 same_scope s start total per_frame greatest pieces id text children e1 e2 e3 e4 e5 e6 e7 e8 =
     made_then start total per_frame greatest pieces id text children no_node
     ∙ (λ i. merged (record {
@@ -92,6 +96,7 @@ same_scope s start total per_frame greatest pieces id text children e1 e2 e3 e4 
 
 -- ---- the children so far
 
+-- one element more of the first ones of a list
 pub one_more : (xs : List MergeScope) (i : ℕ) (x : MergeScope) → i < length xs → x ≡ get_or xs i x
     → take (i + 1) xs ≡ take i xs ++ (x ∷ [])
 one_more [] i x lt e = absurd (omega arith)
@@ -99,6 +104,7 @@ one_more (y ∷ xs) zero x lt e = ap (λ (z : MergeScope). z ∷ []) (sym e)
 one_more (y ∷ xs) (suc i) x lt e = let step : suc i + 1 ≡ suc (i + 1) = omega arith in
     ap (λ (n : ℕ). take n (y ∷ xs)) step ∙ ap (λ (zs : List MergeScope). y ∷ zs) (one_more xs i x (omega arith) e)
 
+-- the first ones are all, if they are as many
 pub all_taken : (xs : List MergeScope) (i : ℕ) → length xs ≤ i → take i xs ≡ xs
 all_taken xs i h = take_all i xs h
 

@@ -20,17 +20,20 @@ no_place = record {
   number = record { number = 0 };
 }
 
+-- an ordered node's number is at least 1
 pub place_low : (nodes : List Node) (ordered_nodes : List OrderedNode) (i : ℕ) (q : OrderedNode)
     → AreOrderedNodesOf nodes ordered_nodes → i < length ordered_nodes → 1 ≤ (get_or ordered_nodes i q).number.number
 place_low nodes ordered_nodes i q are lt =
     let (k, inside, at) = are.each i q lt in let number = at.number in omega arith
 
+-- an ordered node's number is that of a node of the table
 pub place_high : (nodes : List Node) (ordered_nodes : List OrderedNode) (i : ℕ) (q : OrderedNode)
     → AreOrderedNodesOf nodes ordered_nodes → i < length ordered_nodes
     → (get_or ordered_nodes i q).number.number - 1 < length nodes
 place_high nodes ordered_nodes i q are lt =
     let (k, inside, at) = are.each i q lt in let number = at.number in omega arith
 
+-- the total of an ordered node's node fits `i64`
 pub small_at : (t : Table) (ordered_nodes : List OrderedNode) (i : ℕ) (q : OrderedNode) (n d : Node)
     → (all : List Occurrence) × IsTableOf all t → AreOrderedNodesOf t.nodes.items ordered_nodes
     → i < length ordered_nodes → n ≡ get_or t.nodes.items ((get_or ordered_nodes i q).number.number - 1) d
@@ -43,8 +46,8 @@ small_at t ordered_nodes i q n d some are lt e =
 placements_step : (nodes : List Node) (frames : ℕ) (last : Placement) (ordered_nodes : List OrderedNode) (i : ℕ)
     (q : OrderedNode) (d : Node) → i < length ordered_nodes
     → placements_from nodes frames last (drop i ordered_nodes) d
-    ≡ next_placement nodes frames last (get_or ordered_nodes i q) d ∷ placements_from nodes frames (next_placement
-    nodes frames last (get_or ordered_nodes i q) d) (drop (i + 1) ordered_nodes) d
+    ≡ next_placement nodes frames last (get_or ordered_nodes i q) d ∷ placements_from nodes frames
+    (next_placement nodes frames last (get_or ordered_nodes i q) d) (drop (i + 1) ordered_nodes) d
 placements_step nodes frames last ordered_nodes i q d lt =
     ap (λ (ps : List OrderedNode). placements_from nodes frames last ps d) (drop_more ordered_nodes i q lt)
 
@@ -74,6 +77,7 @@ placements_more nodes frames last next ordered_nodes i q n d e done all are lt s
     ∙ sym (append_assoc done (next ∷ []) (placements_from nodes frames next (drop (i + 1) ordered_nodes) d)) ∙ ap
     (λ (xs : List Placement). xs ++ placements_from nodes frames next (drop (i + 1) ordered_nodes) d) (sym pushed)
 
+-- one more placement whose end fits
 pub fit_push : (done all : List Placement) (next : Placement) → all ≡ done ++ (next ∷ []) → EachOf EndFits done
     → EndFits next → EachOf EndFits all
 fit_push done all next e h x = subst (EachOf EndFits) (sym e) (push done h x) where

@@ -118,6 +118,7 @@ parents_known all t (p ∷ ordered_nodes) known table of row top h = (
               (not_after all t p.parent.number ordered_nodes table of.1 (each_at_least p ordered_nodes row.0) more)
         ]
 
+-- if all ends of the table's forest fit, so do those of all placements
 pub ends_of_forest : (all : List Occurrence) (t : Table) (frames : ℕ) (ordered_nodes : List OrderedNode) (d : Node)
     → IsTableOf all t → AreOrderedNodesOf t.nodes.items ordered_nodes
     → EndsFit (forest_below frames 0 (entries_from t.nodes.items frames above_all ordered_nodes d))
@@ -130,8 +131,9 @@ ends_of_forest all t frames ordered_nodes d table are fit =
     (forest_below frames n (entries_from t.nodes.items frames above_all ordered_nodes d))) (sym e) fit)
   where
     named : (q : ℕ) → 0 < q → q ≤ length t.nodes.items → SomeOf (λ z. z.number.number ≡ q) ordered_nodes
-    named q low high = let e : (q - 1) + 1 ≡ q = omega arith in subst (λ (n : ℕ). SomeOf
-        (λ (z : OrderedNode). z.number.number ≡ n) ordered_nodes) e (are.whole (q - 1) (omega arith))
+    named q low high = let e : (q - 1) + 1 ≡ q = omega arith in
+        subst (λ (n : ℕ). SomeOf (λ (z : OrderedNode). z.number.number ≡ n) ordered_nodes) e
+        (are.whole (q - 1) (omega arith))
 
 -- an end that doesn't fit is one of the merge
 pub ends_refused_by : (t : Table) (frames : ℕ) (ordered_nodes : List OrderedNode)
@@ -195,6 +197,7 @@ pub record Usable (t : Table) (p : OrderedNode) (n : Node) : Type 0 where
   pub small : n.sums.total < 2 ^ 63
   pub greatest : n.sums.greatest < 2 ^ 63
 
+-- each ordered node has a node in the table, behind its parent, and its sums fit
 pub usable : (t : Table) (ordered_nodes : List OrderedNode) (i : ℕ) (p q : OrderedNode) (n d : Node)
     → (all : List Occurrence) × IsTableOf all t → AreOrderedNodesOf t.nodes.items ordered_nodes
     → i < length ordered_nodes → p ≡ get_or ordered_nodes i q → n ≡ get_or t.nodes.items (p.number.number - 1) d
@@ -220,6 +223,7 @@ usable t ordered_nodes i p q n d some are lt e en =
       greatest = omega arith;
     }
 
+-- there is one placement for each ordered node
 pub placements_size : (nodes : List Node) (frames : ℕ) (ordered_nodes : List OrderedNode) (before : Placement)
     (d : Node) → length (placements_from nodes frames before ordered_nodes d) ≡ length ordered_nodes
 placements_size nodes frames [] before d = refl

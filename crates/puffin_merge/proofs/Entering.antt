@@ -38,6 +38,7 @@ shallow v w around s low stands = let depth = stands.depth in omega (arith, path
 abbrev pub counted_start : ℤ → Result ℤ Error
 counted_start t = cond (fits_i64 t) (Ok t) (Err TooLarge)
 
+-- a start that is returned is the counted one, and fits
 pub ok_start : (t own : ℤ) → ◌≡◌ {A = Result ℤ Error} (Ok own) (counted_start t) → (own ≡ t) × FitsSigned w64 t
 ok_start t own e = by_test (fits_i64 t) refl e where
   by_test : (b : Bool) → fits_i64 t ≡ b → ◌≡◌ {A = Result ℤ Error} (Ok own) (cond b (Ok t) (Err TooLarge))
@@ -60,6 +61,7 @@ err_start t fault e = by_test (fits_i64 t) refl e where
 pub origin_fits : (t : ℤ) → IsOrigin t → FitsSigned w128 t
 origin_fits t h = let low = h.low in let high = h.high in omega (arith, ints)
 
+-- a time fits `i128`
 pub time_fits : (t : ℤ) → FitsSigned w64 t → FitsSigned w128 t
 time_fits t h = omega (arith, ints)
 
@@ -67,9 +69,11 @@ time_fits t h = omega (arith, ints)
 pub passed_64 : (t : ℤ) → FitsSigned w64 t → to_z w64 (of_z w64 t) ≡ t
 passed_64 t h = to_z-of_z w64 t h
 
+-- a number that fits stays the same when it is passed on as bits
 pub passed_128 : (t : ℤ) → FitsSigned w128 t → to_z w128 (of_z w128 t) ≡ t
 passed_128 t h = to_z-of_z w128 t h
 
+-- a scope whose own start doesn't fit is refused
 pub start_refused : (v : Merging) (w : OpenScope) (s : Span) (t : ℤ) (fault : Error)
     → w.depth < 1024 → t ≡ s.start -ℤ w.origin → ◌≡◌ {A = Result ℤ Error} (Err fault) (counted_start t)
     → Refusing RefusesScope StandsFor v w s fault
@@ -83,7 +87,8 @@ start_refused v w s t fault low is e =
       no.1,
     )
 
--- what the table is given for a scope below an open scope: the parent's number, the scope's label, its own start and its duration
+-- what the table is given for a scope below an open scope: the parent's number, the scope's label, its own start and its
+-- duration
 pub record IsGiven (w : OpenScope) (s : Span) (key : KeyRef) (own : ℤ) (duration : ℕ) : Type 0 where
   pub low : w.depth < 1024
   pub parent : key.parent.number ≡ w.node.number
@@ -103,6 +108,7 @@ given v w around s key own duration stands is =
     let own-is : own ≡ s.start -ℤ origin_in v.origin around = is.start ∙ ap (λ (o : ℤ). s.start -ℤ o) stands.origin in
     λ i. record { path = path i; own_start = own-is i; duration = is.lasts i }
 
+-- a scope whose path's sums don't fit is refused, or memory ran out
 pub sums_refused : (v : Merging) (w : OpenScope) (s : Span) (key : KeyRef) (own : ℤ) (duration : ℕ) (fault : Error)
     → IsGiven w s key own duration
     → (fault ≡ Memory) ⊎ ((fault ≡ TooLarge) × ((all : List Occurrence)

@@ -36,8 +36,8 @@ skips : (nodes : List Node)
     → eqb p.parent.number parent ≡ false → children_of parent (entries_from nodes frames before (p ∷ ordered_nodes) d)
     ≡ children_of parent (rest_of nodes frames before p ordered_nodes d)
 skips nodes frames before parent p ordered_nodes d e =
-    ap (λ (b : Bool). cond b (entry_of nodes p (next_placement nodes frames before p d)
-    d ∷ children_of parent (rest_of nodes frames before p ordered_nodes d))
+    ap (λ (b : Bool). cond b (entry_of nodes p (next_placement nodes frames before p d) d
+    ∷ children_of parent (rest_of nodes frames before p ordered_nodes d))
     (children_of parent (rest_of nodes frames before p ordered_nodes d))) e
 
 takes : (nodes : List Node) (frames : ℕ) (before : Placement) (parent : ℕ) (p : OrderedNode)
@@ -45,8 +45,8 @@ takes : (nodes : List Node) (frames : ℕ) (before : Placement) (parent : ℕ) (
     → children_of parent (entries_from nodes frames before (p ∷ ordered_nodes) d) ≡ entry_of nodes p (next_placement
     nodes frames before p d) d ∷ children_of parent (rest_of nodes frames before p ordered_nodes d)
 takes nodes frames before parent p ordered_nodes d e =
-    ap (λ (b : Bool). cond b (entry_of nodes p (next_placement nodes frames before p d)
-    d ∷ children_of parent (rest_of nodes frames before p ordered_nodes d))
+    ap (λ (b : Bool). cond b (entry_of nodes p (next_placement nodes frames before p d) d
+    ∷ children_of parent (rest_of nodes frames before p ordered_nodes d))
     (children_of parent (rest_of nodes frames before p ordered_nodes d))) e
 
 -- no child of a parent that stands before
@@ -142,6 +142,7 @@ is_child nodes frames parent p ordered_nodes before d of e h =
     (h ∙ ap (λ (t : ℤ). earliest_starts t (siblings_of frames (children_of parent rest))) free)
     ∙ ap (λ (es : List Entry). earliest_starts (free_of parent before) (siblings_of frames es)) (sym take)
 
+-- the children of each parent have the earliest starts
 pub starts_earliest : (nodes : List Node) (frames parent : ℕ) (ordered_nodes : List OrderedNode)
     (before : Placement) (d : Node) → AllByRecursion (IsOrderedNodeOf nodes) ordered_nodes → InRow ordered_nodes
     → EachOf (λ q. before.parent ≤ q.parent.number) ordered_nodes

@@ -106,8 +106,9 @@ is_some s f e = true≢false (ap has_none (e ∙ seen_as s f))
 children_are : (start total per_frame greatest : ℤ) (pieces id : ℕ) (text : _) (shape : _) (row : _) → children_of
     (MergeScope' start total per_frame greatest pieces id text shape row) ≡ items-the_row-MergeScope _ row
 children_are start total per_frame greatest pieces id text shape row =
-    ap (λ (o : MergeScope-F MergeScope). o.children.items) (outs-MergeScope' start total per_frame greatest pieces id
-    text shape row) ∙ items_shown-the_row-MergeScope-0 shape row
+    ap (λ (o : MergeScope-F MergeScope). o.children.items)
+    (outs-MergeScope' start total per_frame greatest pieces id text shape row)
+    ∙ items_shown-the_row-MergeScope-0 shape row
 
 module _ (eq : MergeScope → MergeScope → Bool)
     (is : (s t : MergeScope) → eq s t ≡ are_equal s t (pointwise eq (children_of s) (children_of t))) where
@@ -121,8 +122,8 @@ module _ (eq : MergeScope → MergeScope → Bool)
         (sym (children_are start total per_frame greatest pieces id text shape row))
         (rows_decided _ row (children_of t))))
 
-    rows_decided : (m : _) (row : Row_of-MergeScope m) (ys : List MergeScope) → Decides (pointwise eq
-        (items-the_row-MergeScope m row) ys) (forest_in (items-the_row-MergeScope m row) ≡ forest_in ys)
+    rows_decided : (m : _) (row : Row_of-MergeScope m) (ys : List MergeScope) → Decides
+        (pointwise eq (items-the_row-MergeScope m row) ys) (forest_in (items-the_row-MergeScope m row) ≡ forest_in ys)
     rows_decided m end_of-MergeScope [] = (λ e. refl, λ e. refl)
     rows_decided m end_of-MergeScope (y ∷ ys) =
         (λ e. absurd (true≢false (sym e)), λ e. absurd (is_some y (forest_in ys) e))
@@ -170,9 +171,10 @@ is_local step is r t n a member-MergeScope s u p q =
     (children_of u) (omega arith) (omega arith))
     ∙ sym (is t s u)
 
+-- a comparison that goes through all fields and all children decides whether contracts see two scopes as the same
 pub equal_where : (step : Comparison → Comparison) → ComparesAll step → (s t : MergeScope)
-    → Decides (compared the_members the_family the_depth Bool true step member-MergeScope s t) (forest_in (s ∷ [])
-    ≡ forest_in (t ∷ []))
+    → Decides (compared the_members the_family the_depth Bool true step member-MergeScope s t)
+    (forest_in (s ∷ []) ≡ forest_in (t ∷ []))
 equal_where step is =
     let eq = compared the_members the_family the_depth Bool true step in
     all_decided (eq member-MergeScope) (λ s t. compared_is the_members the_family the_depth Bool true step

@@ -61,13 +61,15 @@ early_drawn = refl
 in_three_frames : ℕ → ℕ → ℕ → FrameScopes
 in_three_frames range from to = record { start = pos range; forest = scope 1 from to empty empty }
 
-three : merged_at (occurrences (in_three_frames 100 100 300 ∷ in_three_frames 1100 1100 1300 ∷ in_three_frames 2100
-    2100 2110 ∷ [])) (label 1 ∷ []) ≡ record { number = 3; total = 410; greatest = 200; own_start = pos 100 }
+three : merged_at
+    (occurrences (in_three_frames 100 100 300 ∷ in_three_frames 1100 1100 1300 ∷ in_three_frames 2100 2100 2110 ∷ []))
+    (label 1 ∷ []) ≡ record { number = 3; total = 410; greatest = 200; own_start = pos 100 }
 unfolding in_three_frames
 three = simp (no_text)
 
 -- the third frame first
-third_first : merged_at (occurrences (in_three_frames 2100 2100 2110 ∷ in_three_frames 100 100 300 ∷ in_three_frames
-    1100 1100 1300 ∷ [])) (label 1 ∷ []) ≡ record { number = 3; total = 410; greatest = 200; own_start = pos 2100 }
+third_first : merged_at
+    (occurrences (in_three_frames 2100 2100 2110 ∷ in_three_frames 100 100 300 ∷ in_three_frames 1100 1100 1300 ∷ []))
+    (label 1 ∷ []) ≡ record { number = 3; total = 410; greatest = 200; own_start = pos 2100 }
 unfolding in_three_frames
 third_first = simp (no_text)

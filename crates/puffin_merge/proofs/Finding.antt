@@ -1,5 +1,5 @@
--- Nodes are found by their keys, also after one more text and after one more node. Each proof of that goes by cases: a look-up asks
--- for the new text or key, or for another one, which is found as before.
+-- Nodes are found by their keys, also after one more text and after one more node. Each proof of that goes by cases: a look-up
+-- asks for the new text or key, or for another one, which is found as before.
 use Rattle.std.proofs.Common.{◌≡◌, ℕ, zero, suc, ◌+◌, ◌-◌, ◌<◌, ◌≤◌, Bool, true, false, cond, List, [], ◌∷◌, ◌++◌, length, get_or, set, Option, Some, None, refl, sym, ap, subst, ◌∙◌, arith, inl, inr, vec_len}
 use Rattle.std.specs.Prelude.{string_bytes, string_cmp}
 use Rattle.std.proofs.lemmas.Bool.{cases_lt}
@@ -34,9 +34,9 @@ numbered_ref asked text = record { parent = asked.parent; id = asked.id; text = 
 -- ---- keys with the number of their text
 
 numbered_key_cmp_total : IsTotalOrder numbered_key_cmp
-numbered_key_cmp_total =
-    then_total (on_total (λ (k : NumberedKey). k.parent.number) nat_cmp_total) (then_total (on_total
-    (λ (k : NumberedKey). k.id) nat_cmp_total) (on_total (λ (k : NumberedKey). k.text.number) nat_cmp_total))
+numbered_key_cmp_total = then_total (on_total (λ (k : NumberedKey). k.parent.number) nat_cmp_total)
+    (then_total (on_total (λ (k : NumberedKey). k.id) nat_cmp_total)
+    (on_total (λ (k : NumberedKey). k.text.number) nat_cmp_total))
 
 record IsSameNumberedKey (a b : NumberedKey) : Type 0 where
   parent : a.parent.number ≡ b.parent.number
@@ -72,6 +72,7 @@ number_by t bytes = lookup (is_at (λ (k : String Global). slice_cmp nat_cmp byt
 
 -- ---- keys with their text
 
+-- keys are the same either way round
 pub turned_keys : (a b : Key) → IsSameKey a b → IsSameKey b a
 turned_keys a b x = record { parent = sym x.parent; label = sym x.label }
 
@@ -217,6 +218,7 @@ text_more t u own x f nodes numbers is wide absent updates = record {
 
 -- ---- one node more
 
+-- within a list it makes no difference what would stand for an element beyond it
 pub same_at : (nodes : List Node) (i : ℕ) (d e : Node) → i < length nodes → get_or nodes i d ≡ get_or nodes i e
 same_at [] i d e h = absurd (omega arith)
 same_at (n ∷ nodes) zero d e h = refl
@@ -349,6 +351,7 @@ found_more t u key text n x f has_text texts items is number updates fresh = rec
 
 -- ---- a node with other sums
 
+-- the keys of all nodes stay if a node with the same key is put in its place
 pub key_at-set : (nodes : List Node) (i : ℕ) (n d : Node) (k : ℕ) → n.key ≡ (get_or nodes i d).key → i < length nodes
     → (get_or (set nodes i n) k d).key ≡ (get_or nodes k d).key
 key_at-set [] i n d k e h = absurd (omega arith)

@@ -49,8 +49,8 @@ length_mapped f (x ∷ xs) = let e = length_mapped f xs in omega arith
 more_scopes : (frames : List FrameBytes) (i : ℕ) (f : FrameBytes) (forest : Forest) (t u : Table) (tried made : ℕ)
     → take (i + 1) frames ≡ take i frames ++ (f ∷ []) → (r : HasRead frames i t tried)
     → Spells (form_of f) (bytes_of f) forest → length (bytes_of f) < 2 ^ 63
-    → AreAccepted (occurrences_from (start_of frames) r.scopes) (occurrences_of (start_of frames)
-    (record { start = f.start; forest = forest }))
+    → AreAccepted (occurrences_from (start_of frames) r.scopes)
+    (occurrences_of (start_of frames) (record { start = f.start; forest = forest }))
     → IsTableOf (occurrences_from (start_of frames) r.scopes
     ++ occurrences_of (start_of frames) (record { start = f.start; forest = forest })) u
     → made ≡ length (nested_in [] forest) → HasRead frames (i + 1) u (tried + made)
@@ -77,6 +77,7 @@ more_scopes frames i f forest t u tried made split r spells short accepted table
       );
     }
 
+-- one frame more was read, and all of its scopes were taken
 pub read_more : (frames : List FrameBytes) (i : ℕ) (f : FrameBytes) (v w : Merging) (tried made : ℕ)
     → take (i + 1) frames ≡ take i frames ++ (f ∷ []) → v.origin ≡ f.start -ℤ start_of frames
     → HasRead frames i v.table tried → TakesAll (form_of f) TakesScopes v w (bytes_of f) made
@@ -125,10 +126,12 @@ read_refused frames i f v w tried made e split origin r (inr s) =
 
 -- ---- all frames
 
+-- all elements of a list
 pub take_all : {A : Type 0} (xs : List A) → take (length xs) xs ≡ xs
 take_all [] = refl
 take_all (x ∷ xs) = ap (λ (ys : List _). x ∷ ys) (take_all xs)
 
+-- the first frame's start is that of its scopes
 pub starts_same : (frames : List FrameBytes) (scopes : List FrameScopes) → HaveScopes frames scopes
     → start_of frames ≡ first_start scopes
 starts_same [] [] h = refl
@@ -144,6 +147,7 @@ have_all frames scopes i e h =
 abbrev Whole : List FrameBytes → MergedForest → ℕ → Type 0
 Whole frames f tried = (m : AreMerged frames f) × (tried ≡ length (occurrences m.scopes))
 
+-- once all frames are read, their merge is that of the table
 pub read_whole : (frames : List FrameBytes) (i : ℕ) (t : Table) (tried : ℕ) (f : MergedForest) → i ≡ length frames
     → HasRead frames i t tried
     → ((all : List Occurrence) → IsTableOf all t → IsMerge all (length frames) f × EndsFit f) → Whole frames f tried
@@ -162,6 +166,7 @@ read_whole frames i t tried f e r merge =
       r.tries ∙ ap length same,
     )
 
+-- once all frames are read, an end that doesn't fit refuses the merge
 pub ends_refused : (frames : List FrameBytes) (i : ℕ) (t : Table) (tried : ℕ) (e : Error) → i ≡ length frames
     → HasRead frames i t tried
     → (e ≡ Memory) ⊎ ((e ≡ TooLarge) × ((all : List Occurrence) → IsTableOf all t → (f : MergedForest)
@@ -172,8 +177,8 @@ ends_refused frames i t tried e at r (inr ends) =
     let same : occurrences_from (start_of frames) r.scopes ≡ occurrences r.scopes =
     ap (λ (s : ℤ). occurrences_from s r.scopes) (starts_same frames r.scopes have) in
     let m = ends.1 (occurrences r.scopes) (subst (λ (xs : List Occurrence). IsTableOf xs t) same r.table) in
-    inr (subst (IsRefusalAfter frames tried) (sym ends.0)
-    (subst (λ (n : ℕ). IsRefusalAfter frames n TooLarge) (sym (r.tries ∙ ap length same))
+    inr (subst (IsRefusalAfter frames tried)
+    (sym ends.0) (subst (λ (n : ℕ). IsRefusalAfter frames n TooLarge) (sym (r.tries ∙ ap length same))
     (at_end r.scopes m.0 have (subst (λ (xs : List Occurrence). AreAccepted [] xs) same r.accepted) m.1 m.2)))
 
 -- without frames there is nothing to merge
@@ -194,6 +199,7 @@ none_merged = record {
   deeper = tt;
 }
 
+-- no frames are merged into no scopes
 pub read_no_frames : (frames : List FrameBytes) (i : ℕ) (t : Table) (tried : ℕ) → length frames ≡ 0
     → i ≡ length frames → HasRead frames i t tried → Whole frames no_node tried
 read_no_frames frames i t tried none e r =
@@ -215,6 +221,7 @@ read_no_frames frames i t tried none e r =
 
 -- ---- how often scopes were tried to be read
 
+-- the tries stay within the bounds with one frame more
 pub tries_more : (frames : List FrameBytes) (i : ℕ) (f : FrameBytes) (tried made : ℕ)
     → take (i + 1) frames ≡ take i frames ++ (f ∷ []) → tried ≤ most_tries (take i frames) → made ≤ most_tries_of f
     → tried + made ≤ most_tries (take (i + 1) frames)
@@ -230,6 +237,7 @@ take_next f [] i x lt e = absurd (omega arith)
 take_next f (y ∷ xs) zero x lt e = ap (λ z. f z ∷ []) (sym e)
 take_next f (y ∷ xs) (suc i) x lt e = ap (λ zs. f y ∷ zs) (take_next f xs i x (omega arith) e)
 
+-- one mapped element more
 pub take_push : {A B : Type 0} (f : A → B) (xs : List A) (i : ℕ) (x : A) → i < length xs → x ≡ get_or xs i x
     → take (i + 1) (map f xs) ≡ take i (map f xs) ++ (f x ∷ [])
 take_push f xs i x lt e =
@@ -241,11 +249,13 @@ split_next f [] i x lt e = absurd (omega arith)
 split_next f (y ∷ xs) zero x lt e = ap (λ z. f z ∷ map f xs) (sym e)
 split_next f (y ∷ xs) (suc i) x lt e = ap (λ zs. f y ∷ zs) (split_next f xs i x (omega arith) e)
 
+-- a mapped list around one of its elements
 pub split_at : {A B : Type 0} (f : A → B) (xs : List A) (i : ℕ) (x : A) → i < length xs → x ≡ get_or xs i x
     → map f xs ≡ take i (map f xs) ++ (f x ∷ drop (i + 1) (map f xs))
 split_at f xs i x lt e = let one : suc i ≡ i + 1 = omega arith in
     split_next f xs i x lt e ∙ ap (λ (n : ℕ). take i (map f xs) ++ (f x ∷ drop n (map f xs))) one
 
+-- mapping keeps the length
 pub size_mapped : {A B : Type 0} (f : A → B) (xs : List A) → length (map f xs) ≡ length xs
 size_mapped f xs = length_mapped f xs
 
@@ -255,6 +265,7 @@ tries_of_all frames i n h =
     subst (λ (xs : List FrameBytes). n ≤ most_tries xs) (take-append-drop i frames)
     (omega (arith, h, sum_by-append most_tries_of (take i frames) (drop i frames)))
 
+-- a bound for some frames is one for one frame more
 pub one_more_tries : (frames : List FrameBytes) (i n : ℕ) → n ≤ most_tries (take i frames)
     → n ≤ most_tries (take (i + 1) frames)
 one_more_tries frames i n h = tries_of_all (take (i + 1) frames) i n

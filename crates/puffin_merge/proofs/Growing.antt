@@ -41,11 +41,12 @@ kept b o pieces e = ap (λ c. pieces ++ cond c (o ∷ []) []) e ∙ append-nil p
   append-nil [] = refl
   append-nil (x ∷ xs) = ap (λ l. x ∷ l) (append-nil xs)
 
+-- an occurrence of another path leaves a path's sums
 pub merged_at-other : (all : List Occurrence) (o : Occurrence) (path : Path) → is_path o.path path ≡ false
     → merged_at (all ++ (o ∷ [])) path ≡ merged_at all path
 merged_at-other all o path e =
-    ap merged_of (filter-append (λ q. is_path q.path path) all (o ∷ [])
-    ∙ kept (is_path o.path path) o (pieces_at all path) e)
+    ap merged_of
+    (filter-append (λ q. is_path q.path path) all (o ∷ []) ∙ kept (is_path o.path path) o (pieces_at all path) e)
 
 pushed : (b : Bool) (o : Occurrence) (pieces : List Occurrence) → b ≡ true
     → pieces ++ cond b (o ∷ []) [] ≡ pieces ++ (o ∷ [])

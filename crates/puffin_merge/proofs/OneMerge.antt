@@ -67,8 +67,9 @@ one_rising cmp total (x ∷ xs) (y ∷ ys) r s f g =
 
 -- ---- the labels of a row are those that occur
 
-has_label : (labels : List Label) (path : Path) (l : Label) (all : List Occurrence) → AllByRecursion (λ o. (m : Label)
-    → o.path ≡ below path m → Contains labels m) all → 0 < length (pieces_at all (below path l)) → Contains labels l
+has_label : (labels : List Label) (path : Path) (l : Label) (all : List Occurrence)
+    → AllByRecursion (λ o. (m : Label) → o.path ≡ below path m → Contains labels m) all
+    → 0 < length (pieces_at all (below path l)) → Contains labels l
 has_label labels path l [] w h = absurd (omega arith)
 has_label labels path l (o ∷ all) (here, others) h =
     by_test (is_path o.path (below path l)) refl (λ k. has_label labels path l all others k) h where
@@ -182,6 +183,7 @@ one_below (merged n c o) (merged m d p) all frames path e a b =
     let later = one_below o p all frames path others a.2 b.2 in
     λ i. merged (first i) (inner i) (later i)
 
+-- occurrences have at most one merge
 pub one_merge : (all : List Occurrence) (frames : ℕ) (f g : MergedForest) → IsMerge all frames f
     → IsMerge all frames g → f ≡ g
 one_merge all frames f g a b =

@@ -135,6 +135,7 @@ not_in_frame w frames earlier later frame early f refusal tries split have m is 
     (subst (λ (s : ℤ). AreAccepted (occurrences_from first early) (occurrences_in (s -ℤ first)
     (nested_in [] this.forest) ++ occurrences_from first at.later)) at.has.start accepted) is
 
+-- frames have at most one merge
 pub merged_once : Walks → (frames : List FrameBytes) (f g : MergedForest) → AreMerged frames f
     → AreMerged frames g → f ≡ g
 merged_once w frames f g a b =
@@ -152,6 +153,7 @@ not_after w frames f tries refusal m (at_end scopes g have accepted merge unfit)
     (subst (λ (xs : List FrameScopes). IsMerge (occurrences xs) (length frames) f) same m.merge) merge in
     unfit (subst EndsFit one m.ends)
 
+-- frames that have a merge have no refusal
 pub not_both : Walks → (frames : List FrameBytes) (f : MergedForest) (refusal : Error) → AreMerged frames f
     → IsMergeRefusal frames refusal → ⊥
 not_both w frames f refusal m (tries, is) = not_after w frames f tries refusal m is

@@ -16,6 +16,7 @@ use Rattle.puffin_merge.specs.inner.Tables.{with_path, paths_of, keys_in, path_a
 
 -- ---- one path
 
+-- two orders together tie only if both do
 pub ties : (r s : Ordering) → ordering_then r s ≡ Equal → (r ≡ Equal) × (s ≡ Equal)
 ties Less s e = cc
 ties Equal s e = (refl, e)
@@ -28,16 +29,20 @@ label_cmp-one x y e =
     let texts = slice_cmp-IsAntisymmetric nat_cmp-IsAntisymmetric x.text y.text both.1 in
     λ i. record { id = ids i; text = texts i }
 
+-- the order of labels is total
 pub label_cmp_total : IsTotalOrder label_cmp
 label_cmp_total =
     then_total (on_total (λ (l : Label). l.id) nat_cmp_total) (on_total (λ (l : Label). l.text) nat_list_cmp_total)
 
+-- `is_path` tells whether two paths are the same
 pub one_path : (p q : Path) → is_path p q ≡ true → p ≡ q
 one_path p q e = slice_cmp-IsAntisymmetric label_cmp-one p q ((Equal-is (slice_cmp label_cmp p q)).0 e)
 
+-- the same path passes the test
 pub same_path : (p q : Path) → p ≡ q → is_path p q ≡ true
 same_path p q e = subst (λ (x : Path). is_path p x ≡ true) e ((eq_by_cmp_equiv (lists_total label_cmp_total)).refl p)
 
+-- another path fails the test
 pub other_path : (p q : Path) → (p ≡ q → ⊥) → is_path p q ≡ false
 other_path p q apart = by_test (is_path p q) refl where
   by_test : (b : Bool) → is_path p q ≡ b → is_path p q ≡ false
@@ -58,6 +63,7 @@ length_from paths (k ∷ keys) = omega (
   length_push paths (below (get_or paths k.parent.number []) (key_label k)),
 )
 
+-- there is one path for each node, and one for the top
 pub length-paths : (keys : List Key) → length (paths_of keys) ≡ length keys + 1
 length-paths keys = omega (arith, length_from ([] ∷ []) keys)
 
@@ -70,6 +76,7 @@ paths-push nodes n = ap paths_of (map-append (λ (x : Node). x.key) nodes (n ∷
 length-paths_in : (nodes : List Node) → length (paths_of (keys_in nodes)) ≡ length nodes + 1
 length-paths_in nodes = omega (arith, length-paths (keys_in nodes), length-map nodes (λ (x : Node). x.key))
 
+-- the paths of the nodes stay when a node is added
 pub path_at-kept : (nodes : List Node) (n : Node) (p : ℕ) → p ≤ length nodes
     → path_at (nodes ++ (n ∷ [])) p ≡ path_at nodes p
 path_at-kept nodes n p h =
@@ -77,6 +84,7 @@ path_at-kept nodes n p h =
     ∙ get_or_append_left (paths_of (keys_in nodes)) (below (path_at nodes n.key.parent.number) (key_label n.key) ∷ [])
     [] p (omega (arith, length-paths_in nodes))
 
+-- the new node's path is its label below its parent's path
 pub path_at-new : (nodes : List Node) (n : Node) (p : ℕ) → p ≡ length nodes + 1
     → path_at (nodes ++ (n ∷ [])) p ≡ below (path_at nodes n.key.parent.number) (key_label n.key)
 path_at-new nodes n p e =

@@ -59,10 +59,11 @@ one_entry all t p x d table of =
           (is.sums ∙ ap (λ (j : ℕ). merged_at all (path_at nodes j)) (sym number)) is.some;
     }
 
+-- each entry has the path and the sums of its node
 pub each_entry : (all : List Occurrence) (t : Table) (frames : ℕ) (ordered_nodes : List OrderedNode)
     (before : Placement) (d : Node) → IsTableOf all t → AllByRecursion (IsOrderedNodeOf t.nodes.items) ordered_nodes
-    → Each (IsEntry (merged_at all) (path_at t.nodes.items) (vec_len t.nodes)) (entries_from t.nodes.items frames
-    before ordered_nodes d)
+    → Each (IsEntry (merged_at all) (path_at t.nodes.items) (vec_len t.nodes))
+    (entries_from t.nodes.items frames before ordered_nodes d)
 each_entry all t frames [] before d table h = tt
 each_entry all t frames (p ∷ ordered_nodes) before d table h = (
   one_entry all t p (next_placement t.nodes.items frames before p d) d table h.0,
@@ -78,6 +79,7 @@ some_entry nodes frames (p ∷ ordered_nodes) before d k path e (inl h) = inl (a
 some_entry nodes frames (p ∷ ordered_nodes) before d k path e (inr h) =
     inr (some_entry nodes frames ordered_nodes _ d k path e h)
 
+-- each occurrence has an entry
 pub whole_entries : (all : List Occurrence) (t : Table) (frames : ℕ) (before : Placement)
     (ordered_nodes : List OrderedNode) (d : Node) → IsTableOf all t → AreOrderedNodesOf t.nodes.items ordered_nodes
     → All (λ o. Some_of (λ e. path_at t.nodes.items e.number ≡ o.path)
@@ -154,8 +156,9 @@ stands_before all t p q x y d table of og h other =
           let less =
           less_of (nat_cmp p.parent.number q.parent.number) (int_cmp p.own_start q.own_start) (nat_cmp p.id q.id)
           (slice_cmp nat_cmp p.text.now q.text.now) (nat_cmp p.number.number q.number.number) tie numbers h in
-          ap (λ (v : ℤ). ordering_then (int_cmp v (merged_at all (below (path p.parent.number)
-          (node_label q))).own_start) (label_cmp (node_label p) (node_label q))) (sym ours)
+          ap (λ (v : ℤ).
+          ordering_then (int_cmp v (merged_at all (below (path p.parent.number) (node_label q))).own_start)
+          (label_cmp (node_label p) (node_label q))) (sym ours)
           ∙ ap (λ (v : ℤ). ordering_then (int_cmp p.own_start v) (label_cmp (node_label p) (node_label q)))
           (sym theirs) ∙ less;
     }
@@ -168,8 +171,8 @@ before_rest : (all : List Occurrence) (t : Table) (frames : ℕ) (p : OrderedNod
     → IsOrderedNodeOf t.nodes.items p → AllByRecursion (IsOrderedNodeOf t.nodes.items) ordered_nodes
     → EachOf (λ q. is_gt (ordered_node_cmp p q) ≡ false) ordered_nodes
     → EachOf (λ q. p.number.number ≡ q.number.number → ⊥) ordered_nodes
-    → Each (StandsBefore (merged_at all) (path_at t.nodes.items) (entry_of t.nodes.items p x d)) (entries_from
-    t.nodes.items frames before ordered_nodes d)
+    → Each (StandsBefore (merged_at all) (path_at t.nodes.items) (entry_of t.nodes.items p x d))
+    (entries_from t.nodes.items frames before ordered_nodes d)
 before_rest all t frames p x [] before d table of are row apart = tt
 before_rest all t frames p x (q ∷ ordered_nodes) before d table of are row apart = (
   stands_before all t p q x (next_placement t.nodes.items frames before q d) d table of are.0 row.0 apart.0,
@@ -177,6 +180,7 @@ before_rest all t frames p x (q ∷ ordered_nodes) before d table of are row apa
       row.1 apart.1,
 )
 
+-- the entries are in the order of parents, and of siblings
 pub entries_in_order : (all : List Occurrence) (t : Table) (frames : ℕ) (ordered_nodes : List OrderedNode)
     (before : Placement) (d : Node) → IsTableOf all t → AllByRecursion (IsOrderedNodeOf t.nodes.items) ordered_nodes
     → InRow ordered_nodes → AreApart ordered_nodes

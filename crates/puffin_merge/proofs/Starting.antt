@@ -58,6 +58,7 @@ feasible-free [] (u ∷ others) k = absurd k
 feasible-free (s ∷ siblings) [] k = tt
 feasible-free (s ∷ siblings) (u ∷ others) (own, nonnegative, later, rest) = nonnegative
 
+-- the earliest starts are the least feasible ones
 pub earliest-is_least : (siblings : List Sibling) → IsLeastFeasible siblings (earliest_starts (pos 0) siblings)
 earliest-is_least siblings = record {
   feasible = earliest-feasible (pos 0) siblings;

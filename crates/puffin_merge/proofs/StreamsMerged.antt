@@ -41,8 +41,8 @@ at_test : (b : Bool) (x : Shared) (f : Option StreamFacts) (l : Option Shared) �
 at_test true x f l e = refl
 at_test false x f l e = e
 
-find_is : (info : ThreadInfo) (entries : List (ThreadInfo × Shared)) → find key_cmp (key_of info) (key_entries
-    (records (without_sharing entries))) ≡ option_map held (lookup (is_at (thread_cmp info)) entries)
+find_is : (info : ThreadInfo) (entries : List (ThreadInfo × Shared)) → find key_cmp (key_of info)
+    (key_entries (records (without_sharing entries))) ≡ option_map held (lookup (is_at (thread_cmp info)) entries)
 find_is info [] = refl
 find_is info (e ∷ entries) =
     at_test (is_at (thread_cmp info) e.0) e.1 _ (lookup (is_at (thread_cmp info)) entries) (find_is info entries)
@@ -59,6 +59,7 @@ stream_is total info frame r e =
     twice None = refl
     twice (Some x) = refl
 
+-- a frame without a stream for the thread has no bytes
 pub no_bytes : IsTotalOrder key_cmp → (info : ThreadInfo) (frame : UnpackedFrameData)
     → ◌≡◌ {A = Option Shared} None (lookup (is_at (thread_cmp info)) frame.thread_streams.entries)
     → bytes_of (frame_bytes (key_of info) frame) ≡ []
@@ -66,6 +67,7 @@ no_bytes total info frame e =
     ap (λ (s : Option StreamBytes). bytes_of (record { start = frame.meta.range_ns.0; stream = s }))
     (stream_is total info frame None e)
 
+-- the frame's bytes are those of the thread's stream
 pub some_bytes : IsTotalOrder key_cmp → (info : ThreadInfo) (frame : UnpackedFrameData) (x : Shared)
     → Some x ≡ lookup (is_at (thread_cmp info)) frame.thread_streams.entries
     → bytes_of (frame_bytes (key_of info) frame) ≡ (arc_value x).stream.bytes
@@ -73,6 +75,7 @@ some_bytes total info frame x e =
     ap (λ (s : Option StreamBytes). bytes_of (record { start = frame.meta.range_ns.0; stream = s }))
     (stream_is total info frame (Some x) e)
 
+-- the frame's form is that of the thread's stream
 pub some_form : IsTotalOrder key_cmp → (info : ThreadInfo) (frame : UnpackedFrameData) (x : Shared)
     → Some x ≡ lookup (is_at (thread_cmp info)) frame.thread_streams.entries
     → form_of (frame_bytes (key_of info) frame) ≡ (arc_value x).stream.form
@@ -80,6 +83,7 @@ some_form total info frame x e =
     ap (λ (s : Option StreamBytes). form_of (record { start = frame.meta.range_ns.0; stream = s }))
     (stream_is total info frame (Some x) e)
 
+-- the walk's tries are within the frame's bound
 pub some_tries : IsTotalOrder key_cmp → (info : ThreadInfo) (frame : UnpackedFrameData) (x : Shared) (made : ℕ)
     → Some x ≡ lookup (is_at (thread_cmp info)) frame.thread_streams.entries
     → 31 * made ≤ length (arc_value x).stream.bytes + 31 → made ≤ most_tries_of (frame_bytes (key_of info) frame)
@@ -96,6 +100,7 @@ some_tries total info frame x made e h =
 abbrev at_origin : Table → ℤ → Merging
 at_origin t o = record { table = t; origin = o }
 
+-- no bytes spell no scopes, so nothing is taken
 pub nothing_taken : (form : Form) (t : Table) (a b : ℤ) (bytes : List ℕ) → a ≡ b → bytes ≡ []
     → TakesAll form TakesScopes (at_origin t b) (at_origin t a) bytes 0
 nothing_taken form t a b bytes e none = record {
@@ -105,6 +110,7 @@ nothing_taken form t a b bytes e none = record {
   tries = refl;
 }
 
+-- what the walk took is told of the frame's form, bytes and origin
 pub taken_of_frame : (form own : Form) (t : Table) (a b : ℤ)
     (bytes read : List ℕ) (w : Merging) (made : ℕ) (r : Result (Unit {0}) Error)
     → form ≡ own → a ≡ b → bytes ≡ read → IfOk r (λ _. TakesAll form TakesScopes (at_origin t a) w bytes made)
@@ -115,6 +121,7 @@ taken_of_frame form own t a b bytes read w made (Ok x) ef ea eb h =
     ef (subst (λ (o : ℤ). TakesAll form TakesScopes (at_origin t o) w read made) ea
     (subst (λ (xs : List ℕ). TakesAll form TakesScopes (at_origin t a) w xs made) eb h))
 
+-- so is the walk's refusal
 pub refused_of_frame : (form own : Form) (t : Table) (a b : ℤ) (bytes read : List ℕ) (w : Merging) (made : ℕ)
     (r : Result (Unit {0}) Error) → form ≡ own → a ≡ b → bytes ≡ read
     → IfErr r (λ e. (e ≡ Memory) ⊎ StopsEarly form TakesScopes RefusesScope (at_origin t a) w bytes made e)

@@ -55,6 +55,7 @@ none_at all path h = ap length (no_pieces all h) where
   no_pieces (o ∷ all) (other, others) = ap (λ (b : Bool). cond b (o ∷ pieces_at all path) (pieces_at all path))
       (other_path o.path path other) ∙ no_pieces all others
 
+-- a path that no occurrence has gets the sums of one piece
 pub first_at : (all : List Occurrence) (o : Occurrence) → All (λ x. x.path ≡ o.path → ⊥) all
     → merged_at (all ++ (o ∷ [])) o.path ≡ one_piece o.own_start o.duration
 first_at all o h = merged_at-first all o o.path (same_path o.path o.path refl)
@@ -121,8 +122,9 @@ grown_each all t u i k o d n table h lt path is items fits =
           subst (λ (m : Node). IsNodeOf (all ++ (o ∷ [])) (set nodes i n) k m) (sym now) (record {
             id = old.id;
             earlier = subst (λ (j : ℕ). (get_or nodes i d).key.parent.number ≤ j) (sym same) old.earlier;
-            path = paths (k + 1) ∙ ap (λ (j : ℕ). path_at nodes (j + 1)) same ∙ old.path ∙ ap (λ (p : Path). below p
-                (key_label (get_or nodes i d).key)) (sym (paths (get_or nodes i d).key.parent.number));
+            path = paths (k + 1) ∙ ap (λ (j : ℕ). path_at nodes (j + 1)) same
+                ∙ old.path ∙ ap (λ (p : Path). below p (key_label (get_or nodes i d).key))
+                (sym (paths (get_or nodes i d).key.parent.number));
             sums = sym (more_at all nodes i (get_or nodes i d) o old path) ∙ ap (merged_at (all ++ (o ∷ []))) (sym at);
             some = omega arith;
             small = fits;
@@ -183,9 +185,9 @@ fresh_path all t key k table parent fresh lt e =
     let d = some_of t.nodes.items k (omega arith) in
     let is = table.each k d lt in
     let early = is.earlier in
-    let (paths_same, labels_same) =
-    below-same (path_at t.nodes.items (get_or t.nodes.items k d).key.parent.number) (path_at t.nodes.items
-    key.parent.number) (key_label (get_or t.nodes.items k d).key) (key_label key) (sym is.path ∙ e) in
+    let (paths_same, labels_same) = below-same (path_at t.nodes.items (get_or t.nodes.items k d).key.parent.number)
+    (path_at t.nodes.items key.parent.number) (key_label (get_or t.nodes.items k d).key) (key_label key)
+    (sym is.path ∙ e) in
     let parents : (get_or t.nodes.items k d).key.parent.number ≡ key.parent.number =
     table.apart _ _ (omega arith) parent paths_same in
     fresh k lt (λ f. subst (λ (m : Node). IsSameKey m.key key) (same_at t.nodes.items k d f (omega arith))
@@ -196,8 +198,8 @@ started_each : (all : List Occurrence) (t : Table) (key : Key) (o : Occurrence) 
     → IsTableOf all t → 0 < key.id → key.parent.number ≤ vec_len t.nodes → o.duration < 2 ^ 63
     → o.path ≡ below (path_at t.nodes.items key.parent.number) (key_label key)
     → ((j : ℕ) → j < vec_len t.nodes → path_at t.nodes.items (j + 1) ≡ o.path → ⊥) → k < vec_len t.nodes + 1
-    → IsNodeOf (all ++ (o ∷ [])) (t.nodes.items ++ (new_node key o.own_start o.duration ∷ [])) k (get_or
-    (t.nodes.items ++ (new_node key o.own_start o.duration ∷ [])) k d)
+    → IsNodeOf (all ++ (o ∷ [])) (t.nodes.items ++ (new_node key o.own_start o.duration ∷ [])) k
+    (get_or (t.nodes.items ++ (new_node key o.own_start o.duration ∷ [])) k d)
 started_each all t key o k d table id parent small path fresh lt =
     let size : vec_len t.nodes ≡ length t.nodes.items = t.nodes.ok.0 in
     let nodes = t.nodes.items in
@@ -242,6 +244,7 @@ started_each all t key o k d table id parent small path fresh lt =
           })
     ]
 
+-- the table with a new node has the sums of one more occurrence
 pub started : (all : List Occurrence) (t u : Table) (key : Key) (o : Occurrence)
     → IsTableOf all t → 0 < key.id → key.parent.number ≤ vec_len t.nodes → o.duration < 2 ^ 63
     → o.path ≡ below (path_at t.nodes.items key.parent.number) (key_label key)
@@ -287,9 +290,10 @@ started all t u key o table id parent small path new_key items =
           (vec_len t.nodes, omega (arith, wide), last);
     }
   where
-    not_new : (all : List Occurrence) (t : Table) (key : Key) (o : Occurrence) (p : ℕ) → IsTableOf all t
-        → o.path ≡ below (path_at t.nodes.items key.parent.number) (key_label key) → ((j : ℕ) → j < vec_len t.nodes
-        → path_at t.nodes.items (j + 1) ≡ o.path → ⊥) → p ≤ vec_len t.nodes → path_at t.nodes.items p ≡ o.path → ⊥
+    not_new : (all : List Occurrence) (t : Table) (key : Key) (o : Occurrence) (p : ℕ)
+        → IsTableOf all t → o.path ≡ below (path_at t.nodes.items key.parent.number) (key_label key)
+        → ((j : ℕ) → j < vec_len t.nodes → path_at t.nodes.items (j + 1) ≡ o.path → ⊥) → p ≤ vec_len t.nodes
+        → path_at t.nodes.items p ≡ o.path → ⊥
     not_new all t key o zero table path fresh h e =
         no_snoc (path_at t.nodes.items key.parent.number) (key_label key) (sym (top_path t.nodes.items) ∙ e ∙ path)
     not_new all t key o (suc p) table path fresh h e =
@@ -297,6 +301,7 @@ started all t u key o table id parent small path new_key items =
 
 -- ---- what adding says
 
+-- one piece more at a node that is there adds the occurrence
 pub adds_grown : (t u : Table) (parent : ℕ) (label : Label) (own_start : ℤ) (duration x : ℕ)
     → (all : List Occurrence) × IsTableOf all t → 0 < x → x ≤ vec_len t.nodes
     → HasLabel t.nodes.items (x - 1) parent label
@@ -325,6 +330,7 @@ adds_grown t u parent label own_start duration x (occurrences, is_table) low hig
           (omega arith) (path all table) refl (items d) (fits_more d).1;
     }
 
+-- if the node's sums don't fit, the occurrence is refused
 pub grown_refused : (t : Table) (parent : ℕ) (label : Label) (own_start : ℤ) (duration x : ℕ)
     → 0 < x → x ≤ vec_len t.nodes → HasLabel t.nodes.items (x - 1) parent label
     → (FitsOneMore t.nodes.items (x - 1) duration → ⊥)
@@ -337,6 +343,7 @@ grown_refused t parent label own_start duration x low high has no_fit all table 
     (sym (path_of_key all nodes (x - 1) (get_or nodes (x - 1) d) parent label (table.each (x - 1) d (omega arith))
     (has d))) fits)
 
+-- a new node adds the occurrence
 pub adds_started : (t u : Table) (key : Key) (own_start : ℤ) (duration x : ℕ) → 0 < key.id
     → key.parent.number ≤ vec_len t.nodes → duration < 2 ^ 63 → x ≡ vec_len t.nodes + 1
     → IsNewKey t.nodes key → u.nodes.items ≡ t.nodes.items ++ (new_node key own_start duration ∷ [])

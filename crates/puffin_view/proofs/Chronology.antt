@@ -42,6 +42,7 @@ no_entries : fin.entries (fin.empty {X = Frame} {R = nat_cmp}) ≡ []
 no_entries = no_length (fin.entries (fin.empty {X = Frame} {R = nat_cmp}))
     (sym (fin.len-entries (fin.empty {X = Frame} {R = nat_cmp})) ∙ fin.len-empty nat_cmp Frame)
 
+-- the frames by index stand under their own indices
 pub keyed : (fs : List Frame) → AreKeyed (fin.entries (frames_by_index fs))
 keyed [] = none_keyed (fin.entries (frames_by_index [])) no_entries
 keyed (f ∷ fs) = subst AreKeyed (sym (fin.entries-insert nat_cmp_total (frames_by_index fs) (index_of f) f))
@@ -53,8 +54,8 @@ values-where p [] h = refl
 values-where p (e ∷ es) h = ap (λ b. map (λ e. e.1) (cond b (e ∷ where_key nat_cmp p es) (where_key nat_cmp p es)))
     (ap p (sym h.0)) ∙ at (p (index_of e.1)) (values-where p es h.1) where
       at : (b : Bool) → map (λ e. e.1) (where_key nat_cmp p es) ≡ filter (λ f. p (index_of f)) (map (λ e. e.1) es)
-          → map (λ e. e.1) (cond b (e ∷ where_key nat_cmp p es) (where_key nat_cmp p es)) ≡ cond b (e.1 ∷ filter
-          (λ f. p (index_of f)) (map (λ e. e.1) es)) (filter (λ f. p (index_of f)) (map (λ e. e.1) es))
+          → map (λ e. e.1) (cond b (e ∷ where_key nat_cmp p es) (where_key nat_cmp p es)) ≡ cond b
+          (e.1 ∷ filter (λ f. p (index_of f)) (map (λ e. e.1) es)) (filter (λ f. p (index_of f)) (map (λ e. e.1) es))
       at true later = ap (λ fs. e.1 ∷ fs) later
       at false later = later
 

@@ -51,9 +51,11 @@ from a b c (x ∷ xs) =
       group : (n m k : ℕ) → (n + m) + k ≡ n + (m + k)
       group n m k = omega arith
 
+-- a fold over frames makes their statistics
 pub counted : {A : Type 0} (s : FrameStats) (xs : List (Bor (Arc FrameData A))) → s ≡ stats_of []
     → fold with_lent s xs ≡ stats_of (lent_frames xs)
-counted s xs e = ap (λ t. fold with_lent t xs) e ∙ from 0 0 0 xs ∙ (λ i. cut_all (zero_more (length (lent_frames xs))
-    i) (zero_more (sum_by number (lent_frames xs)) i) (zero_more (sum_by ram_of (lent_frames xs)) i)) where
+counted s xs e =
+    ap (λ t. fold with_lent t xs) e ∙ from 0 0 0 xs ∙ (λ i. cut_all (zero_more (length (lent_frames xs)) i)
+    (zero_more (sum_by number (lent_frames xs)) i) (zero_more (sum_by ram_of (lent_frames xs)) i)) where
       zero_more : (n : ℕ) → 0 + n ≡ n
       zero_more n = omega arith

@@ -23,6 +23,7 @@ either_last true b = refl
 either_last false true = refl
 either_last false false = refl
 
+-- one more frame was dropped
 pub LetsGo-more : (old mid new : HeldFrames) (stays gone : List ℕ) (i : ℕ) → LetsGo old stays gone mid
     → new ≡ fin.remove mid i → has_number i stays ≡ false → LetsGo old stays (gone ++ i ∷ []) new
 LetsGo-more old mid new stays gone i h is out q =
@@ -31,8 +32,9 @@ LetsGo-more old mid new stays gone i h is out q =
     (λ e. ap (λ k. has_number k stays) (equal_to q i e) ∙ out)
     ∙ ap (λ b. cond (has_number q stays) (fin.get old q) (cond b None (fin.get old q)))
     (sym (has-append q gone (i ∷ []) ∙ either_last (has_number q gone) (nat_eq q i))) where
-      at : (b s g : Bool) → fin.get mid q ≡ cond s (fin.get old q) (cond g None (fin.get old q)) → (b ≡ true
-          → s ≡ false) → cond b None (fin.get mid q) ≡ cond s (fin.get old q) (cond (g || b) None (fin.get old q))
+      at : (b s g : Bool) → fin.get mid q ≡ cond s (fin.get old q) (cond g None (fin.get old q))
+          → (b ≡ true → s ≡ false)
+          → cond b None (fin.get mid q) ≡ cond s (fin.get old q) (cond (g || b) None (fin.get old q))
       at true true g e out = absurd (true≢false (out refl))
       at true false true e out = refl
       at true false false e out = refl
@@ -40,6 +42,7 @@ LetsGo-more old mid new stays gone i h is out q =
       at false false true e out = e
       at false false false e out = e
 
+-- one more frame stayed, since its index is among those that stay
 pub LetsGo-kept : (old mid : HeldFrames) (stays gone : List ℕ) (i : ℕ) → LetsGo old stays gone mid
     → has_number i stays ≡ true → LetsGo old stays (gone ++ i ∷ []) mid
 LetsGo-kept old mid stays gone i h among q =
@@ -109,8 +112,8 @@ stored-cut_slow held new recent slow last R S gone h go =
       others : (S : List Frame) → HaveOwnIndices (S ++ gone)
           → AllByRecursion (λ f. has_index (index_of f) gone ≡ false) S
       others [] apart = tt
-      others (f ∷ S) apart =
-          (none_has (index_of f) gone (all_rest (λ g. index_of g ≢ index_of f) S gone apart.0), others S apart.1)
+      others (f ∷ S) (is_apart, are_apart) =
+          (none_has (index_of f) gone (all_rest (λ g. index_of g ≢ index_of f) S gone is_apart), others S are_apart)
 
       ranks-append : (S : List Frame) → map rank_of (S ++ gone) ≡ map rank_of S ++ map rank_of gone
       ranks-append [] = refl
@@ -167,8 +170,8 @@ stored-cut_recent held new recent slow last gone R S h go =
 
       others : (gone : List Frame) → AreRising (gone ++ R) → AllByRecursion (λ f. has_index (index_of f) gone ≡ false) R
       others [] rising = has_all (λ f. has_index (index_of f) [] ≡ false) R (λ g e. refl)
-      others (f ∷ gone) rising =
-          more_gone f gone R (all_rest (λ g. index_of f < index_of g) gone R rising.0) (others gone rising.1)
+      others (f ∷ gone) (is_low, are_rising) =
+          more_gone f gone R (all_rest (λ g. index_of f < index_of g) gone R is_low) (others gone are_rising)
 
 -- steps of the loops that cut
 
@@ -181,15 +184,18 @@ take_next [] k d h = absurd (no_less k h)
 take_next (x ∷ xs) zero d h = refl
 take_next (x ∷ xs) (suc k) d h = ap (λ ys. x ∷ ys) (take_next xs k d (omega arith))
 
+-- a search of a list of indices
 pub any_has : (i : ℕ) (is : List ℕ) → list_any (λ y. nat_eq y i) is ≡ has_number i is
 any_has i [] = refl
 any_has i (x ∷ is) = λ j. flips x i j || any_has i is j where
   flips : (a b : ℕ) → nat_eq a b ≡ nat_eq b a
   flips a b = grind arith
 
+-- a test that passes does not fail
 pub unlike : {A : Type 0} {b : Bool} → b ≡ true → b ≡ false → A
 unlike e p = absurd (true≢false (sym e ∙ p))
 
+-- a search of the ranks by index is one of their indices
 pub any_ranks : (i : ℕ) (rs : List SlowRank)
     → list_any (λ r. nat_eq r.frame_index i) rs ≡ has_number i (map rank_index rs)
 any_ranks i [] = refl
@@ -203,6 +209,7 @@ indices_next is k i h e =
       more : (k : ℕ) → k + 1 ≡ suc k
       more k = omega arith
 
+-- one step of the loop over the first recent frames: the frame is dropped unless it is slow
 pub recent_step : (old mid new : HeldFrames) (slow : List SlowRank) (is : List ℕ) (k i : ℕ) (b : Bool)
     → k < length is → i ≡ get_or is k i → LetsGo old (map rank_index slow) (take k is) mid
     → b ≡ list_any (λ r. nat_eq r.frame_index i) slow
@@ -222,6 +229,7 @@ recent_step old mid new slow is k i b h e go ensured off on =
 drop_next : {A : Type 0} (xs : List A) (k : ℕ) → drop 1 (drop k xs) ≡ drop (k + 1) xs
 drop_next xs k = drop-drop 1 k xs
 
+-- the list without one element more in front
 pub dropped_next : {A : Type 0} (is xs : List A) (k : ℕ) → is ≡ drop k xs → drop 1 is ≡ drop (k + 1) xs
 dropped_next is xs k e = ap (drop 1) e ∙ drop_next xs k
 
@@ -231,8 +239,10 @@ first_of_drop [] (suc k) d = refl
 first_of_drop (x ∷ xs) zero d = refl
 first_of_drop (x ∷ xs) (suc k) d = first_of_drop xs k d
 
+-- the first of what is left
 pub first_dropped : (is xs : List ℕ) (k i : ℕ) → is ≡ drop k xs → i ≡ get_or is 0 i → i ≡ get_or xs k i
 first_dropped is xs k i e p = p ∙ ap (λ l. get_or l 0 i) e ∙ first_of_drop xs k i
 
+-- something is left
 pub some_dropped : (is xs : List ℕ) (k : ℕ) → is ≡ drop k xs → k < length xs → 0 < length is
 some_dropped is xs k e h = let n = ap length e ∙ length-drop k xs in omega arith

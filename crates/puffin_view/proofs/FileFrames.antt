@@ -31,13 +31,16 @@ use Rattle.puffin_view.proofs.lemmas.FrameStreams.{fresh_frame}
 
 -- ---- one frame more
 
+-- taking one frame more comes last
 pub after_last : (v : View) (fs : List Frame) (f : Frame) → after_all v (fs ++ f ∷ []) ≡ after_taking (after_all v fs) f
 after_last v [] f = refl
 after_last v (g ∷ fs) f = after_last (after_taking v g) fs f
 
+-- a view that reads frames took them all
 pub took_all : (fs : List Frame) → Took (map fields_of fs) (after_all read_view fs)
 took_all fs = Took-all read_view [] fs tt (Took-none read_view refl refl refl)
 
+-- a view in this state with these details is the view of these frames
 pub view_of_frames : (stored : List Stored) (v : FrameView)
     → view_of v ≡ after_all read_view (map frame_stored stored)
     → collection_of v ≡ with_all_details no_details (flat_map details_stored stored) → IsViewOf stored v
@@ -48,6 +51,7 @@ view_of_frames stored v frames details = record {
   details = details;
 }
 
+-- the view of the frames took one more of them
 pub view_of_more : (stored : List Stored) (s : Stored) (f : Frame) (v w : FrameView) → f ≡ frame_stored s
     → IsViewOf stored v → view_of w ≡ after_taking (view_of v) f
     → collection_of w ≡ with_all_details (collection_of v) (details_of_frame f) → IsViewOf (stored ++ s ∷ []) w
@@ -67,8 +71,9 @@ view_of_more stored s f v w is h taken learnt =
 -- some of its details have no id, or there was no memory
 pub refused_frame : (old mid new : Option (List ℕ)) (frames : List Stored) (e : FileError) (frame : FrameData)
     → HasGiven old mid frames → length frames < 2 ^ 64 - 1 → IsFresh frame
-    → FromDevice {X = FrameData} (λ f. Some (stored_of f)) mid new (Ok frame) next_at → (e ≡ file.Refused MissingId
-    → lacks_ids (fields_of (frame_of frame)) ≡ true) → (e ≡ file.Refused MissingId) ⊎ (e ≡ file.Memory)
+    → FromDevice {X = FrameData} (λ f. Some (stored_of f)) mid new (Ok frame) next_at
+    → (e ≡ file.Refused MissingId → lacks_ids (fields_of (frame_of frame)) ≡ true)
+    → (e ≡ file.Refused MissingId) ⊎ (e ≡ file.Memory)
     → FailsToRead file_at old new e
 refused_frame old mid new frames e frame given few fresh next lacks (inl missing) =
     let without = refused mid new frame next

@@ -65,6 +65,7 @@ ends : (end after : List ℕ) → IsEnd end after → (is_end (end ++ after) ≡
 ends end after (inl zeros) = rw zeros (zeros_end after, refl)
 ends end after (inr short) = rw short.1 (short_ends end short.0, short_dropped end short.0)
 
+-- an end is read as the end
 pub end_read : (end after : List ℕ) → IsEnd end after → next_at (end ++ after) ≡ Ok (None, after)
 unfolding next_at
 end_read end after h = let e = ends end after h in rw e.0 (ap (λ (t : List ℕ). Ok (None, t)) e.1)
@@ -116,6 +117,7 @@ packets_read read k (s ∷ frames) packets rest after is stops h =
     ∙ (ap (λ (r : Answer). with_ids s >>= λ first. r >>= λ o. Ok (first ∷ o.0, o.1)) others
     ∙ one_before (lacks_ids (fields_of (frame_stored s))) (list_any lacks_ids (fields_stored frames)) s frames after))
 
+-- a file in the format is read as its frames
 pub file_read : (read : PacketsRead) (bytes : List ℕ) (frames : List Stored) (after : List ℕ) → IsBytes bytes
     → IsFile bytes frames after → length frames < 2 ^ 64 - 1
     → file_at bytes ≡ unless_missing (list_any lacks_ids (fields_stored frames)) frames after
@@ -223,6 +225,7 @@ begun : (b : Bool) (r : Answer) (o : List Stored × List ℕ) → cond b r (Err 
 begun true r o e = (refl, e)
 begun false r o e = absurd cc
 
+-- what is read as frames is a file in the format
 pub file_found : (read : PacketsRead) (bytes : List ℕ) (frames : List Stored) (after : List ℕ) → IsBytes bytes
     → file_at bytes ≡ Ok (frames, after)
     → IsFile bytes frames after × (length frames < 2 ^ 64 - 1) × (list_any lacks_ids (fields_stored frames) ≡ false)
@@ -243,6 +246,7 @@ file_found read bytes frames after is e =
 
 -- ---- both
 
+-- both together: bytes are read as frames exactly when they are such a file
 pub file_by_format : (read : PacketsRead) (bytes : List ℕ) (frames : List Stored) (after : List ℕ) → IsBytes bytes
     → (file_at bytes ≡ Ok (frames, after)) ↔ (IsFile bytes frames after × (length frames < 2 ^ 64 - 1)
     × (list_any lacks_ids (fields_stored frames) ≡ false))
@@ -252,6 +256,7 @@ file_by_format read bytes frames after is = (
       ∙ ap (λ (b : Bool). unless_missing b frames after) h.2,
 )
 
+-- a file whose frames lack ids is refused with `MissingId`
 pub file_refused : (read : PacketsRead) (bytes : List ℕ) (frames : List Stored) (after : List ℕ) → IsBytes bytes
     → IsFile bytes frames after → length frames < 2 ^ 64 - 1
     → list_any lacks_ids (fields_stored frames) ≡ true → file_at bytes ≡ Err (file.Refused MissingId)

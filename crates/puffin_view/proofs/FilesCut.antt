@@ -41,8 +41,8 @@ meet (h ∷ a) b (k ∷ x) y e =
     rest_same h k s t e = cc
 
     by_rest : ((m : List ℕ) × (a ≡ x ++ m) × (0 < length m)) ⊎ ((m : List ℕ) × (x ≡ a ++ m) × (b ≡ m ++ y)) → h ≡ k
-        → ((m : List ℕ) × (h ∷ a ≡ k ∷ (x ++ m)) × (0 < length m)) ⊎ ((m : List ℕ) × (k ∷ x ≡ h ∷ (a ++ m))
-        × (b ≡ m ++ y))
+        → ((m : List ℕ) × (h ∷ a ≡ k ∷ (x ++ m)) × (0 < length m))
+        ⊎ ((m : List ℕ) × (k ∷ x ≡ h ∷ (a ++ m)) × (b ≡ m ++ y))
     by_rest (inl p) same = inl (p.0, rw (same, p.1) refl, p.2)
     by_rest (inr p) same = inr (p.0, rw (same, p.1) refl, p.2)
 
@@ -68,8 +68,8 @@ one_left c cs bytes m is h = record {
 
 left_of_one : (c : PacketFields) (cs : List PacketFields) (bytes lost : List ℕ)
     → ((m : List ℕ) → flat_map packet cs ≡ m ++ lost → LeftOf cs m)
-    → ((m : List ℕ) × (packet c ≡ bytes ++ m) × (0 < length m)) ⊎ ((m : List ℕ) × (bytes ≡ packet c ++ m)
-    × (flat_map packet cs ≡ m ++ lost)) → LeftOf (c ∷ cs) bytes
+    → ((m : List ℕ) × (packet c ≡ bytes ++ m) × (0 < length m))
+    ⊎ ((m : List ℕ) × (bytes ≡ packet c ++ m) × (flat_map packet cs ≡ m ++ lost)) → LeftOf (c ∷ cs) bytes
 left_of_one c cs bytes lost others (inl p) =
     record { whole = []; lost = c ∷ cs; in_order = refl; left = bytes; split = refl; begun = p }
 left_of_one c cs bytes lost others (inr p) = one_left c cs bytes p.0 p.1 (others p.0 p.2)
@@ -98,6 +98,7 @@ four_same : (a b d f x y z w : ℕ) (l t : List ℕ) → a ∷ b ∷ d ∷ f ∷
     → (a ≡ x) × (b ≡ y) × (d ≡ z) × (f ≡ w) × (l ≡ t)
 four_same a b d f x y z w l t e = (cc, cc, cc, cc, cc)
 
+-- what is left of a file is the file of its first frames and a part of the next packet
 pub file_cut : (cs : List PacketFields) (bytes lost : List ℕ) → file_of cs ≡ bytes ++ lost → 4 ≤ length bytes
     → (whole : List PacketFields) × IsCut cs bytes whole
 file_cut cs [] lost e long = absurd (omega (arith, long))
@@ -293,6 +294,7 @@ walked cs bytes whole h mid frames again all ids g =
           (append_cancel_left magic (g.bytes ++ k.0) (flat_map packet whole ++ h.left) (sym k.2 ∙ h.split)),
     )
 
+-- a reader of what is left gives the first of the whole frames
 pub cut_given : (cs : List PacketFields) (bytes : List ℕ) (whole : List PacketFields) → IsCut cs bytes whole
     → (mid : Option (List ℕ)) (frames : List Stored) → Again → AllByRecursion IsPacked cs
     → list_any lacks_ids cs ≡ false
@@ -349,6 +351,7 @@ cut_walked cs bytes whole h frames m again all ids w none =
     let told = subst (λ (ds : List PacketFields). list_any lacks_ids ds ≡ false) h.in_order ids in
     all_walked whole h.left frames m w (all_front whole h.lost each) (ids_front whole h.lost told) again none
 
+-- at the end it has given all whole frames
 pub cut_ends : (cs : List PacketFields) (bytes : List ℕ) (whole : List PacketFields)
     → IsCut cs bytes whole → (mid new : Option (List ℕ)) (frames : List Stored) → Again → AllByRecursion IsPacked cs
     → list_any lacks_ids cs ≡ false
@@ -362,6 +365,7 @@ only_truncated : (b : Bool) (f : FileError) → last_of_cut b ≡ Err f → f �
 only_truncated true f e = absurd cc
 only_truncated false f e = sym (ap fault_in e)
 
+-- a fault is `Truncated`, after all whole frames
 pub cut_fails : (cs : List PacketFields) (bytes : List ℕ) (whole : List PacketFields) → IsCut cs bytes whole
     → (mid new : Option (List ℕ)) (frames : List Stored) (f : FileError) → Again → AllByRecursion IsPacked cs
     → list_any lacks_ids cs ≡ false

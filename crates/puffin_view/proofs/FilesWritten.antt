@@ -26,6 +26,7 @@ use Rattle.puffin_view.specs.View.FrameFile.{HoldsFile, HoldsBegun, HoldsSoFar, 
 
 -- ---- a file grows
 
+-- a file with one packet more
 pub file_more : (done : List PacketFields) (c : PacketFields) → file_of done ++ packet c ≡ file_of (done ++ c ∷ [])
 file_more done c = flat_map_more packet magic done c
 
@@ -33,6 +34,7 @@ file_with : (done left : List PacketFields) → file_of (done ++ left) ≡ file_
 file_with done left = ap (λ (t : List ℕ). magic ++ t) (flat_map-append packet done left)
     ∙ sym (append_assoc magic (flat_map packet done) (flat_map packet left))
 
+-- all packets fit, with one more
 pub all_more : (done : List PacketFields) (c : PacketFields) → AllByRecursion IsPacked done → IsPacked c
     → AllByRecursion IsPacked (done ++ c ∷ [])
 all_more [] c h p = (p, tt)
@@ -47,15 +49,18 @@ one_left done o c f now next cs is left same =
     is ∙ (ap (λ (fs : List Frame). done ++ first_with o (map fields_of fs)) left ∙ ap
     (λ (d : PacketFields). done ++ record d { details = details_or d.details o } ∷ map fields_of next) (sym same))
 
+-- without other details the first frame's own stay
 pub first_as_it_is : (cs : List PacketFields) → first_with None cs ≡ cs
 first_as_it_is [] = refl
 first_as_it_is (c ∷ cs) = refl
 
+-- other details of the first frame change nothing else
 pub others_stay : (scopes : Option Collection) (cs : List PacketFields)
     → map without_details (first_with scopes cs) ≡ map without_details cs
 others_stay scopes [] = refl
 others_stay scopes (c ∷ cs) = refl
 
+-- a prefix of the letters is one of the file
 pub magic_begins : (old new : Option (List ℕ)) (cs : List PacketFields) → WritesBeginning old new magic
     → WritesBeginning old new (file_of cs)
 magic_begins old new cs h = (
@@ -74,8 +79,9 @@ begun_in old mid new done c left first h =
     let rest = flat_map packet left in (
       file_of done ++ h.0,
       h.1 ++ rest,
-      file_with done (c ∷ left) ∙ (ap (λ (t : List ℕ). file_of done ++ (t ++ rest)) h.2 ∙ (ap (λ (t : List ℕ). file_of
-          done ++ t) (append_assoc h.0 h.1 rest) ∙ sym (append_assoc (file_of done) h.0 (h.1 ++ rest)))),
+      file_with done (c ∷ left)
+          ∙ (ap (λ (t : List ℕ). file_of done ++ (t ++ rest)) h.2 ∙ (ap (λ (t : List ℕ). file_of done ++ t)
+          (append_assoc h.0 h.1 rest) ∙ sym (append_assoc (file_of done) h.0 (h.1 ++ rest)))),
       Appends-trans old mid new (file_of done) h.0 first h.3,
     )
 
@@ -104,6 +110,7 @@ nothing_begun old mid new cs c h same = (
       (sym (append-nil (file_of cs))) (subst (λ (m : Option (List ℕ)). Appends old m (file_of cs)) (sym same) h),
 )
 
+-- a prefix of one packet more, after the file so far, is a prefix of the whole file
 pub begun : (old mid new : Option (List ℕ)) (done : List PacketFields) (c : PacketFields)
     (left cs : List PacketFields) (e : FileError) → cs ≡ done ++ c ∷ left → Appends old mid (file_of done)
     → (e ≡ file.Io → WritesBeginning mid new (packet c)) → ((e ≡ file.Io → ⊥) → new ≡ mid) → Cause e
@@ -131,6 +138,7 @@ refuses_file contents failures takes old new cs r e is begun io long cause =
     subst (WritesFile contents failures takes old new cs) (sym is)
     (record { ok = tt; packed = tt; begun = begun; io = io; too_long = long; cause = cause; none_failed = tt })
 
+-- `Io` is not `PartTooLong`
 pub io_is_not_long : (e : FileError) → e ≡ file.Io → e ≡ file.PartTooLong → ⊥
 io_is_not_long e at long = not_io_long (sym long ∙ at)
 
@@ -167,6 +175,7 @@ kept contents before after c was is e fault sound now this not same old cs h =
     (subst (λ (m : Option (List ℕ)). HoldsFile old m cs) (sym (ap contents same))
     (subst (λ (b : Bool). HoldsSoFar b old (contents before) cs) sound h))
 
+-- a write that failed has written a prefix of the packet
 pub packet_begun : {D : Type 0}
     (contents : D → Option (List ℕ)) (before after : D) (c : PacketFields) (r : Result (Unit {0}) FileError)
     → IfErr r (λ e. e ≡ file.Io → WritesBeginning (contents before) (contents after) (packet c))
@@ -222,6 +231,7 @@ Answer = Result (List Stored × List ℕ) FileError
 abbrev pub unless_missing : Bool → List Stored → List ℕ → Answer
 unless_missing b frames rest = cond b (Err (file.Refused MissingId)) (Ok (frames, rest))
 
+-- a list of read frames with one more in front, where some may lack ids
 pub one_before : (b d : Bool) (s : Stored) (frames : List Stored) (rest : List ℕ)
     → (cond b (Err (file.Refused MissingId)) (Ok s) >>= λ first. unless_missing d frames rest >>= λ o. Ok
     (first ∷ o.0, o.1)) ≡ unless_missing (b || d) (s ∷ frames) rest
@@ -251,10 +261,12 @@ packets_again k (c ∷ cs) end again all stops =
     (packets_again k cs end again all.1 stops)
     ∙ one_before (lacks_ids c) (list_any lacks_ids cs) (packed c) (map packed cs) (drop 4 end))))
 
+-- counting down from the limit
 pub room : (n : ℕ) → n < 2 ^ 64 - 1 → suc (most_packets - suc n) + n ≡ most_packets
 unfolding most_packets
 room n lt = omega arith
 
+-- a written file is read as its frames, or refused if some of their details lack ids
 pub file_again : (cs : List PacketFields) (end : List ℕ) → Again
     → AllByRecursion IsPacked cs → length cs < 2 ^ 64 - 1 → is_end end ≡ true
     → file_at (file_of cs ++ end) ≡ unless_missing (list_any lacks_ids cs) (map packed cs) (drop 4 end)
@@ -278,6 +290,7 @@ packets_apart (c ∷ cs) (d ∷ ds) alone p q e =
     ap (λ (x : PacketFields). x ∷ cs) h.0
     ∙ ap (λ (xs : List PacketFields). d ∷ xs) (packets_apart cs ds alone p.1 q.1 h.1)
 
+-- different frames make different files
 pub files_apart : (cs ds : List PacketFields) → NoneBeginsAnother IsPacked packet → AllByRecursion IsPacked cs
     → AllByRecursion IsPacked ds → file_of cs ≡ file_of ds → cs ≡ ds
 files_apart cs ds alone p q e =

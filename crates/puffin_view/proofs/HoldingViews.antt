@@ -37,6 +37,7 @@ no_length : {B : Type 0} (xs : List B) → length xs ≡ 0 → xs ≡ []
 no_length [] e = refl
 no_length (x ∷ xs) e = absurd (omega arith)
 
+-- a sum with 0
 pub plus_none : (n : ℕ) → n + 0 ≡ n
 plus_none n = omega arith
 
@@ -52,6 +53,7 @@ module _ {A : Type 0} where
   find-seen q (e ∷ es) = ap (λ o. cond (is_eq (nat_cmp q e.0)) (Some (shared_frame e.1)) o) (find-seen q es)
       ∙ at_head (is_eq (nat_cmp q e.0)) e.1 (lookup (is_at (nat_cmp q)) es)
 
+  -- a look-up in the map of frames is one in the entries
   pub get-held_of : (es : List (ℕ × Arc FrameData A)) (q : ℕ)
       → fin.get (held_of es) q ≡ option_map shared_frame (lookup (is_at (nat_cmp q)) es)
   get-held_of es q = fin.get-from_entries nat_cmp_total (frames_seen es) q ∙ find-seen q es
@@ -79,6 +81,7 @@ module _ {A : Type 0} where
       fin.same_map nat_cmp_total fin.nat_cmp-IsAntisymmetric (held_of fs) (fin.insert (held_of es) k (shared_frame a))
       (λ q. updated es fs k (Some a) h q ∙ sym (fin.get-insert nat_cmp_total (held_of es) k (shared_frame a) q))
 
+  -- removing an entry removes its frame
   pub held_of-removed : (es fs : List (ℕ × Arc FrameData A)) (k : ℕ)
       → ((q : ℕ) → lookup (is_at (nat_cmp q)) fs ≡ cond (is_at (nat_cmp k) q) None (lookup (is_at (nat_cmp q)) es))
       → held_of fs ≡ fin.remove (held_of es) k
@@ -95,6 +98,7 @@ module _ {A : Type 0} where
       → lookup (is_at (nat_cmp q)) es ≡ None
   not_seen es q e = unseen (lookup (is_at (nat_cmp q)) es) (sym (get-held_of es q) ∙ e)
 
+  -- what the map has is among the entries
   pub seen_there : (es : List (ℕ × Arc FrameData A)) (q : ℕ) → IsSome (fin.get (held_of es) q)
       → IsSome (lookup (is_at (nat_cmp q)) es)
   seen_there es q some = at (lookup (is_at (nat_cmp q)) es) (subst IsSome (get-held_of es q) some) where
@@ -102,6 +106,7 @@ module _ {A : Type 0} where
     at None h = h
     at (Some a) h = refl
 
+  -- no entries have sums of 0
   pub none_summed : (es : List (ℕ × Arc FrameData A)) (sums : RunningStats) → es ≡ []
       → sums ≡ record { unpacked_frames = 0; bytes_of_ram_used = 0 } → IsSummed es sums
   none_summed [] sums e s =
@@ -130,6 +135,7 @@ module _ {A : Type 0} where
   values-seen [] = refl
   values-seen (e ∷ es) = ap (λ fs. shared_frame e.1 ∷ fs) (values-seen es)
 
+  -- the frames of sorted entries, in order
   pub values-held_of : (es : List (ℕ × Arc FrameData A)) → IsStrictlySortedBy nat_cmp (keys_of es)
       → fin.values (held_of es) ≡ map shared_frame (values_of es)
   values-held_of es sorted = ap (map (λ e. e.1)) (entries-held_of es sorted) ∙ values-seen es
@@ -157,15 +163,18 @@ fits : (n : ℕ) → n < 2 ^ 128 → wrapped_sum n ≡ n
 fits n low = mod-eq_of_lt low
 
 module _ {A : Type 0} where
+  -- a frame counts once at most
   pub number_small : (a : Arc FrameData A) → unpacked_number a ≤ 1
   number_small a = at (shared_frame a).is_unpacked where
     at : (b : Bool) → number_if b ≤ 1
     at true = omega arith
     at false = omega arith
 
+  -- the bytes of a frame fit `usize`
   pub ram_small : (a : Arc FrameData A) → ram_taken a ≤ 2 ^ 64 - 1
   ram_small a = omega arith
 
+  -- so the running sum of unpacked frames has not wrapped around
   pub numbers_below : (es : List (ℕ × Arc FrameData A)) → length es < 2 ^ 64
       → sum_by unpacked_number (values_of es) < 2 ^ 64
   numbers_below es few =
@@ -173,6 +182,7 @@ module _ {A : Type 0} where
       let s = sum_by-below unpacked_number 1 number_small (values_of es) in
       omega arith
 
+  -- nor has that of the bytes
   pub ram_below : (es : List (ℕ × Arc FrameData A)) → length es < 2 ^ 64
       → sum_by ram_taken (values_of es) < 2 ^ 128 - 2 ^ 64
   ram_below es few =
@@ -205,6 +215,7 @@ module _ {A : Type 0} where
       (lowered rest (was ∙ ap wrapped_sum (sym (without f es k before found)))) ∙ mod-add-mod rest (2 ^ 128) (f a)
       ∙ ap wrapped_sum more ∙ ap (λ l. wrapped_sum (sum_by f (values_of l))) (sym put)
 
+  -- a running sum after an entry was removed
   pub sum_removed : (f : Arc FrameData A → ℕ) (es fs : List (ℕ × Arc FrameData A))
       (k : ℕ) (before : Option (Arc FrameData A)) (u v : ℕ) → fs ≡ remove_entry (is_at (nat_cmp k)) es
       → before ≡ lookup (is_at (nat_cmp k)) es
@@ -212,9 +223,11 @@ module _ {A : Type 0} where
       → ((rest : ℕ) → u ≡ wrapped_sum (rest + unwrap_or (option_map f before) 0) → v ≡ wrapped_sum rest)
       → v ≡ wrapped_sum (sum_by f (values_of fs))
   sum_removed f es fs k before u v cut found was lowered =
-      lowered (sum_by f (values_of (remove_entry (is_at (nat_cmp k)) es))) (was ∙ ap wrapped_sum
-      (sym (without f es k before found))) ∙ ap (λ l. wrapped_sum (sum_by f (values_of l))) (sym cut)
+      lowered (sum_by f (values_of (remove_entry (is_at (nat_cmp k)) es)))
+      (was ∙ ap wrapped_sum (sym (without f es k before found)))
+      ∙ ap (λ l. wrapped_sum (sum_by f (values_of l))) (sym cut)
 
+  -- what a look-up lends is seen as what it finds
   pub seen_copied : (o : Option (Bor (Arc FrameData A))) (p : Option (Arc FrameData A)) → option_copied o ≡ p
       → option_map (λ a. shared_frame a.now) o ≡ option_map shared_frame p
   seen_copied o p e = same o ∙ ap (option_map shared_frame) e where
@@ -253,6 +266,7 @@ module _ {A : Type 0} where
 
 -- a clone has the same frames
 module _ {A : Type 0} where
+  -- copied entries are seen as the same
   pub seen_cloned : (es fs : List (ℕ × Arc FrameData A))
       → AllZip (λ p q. (q.0 ≡ p.0) × (arc_value q.1 ≡ arc_value p.1)) es fs → frames_seen fs ≡ frames_seen es
   seen_cloned [] [] h = refl
@@ -271,6 +285,7 @@ module _ {A : Type 0} where
   sum_cloned w es fs h = sym (sum_by-map shared_frame w (values_of es)) ∙ ap (sum_by w) (sym (frames_cloned es fs h))
       ∙ sum_by-map shared_frame w (values_of fs)
 
+  -- copied entries have the same sums
   pub summed_cloned : (es fs : List (ℕ × Arc FrameData A)) (sums : RunningStats)
       → AllZip (λ p q. (q.0 ≡ p.0) × (arc_value q.1 ≡ arc_value p.1)) es fs → IsSummed es sums → IsSummed fs sums
   summed_cloned es fs sums h s = record {
@@ -287,6 +302,7 @@ ram_at None (Some u) n = refl
 ram_at (Some p) None n = refl
 ram_at (Some p) (Some u) n = refl
 
+-- the bytes that a frame tells are those that a view counts
 pub ram_says : (f : FrameData) → min (unwrap_or (option_map (λ _. (frame_meta f).num_bytes) (holding_of f).unpacked) 0
     + unwrap_or (option_map (λ q. length q.bytes) (holding_of f).packed) 0) (2 ^ 64 - 1) ≡ ram_of (frame_of f)
 ram_says f = ram_at (holding_of f).packed (holding_of f).unpacked (frame_meta f).num_bytes

@@ -29,6 +29,7 @@ pub known_as : (v w : KnownView) (frames made : View) → v ≡ w → frames ≡
     → record v { frames = frames } ≡ with_frames w made
 known_as v w frames made same is = λ j. record { frames = is j; scope_collection = (same j).scope_collection }
 
+-- the same indices, in other words
 pub lets_as : (old new : HeldFrames) (a b c d : List ℕ) → a ≡ b → c ≡ d → LetsGo old a c new → LetsGo old b d new
 lets_as old new a b c d e p h =
     let P : List ℕ → Type 0 = λ is. LetsGo old is d new in
@@ -40,6 +41,7 @@ ranks_dropped : (max : ℕ) (slow : List SlowRank) (S : List Frame) → slow ≡
 ranks_dropped max slow S e = ap (λ rs. map rank_index (drop max rs)) e
     ∙ ap (map rank_index) (sym (map-drop rank_of max S)) ∙ index-rank_of (drop max S)
 
+-- the lists are stored after the slow ones were cut
 pub slow_cut : (held new : HeldFrames) (recent : List ℕ) (slow slow' : List SlowRank) (last : Option ℕ) (max : ℕ)
     (R S : List Frame) → AreStored held recent slow last R S → LetsGo held recent (map rank_index (drop max slow)) new
     → slow' ≡ take max slow
@@ -55,6 +57,7 @@ slow_cut held new recent slow slow' last max R S h go e =
 ranks_of_all : (slow : List SlowRank) (S : List Frame) → slow ≡ map rank_of S → map rank_index slow ≡ map index_of S
 ranks_of_all slow S e = ap (map rank_index) e ∙ index-rank_of S
 
+-- the lists are stored after the recent ones were cut
 pub recent_cut : (held new : HeldFrames) (recent recent' : List ℕ) (slow : List SlowRank) (last : Option ℕ) (max : ℕ)
     (R S : List Frame) → AreStored held recent slow last R S
     → LetsGo held (map rank_index slow) (take (length recent - max) recent) new → recent' ≡ last_of max recent
@@ -79,8 +82,8 @@ entered : (held new : HeldFrames) (recent : List ℕ) (slow : List SlowRank) (ma
     (b : Bool) → AreStored held recent slow (Some (index_of f)) R S → fin.get held (index_of f) ≡ Some f
     → AllByRecursion (λ g. index_of g < index_of f) S
     → LetsGo held recent (map rank_index (cond b (drop max (place is_before (rank_of f) slow)) [])) new
-    → AreStored new recent (cond b (take max (place is_before (rank_of f) slow)) slow) (Some (index_of f)) R (cond
-    b (take max (place is_slower_frame f S)) S)
+    → AreStored new recent (cond b (take max (place is_before (rank_of f) slow)) slow) (Some (index_of f)) R
+    (cond b (take max (place is_slower_frame f S)) S)
 entered held new recent slow max f R S true h there before go =
     slow_cut held new recent (place is_before (rank_of f) slow) (take max (place is_before (rank_of f) slow)) (Some
     (index_of f)) max R (place is_slower_frame f S) (stored-placed held recent slow f R S h there before) go refl
@@ -89,8 +92,8 @@ entered held new recent slow max f R S false h there before go =
     let all : take (length slow) S ≡ S =
     ap (λ n. take n S) (ap length h.slow_at ∙ map-length rank_of S) ∙ all_taken S in
     subst P all
-    (slow_cut held new recent slow slow (Some (index_of f)) (length slow) R S h (lets_as held new recent recent
-    [] (map rank_index (drop (length slow) slow)) refl (ap (map rank_index) (sym (none_dropped slow))) go)
+    (slow_cut held new recent slow slow (Some (index_of f)) (length slow) R S h (lets_as held new recent
+    recent [] (map rank_index (drop (length slow) slow)) refl (ap (map rank_index) (sym (none_dropped slow))) go)
     (sym (all_taken slow))) where
       none_dropped : {A : Type 0} (xs : List A) → drop (length xs) xs ≡ []
       none_dropped [] = refl
@@ -145,8 +148,8 @@ module _ (v : View) (f : Frame) (held held1 : HeldFrames) (recent recent1 : List
         ap (λ m. fin.get m (index_of f)) inserted ∙ got_itself held f in
         let after = entered held1 held2 recent1 slow v.max_slow f (v.recent ++ f ∷ []) v.slow
         (rank_enters v.max_slow slow (rank_of f)) stored_pushed there slow_before go in
-        let P : List SlowRank → Type 0 = λ rs. AreStored held2 recent1 rs (Some (index_of f)) (v.recent
-        ++ f ∷ []) (slow_after v.max_slow v.slow f) in
+        let P : List SlowRank → Type 0 = λ rs. AreStored held2 recent1 rs (Some (index_of f)) (v.recent ++ f ∷ [])
+        (slow_after v.max_slow v.slow f) in
         let Q : Bool → Type 0 = λ b. AreStored held2 recent1 (ranks_after v.max_slow slow (rank_of f)) (Some
         (index_of f)) (v.recent ++ f ∷ []) (cond b (take v.max_slow (place is_slower_frame f v.slow)) v.slow) in
         subst P (sym entered_is) (subst Q (enters_same v.max_slow f slow v.slow h.slow_at slow_before) after)
@@ -174,6 +177,7 @@ packed_newest held new recent slow last R S f g h newest e is =
     λ m. AreStored m recent slow last (map (packed_under (index_of f)) R) (map (packed_under (index_of f)) S) in
     subst P (sym (is ∙ ap (λ k. fin.insert held (index_of k) k) e)) (stored-packed held recent slow last R S f h newest)
 
+-- packing the frame with the newest index packs the newest frame
 pub newest_is_packed : (v w : View) (f : Frame) → last_in v.recent ≡ Some f → w ≡ v
     → with_packed (index_of f) w ≡ with_newest_packed v
 newest_is_packed v w f newest e =
@@ -194,6 +198,7 @@ last_frames held recent slow last n R S h =
       held_dropped (suc k) [] h = tt
       held_dropped (suc k) (f ∷ fs) h = held_dropped k fs h.1
 
+-- a range up to the end has the last elements
 pub range_last : {A : Type 0} (xs : List A) (len first n : ℕ) → len ≡ length xs → first ≡ len - n
     → take (len - first) (drop first xs) ≡ last_of n xs
 range_last xs len first n e f =

@@ -5,12 +5,14 @@ use Rattle.std.specs.List.{AllByRecursion}
 use Rattle.puffin_view.specs.View.ViewedFrames.{Frame, index_of, packed_under, packed_alone}
 use Rattle.puffin_view.specs.inner.Kept.{IsUpTo, AreRising, HaveOwnIndices, AreViewLists}
 
+-- packing keeps the index
 pub index_packed_at : (i : ℕ) (f : Frame) → index_of (packed_under i f) ≡ index_of f
 index_packed_at i f = at (nat_eq (index_of f) i) where
   at : (b : Bool) → index_of (cond b (packed_alone f) f) ≡ index_of f
   at true = refl
   at false = refl
 
+-- what packing keeps for one frame it keeps for all
 pub all_packed : (P Q : Frame → Type 0) (i : ℕ) → ((f : Frame) → P f → Q (packed_under i f)) → (fs : List Frame)
     → AllByRecursion P fs → AllByRecursion Q (map (packed_under i) fs)
 all_packed P Q i k [] h = tt
@@ -32,6 +34,7 @@ apart_packed_all i (f ∷ fs) h = (
   apart_packed_all i fs h.1,
 )
 
+-- packing keeps the invariant of the lists
 pub IsKept-packed : (i : ℕ) (recent slow : List Frame) (last : Option ℕ) → AreViewLists recent slow last
     → AreViewLists (map (packed_under i) recent) (map (packed_under i) slow) last
 IsKept-packed i recent slow last h =

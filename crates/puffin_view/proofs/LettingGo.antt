@@ -31,6 +31,7 @@ slow_step old mid new recent gone r true go is off on =
 slow_step old mid new recent gone r false go is off on = LetsGo-more old mid new recent (map rank_index gone)
     (rank_index r) go (off refl) (sym (any_has (rank_index r) recent) ∙ sym is)
 
+-- one more of the ranks that are cut off: its frame is dropped unless it is recent
 pub one_more_gone : (old mid new : HeldFrames) (recent : List ℕ) (whole left rest : List SlowRank)
     (r : SlowRank) (b : Bool) → LetsGoSome old recent whole mid left → left ≡ r ∷ rest
     → b ≡ list_any (λ y. nat_eq y (rank_index r)) recent → (b ≡ false → new ≡ fin.remove mid (rank_index r))
@@ -48,6 +49,7 @@ none_left : (rs : List SlowRank) → length rs ≡ 0 → rs ≡ []
 none_left [] e = refl
 none_left (r ∷ rs) e = cc
 
+-- all ranks that are cut off are done
 pub all_gone : (old new : HeldFrames) (recent : List ℕ) (whole left those : List SlowRank)
     → LetsGoSome old recent whole new left → length left ≡ 0 → whole ≡ those
     → LetsGo old recent (map rank_index those) new
@@ -69,6 +71,7 @@ drop_least (r ∷ rs) zero (suc first) e = absurd (no_first (length (r ∷ rs)) 
 drop_least (r ∷ rs) (suc max) zero e = absurd (no_least max (length rs) e)
 drop_least (r ∷ rs) (suc max) (suc first) e = drop_least rs max first (omega arith)
 
+-- the ranks from the limit on are those that are cut off
 pub from_place : (rs : List SlowRank) (len first max : ℕ) → len ≡ length rs → first ≡ min max len
     → take (len - first) (drop first rs) ≡ drop max rs
 from_place rs len first max e f =

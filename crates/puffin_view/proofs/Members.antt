@@ -11,15 +11,18 @@ use Rattle.puffin_view.specs.View.ViewedFrames.{Frame, index_of, is_slower_frame
 use Rattle.puffin_view.specs.inner.Kept.{AreRising, HaveOwnIndices}
 use Rattle.puffin_view.specs.inner.Store.{AreHeld, has_index}
 
+-- a test does not both pass and fail
 pub true≢false : true ≡ false → ⊥
 true≢false e = cc
 
+-- if not either, then neither
 pub neither : (a b : Bool) → (a || b) ≡ false → (a ≡ false) × (b ≡ false)
 neither true b h = absurd (true≢false h)
 neither false b h = (refl, h)
 
 -- members by index
 
+-- an index is in a list of two parts if it is in one of them
 pub has-append : (q : ℕ) (xs ys : List ℕ) → has_number q (xs ++ ys) ≡ (has_number q xs || has_number q ys)
 has-append q [] ys = refl
 has-append q (x ∷ xs) ys = at (nat_eq q x) (has-append q xs ys) where
@@ -28,6 +31,7 @@ has-append q (x ∷ xs) ys = at (nat_eq q x) (has-append q xs ys) where
   at true e = refl
   at false e = e
 
+-- the same for the indices of frames
 pub has_index-append : (q : ℕ) (fs gs : List Frame) → has_index q (fs ++ gs) ≡ (has_index q fs || has_index q gs)
 has_index-append q [] gs = refl
 has_index-append q (f ∷ fs) gs = at (nat_eq q (index_of f)) (has_index-append q fs gs) where
@@ -36,10 +40,12 @@ has_index-append q (f ∷ fs) gs = at (nat_eq q (index_of f)) (has_index-append 
   at true e = refl
   at false e = e
 
+-- a search of frames by index is one of their indices
 pub has-index_of : (q : ℕ) (fs : List Frame) → has_number q (map index_of fs) ≡ has_index q fs
 has-index_of q [] = refl
 has-index_of q (f ∷ fs) = ap (λ b. nat_eq q (index_of f) || b) (has-index_of q fs)
 
+-- what holds for each frame whose index is there holds for all
 pub has_all : (P : Frame → Type 0) (fs : List Frame) → ((g : Frame) → has_index (index_of g) fs ≡ true → P g)
     → AllByRecursion P fs
 has_all P [] h = tt
@@ -54,54 +60,66 @@ has_all P (f ∷ fs) h = (
   later true b e = refl
   later false b e = e
 
+-- `nat_eq` tells whether two numbers are the same
 pub equal_to : (a b : ℕ) → nat_eq a b ≡ true → a ≡ b
 equal_to a b e = grind arith
 
+-- the same number passes the test
 pub equals : (a b : ℕ) → a ≡ b → nat_eq a b ≡ true
 equals a b e = grind arith
 
+-- another number fails the test
 pub apart_to : (a b : ℕ) → a ≢ b → nat_eq a b ≡ false
 apart_to a b h = grind arith
 
+-- the test by the order of numbers is the test of equality
 pub is_at : (q i : ℕ) → eq_by_cmp nat_cmp q i ≡ nat_eq q i
 is_at q i = grind arith
 
 -- all of a list
 
+-- what follows for one frame follows for all
 pub all_map : (P Q : Frame → Type 0) → ((f : Frame) → P f → Q f) → (fs : List Frame) → AllByRecursion P fs
     → AllByRecursion Q fs
 all_map P Q k [] h = tt
 all_map P Q k (f ∷ fs) (first, others) = (k f first, all_map P Q k fs others)
 
+-- the same from two facts
 pub all_both : (P Q R : Frame → Type 0) → ((f : Frame) → P f → Q f → R f) → (fs : List Frame) → AllByRecursion P fs
     → AllByRecursion Q fs → AllByRecursion R fs
 all_both P Q R k [] h m = tt
 all_both P Q R k (f ∷ fs) (first, others) (other_first, other_others) =
     (k f first other_first, all_both P Q R k fs others other_others)
 
+-- what holds for all holds for the first part
 pub all_first : {A : Type 0} (P : A → Type 0) (xs ys : List A) → AllByRecursion P (xs ++ ys) → AllByRecursion P xs
 all_first P [] ys h = tt
 all_first P (x ∷ xs) ys (first, others) = (first, all_first P xs ys others)
 
+-- and for the rest
 pub all_rest : {A : Type 0} (P : A → Type 0) (xs ys : List A) → AllByRecursion P (xs ++ ys) → AllByRecursion P ys
 all_rest P [] ys h = h
 all_rest P (x ∷ xs) ys (first, others) = all_rest P xs ys others
 
+-- and for the first ones
 pub all_take : (P : Frame → Type 0) (k : ℕ) (xs : List Frame) → AllByRecursion P xs → AllByRecursion P (take k xs)
 all_take P zero xs h = tt
 all_take P (suc k) [] h = tt
 all_take P (suc k) (x ∷ xs) (first, others) = (first, all_take P k xs others)
 
+-- and for all but the first ones
 pub all_drop : (P : Frame → Type 0) (k : ℕ) (xs : List Frame) → AllByRecursion P xs → AllByRecursion P (drop k xs)
 all_drop P zero xs h = h
 all_drop P (suc k) [] h = tt
 all_drop P (suc k) (x ∷ xs) (first, others) = all_drop P k xs others
 
+-- and with one more behind
 pub all_more : (P : Frame → Type 0) (xs : List Frame) (f : Frame) → AllByRecursion P xs → P f
     → AllByRecursion P (xs ++ f ∷ [])
 all_more P [] f h p = (p, tt)
 all_more P (x ∷ xs) f (first, others) p = (first, all_more P xs f others p)
 
+-- and with one more in its place among the slow ones
 pub all_place : (P : Frame → Type 0) (f : Frame) (fs : List Frame) → P f → AllByRecursion P fs
     → AllByRecursion P (place is_slower_frame f fs)
 all_place P f [] p h = (p, tt)
@@ -111,15 +129,18 @@ all_place P f (x ∷ xs) p (first, others) = at (is_slower_frame f x) (all_place
   at true later = (p, (first, others))
   at false later = (first, later)
 
+-- the first part of frames with their own indices
 pub apart_first : (xs ys : List Frame) → HaveOwnIndices (xs ++ ys) → HaveOwnIndices xs
 apart_first [] ys h = tt
 apart_first (x ∷ xs) ys (first, others) =
     (all_first (λ g. index_of g ≢ index_of x) xs ys first, apart_first xs ys others)
 
+-- the rest of frames with rising indices
 pub rising_rest : (xs ys : List Frame) → AreRising (xs ++ ys) → AreRising ys
 rising_rest [] ys h = h
 rising_rest (x ∷ xs) ys (first, others) = rising_rest xs ys others
 
+-- the first part of a sorted list
 pub sorted_first : {K : Type 0} (cmp : K → K → Ordering) (xs ys : List K) → IsStrictlySortedBy cmp (xs ++ ys)
     → IsStrictlySortedBy cmp xs
 unfolding IsStrictlySortedBy
@@ -134,24 +155,29 @@ none_has q (f ∷ fs) (apart, others) = rw (apart_to q (index_of f) (λ e. apart
 
 -- what is held under the frames' own indices is the frames
 
+-- frames that are held are found again by their indices
 pub held_back : (h : ℕ → Option Frame) (fs : List Frame) → AreHeld h fs → filter_map h (map index_of fs) ≡ fs
 held_back h [] held = refl
 held_back h (f ∷ fs) (is_held, are_held) = rw is_held (ap (λ gs. f ∷ gs) (held_back h fs are_held))
 
 -- the last of a list
 
+-- `Some` of one value
 pub one_some : {A : Type 0} (a b : A) → Some a ≡ Some b → a ≡ b
 one_some a b e = cc
 
+-- the last of a mapped list
 pub map-last_from : {A B : Type 0} (g : A → B) (x : A) (xs : List A) → g (last_from x xs) ≡ last_from (g x) (map g xs)
 map-last_from g x [] = refl
 map-last_from g x (y ∷ ys) = map-last_from g y ys
 
+-- the last of a mapped list comes from the last of the list
 pub last_map : {A B : Type 0} (g : A → B) (xs : List A) (b : B) → last_in (map g xs) ≡ Some b
     → (a : A) × (last_in xs ≡ Some a) × (g a ≡ b)
 last_map g [] b e = cc
 last_map g (x ∷ xs) b e = (last_from x xs, refl, map-last_from g x xs ∙ one_some (last_from (g x) (map g xs)) b e)
 
+-- what holds for all holds for the last
 pub all_last_from : {A : Type 0} (P : A → Type 0) (x : A) (xs : List A) → AllByRecursion P (x ∷ xs) → P (last_from x xs)
 all_last_from P x [] (only, none) = only
 all_last_from P x (y ∷ ys) (first, others) = all_last_from P y ys others

@@ -62,9 +62,10 @@ up_to r s h = at (rank_cmp s r) refl where
 none_below : (k : ℕ) → k < 0 → ⊥
 none_below k h = omega arith
 
-placed_at : (r : SlowRank) (xs : List SlowRank) (i : ℕ) → i ≤ length xs
-    → ((k : ℕ) (d : SlowRank) → k < i → is_up_to r (get_or xs k d) ≡ true) → ((k : ℕ) (d : SlowRank) → i ≤ k
-    → k < length xs → is_up_to r (get_or xs k d) ≡ false) → insert xs i r ≡ place is_before r xs
+placed_at : (r : SlowRank) (xs : List SlowRank) (i : ℕ)
+    → i ≤ length xs → ((k : ℕ) (d : SlowRank) → k < i → is_up_to r (get_or xs k d) ≡ true)
+    → ((k : ℕ) (d : SlowRank) → i ≤ k → k < length xs → is_up_to r (get_or xs k d) ≡ false)
+    → insert xs i r ≡ place is_before r xs
 placed_at r [] zero h low high = refl
 placed_at r [] (suc i) h low high = absurd (none_below i (omega arith))
 placed_at r (x ∷ xs) zero h low high = rw (not_up_to r x (high 0 x (omega arith) (omega arith))) refl

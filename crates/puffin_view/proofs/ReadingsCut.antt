@@ -1,4 +1,5 @@
--- Readings of bytes that are cut short: what ends within the beginning that is left is read as before, and the rest is `Truncated`.
+-- Readings of bytes that are cut short: what ends within the beginning that is left is read as before, and the rest is
+-- `Truncated`.
 use Rattle.std.proofs.Common.{◌≡◌, ℕ, ◌<◌, ◌≤◌, Bool, true, false, cond, ltb, List, [], ◌∷◌, ◌++◌, length, take, drop, Option, Result, Ok, Err, ◌⊎◌, inl, inr, refl, sym, ap, ◌∙◌, arith, length-append}
 use Rattle.std.specs.Prelude.{slice_index}
 use Rattle.std.proofs.lemmas.Bool.{le-ltb, ltb-false}
@@ -67,16 +68,16 @@ both {A = A} {B = B} read next first second front more x after is =
   where
     by_second : (v : A) (rest : List ℕ) → read front ≡ Ok (v, rest)
         → (next v rest ≡ Err file.Truncated) ⊎ ((r : List ℕ) × (next v rest ≡ Ok (x, r)) × (after ≡ r ++ more))
-        → ((read front >>= λ p. next p.0 p.1) ≡ Err file.Truncated) ⊎ ((r : List ℕ)
-        × ((read front >>= λ p. next p.0 p.1) ≡ Ok (x, r)) × (after ≡ r ++ more))
+        → ((read front >>= λ p. next p.0 p.1) ≡ Err file.Truncated)
+        ⊎ ((r : List ℕ) × ((read front >>= λ p. next p.0 p.1) ≡ Ok (x, r)) × (after ≡ r ++ more))
     by_second v rest ok (inl short) = inl (rw ok short)
     by_second v rest ok (inr h) = inr (h.0, rw ok h.1, h.2)
 
     by_first : (p : A × List ℕ)
         → (read front ≡ Err file.Truncated) ⊎ ((r : List ℕ) × (read front ≡ Ok (p.0, r)) × (p.1 ≡ r ++ more))
         → next p.0 p.1 ≡ Ok (x, after)
-        → ((read front >>= λ p. next p.0 p.1) ≡ Err file.Truncated) ⊎ ((r : List ℕ)
-        × ((read front >>= λ p. next p.0 p.1) ≡ Ok (x, r)) × (after ≡ r ++ more))
+        → ((read front >>= λ p. next p.0 p.1) ≡ Err file.Truncated)
+        ⊎ ((r : List ℕ) × ((read front >>= λ p. next p.0 p.1) ≡ Ok (x, r)) × (after ≡ r ++ more))
     by_first p (inl short) e = inl (rw short refl)
     by_first p (inr h) e = by_second p.0 h.0 h.1 (second p.0 h.0 more x after (ap (next p.0) (sym h.2) ∙ e))
 
@@ -85,8 +86,8 @@ both {A = A} {B = B} read next first second front more x after is =
 part_cut : (n : ℕ) → IsCuttable (part_of n)
 part_cut n front more x after is = by_length (ltb (length front) n) refl
   where
-    by_length : (b : Bool) → ltb (length front) n ≡ b → (part_of n front ≡ Err file.Truncated) ⊎ ((rest : List ℕ)
-        × (part_of n front ≡ Ok (x, rest)) × (after ≡ rest ++ more))
+    by_length : (b : Bool) → ltb (length front) n ≡ b → (part_of n front ≡ Err file.Truncated)
+        ⊎ ((rest : List ℕ) × (part_of n front ≡ Ok (x, rest)) × (after ≡ rest ++ more))
     by_length true short = inl (rw short refl)
     by_length false long =
         let low : n ≤ length front = ltb-false _ _ long in
@@ -104,8 +105,8 @@ first_cut = both (part_of 1) (λ one rest. Ok (slice_index one 0, rest)) (part_c
 length_cut : IsCuttable part_length_at
 length_cut front more x after is = by_length (ltb (length front) 4) refl
   where
-    by_length : (b : Bool) → ltb (length front) 4 ≡ b → (part_length_at front ≡ Err file.Truncated) ⊎ ((rest : List ℕ)
-        × (part_length_at front ≡ Ok (x, rest)) × (after ≡ rest ++ more))
+    by_length : (b : Bool) → ltb (length front) 4 ≡ b → (part_length_at front ≡ Err file.Truncated)
+        ⊎ ((rest : List ℕ) × (part_length_at front ≡ Ok (x, rest)) × (after ≡ rest ++ more))
     by_length true short = inl (rw short refl)
     by_length false long =
         let low : 4 ≤ length front = ltb-false _ _ long in
@@ -168,8 +169,9 @@ letters_stay : (form : Form) (l more : List ℕ) (p : PacketFields) → 0 < leng
     → packet_at (for_form form) (l ++ more) ≡ Ok (p, []) → packet_at (for_form form) l ≡ Err file.Truncated
 letters_stay form l more p some is = by_cut (packet_cut form l more p [] is)
   where
-    by_cut : (packet_at (for_form form) l ≡ Err file.Truncated) ⊎ ((rest : List ℕ) × (packet_at (for_form form) l
-        ≡ Ok (p, rest)) × ([] ≡ rest ++ more)) → packet_at (for_form form) l ≡ Err file.Truncated
+    by_cut : (packet_at (for_form form) l ≡ Err file.Truncated)
+        ⊎ ((rest : List ℕ) × (packet_at (for_form form) l ≡ Ok (p, rest)) × ([] ≡ rest ++ more))
+        → packet_at (for_form form) l ≡ Err file.Truncated
     by_cut (inl short) = short
     by_cut (inr h) = absurd (apart h.0 more some h.2)
 

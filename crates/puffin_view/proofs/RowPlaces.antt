@@ -115,8 +115,9 @@ module _ {A : Type 0} where
     by false e = subst (λ m. ordering_index (nat_cmp (key (get_or xs i d)) k)
         ≤ ordering_index (nat_cmp (key (get_or xs m d)) k)) (is_same i j low e) (omega arith)
 
-  none_keyed : (k : ℕ) (xs : List (Arc FrameData A)) → ((j : ℕ) (d : Arc FrameData A) → j < length xs
-      → at k (key (get_or xs j d)) ≡ false) → lookup (at k) (keyed xs) ≡ None
+  none_keyed : (k : ℕ) (xs : List (Arc FrameData A))
+      → ((j : ℕ) (d : Arc FrameData A) → j < length xs → at k (key (get_or xs j d)) ≡ false)
+      → lookup (at k) (keyed xs) ≡ None
   none_keyed k [] h = refl
   none_keyed k (a ∷ xs) h = ap (λ b. cond b (Some a) (lookup (at k) (keyed xs))) (h 0 a (omega arith))
       ∙ none_keyed k xs (λ j d lt. h (suc j) d (omega arith))
@@ -165,10 +166,11 @@ module _ {A : Type 0} where
       → AllZip (λ a b. arc_value b ≡ arc_value a) xs ys
       → AllZip (λ p q. (q.0 ≡ p.0) × (arc_value q.1 ≡ arc_value p.1)) (es ++ keyed xs) (fs ++ keyed ys)
   zipped [] [] [] [] h r = tt
-  zipped [] [] (x ∷ xs) (y ∷ ys) h r = ((ap (λ v. index_of (frame_of v)) r.0, r.0), zipped [] [] xs ys tt r.1)
+  zipped [] [] (x ∷ xs) (y ∷ ys) h (same, others) =
+      ((ap (λ v. index_of (frame_of v)) same, same), zipped [] [] xs ys tt others)
   zipped [] [] [] (y ∷ ys) h r = absurd r
   zipped [] [] (x ∷ xs) [] h r = absurd r
-  zipped (e ∷ es) (f ∷ fs) xs ys h r = (h.0, zipped es fs xs ys h.1 r)
+  zipped (e ∷ es) (f ∷ fs) xs ys (same, others) r = (same, zipped es fs xs ys others r)
   zipped [] (f ∷ fs) xs ys h r = absurd h
   zipped (e ∷ es) [] xs ys h r = absurd h
 
@@ -181,6 +183,7 @@ module _ {A : Type 0} where
 
   -- rows that stay in order: with one more frame, with another frame at an index, without one, and copied
 
+  -- the rows stay sorted with an index above all behind them
   pub sorted-pushed : (es : List (ℕ × Arc FrameData A)) (xs ys : List (Arc FrameData A)) (a : Arc FrameData A)
       → ys ≡ xs ++ a ∷ [] → AreBelow (key a) (es ++ keyed xs) → IsStrictlySortedBy nat_cmp (keys_of (es ++ keyed xs))
       → IsStrictlySortedBy nat_cmp (keys_of (es ++ keyed ys))
@@ -200,6 +203,7 @@ module _ {A : Type 0} where
   sorted-replaced es fs xs k a (Err e) put kept there sorted =
       subst (λ l. IsStrictlySortedBy nat_cmp (keys_of (l ++ keyed xs))) (sym kept) sorted
 
+  -- copied entries are sorted
   pub sorted-cloned : (es fs : List (ℕ × Arc FrameData A))
       → AllZip (λ p q. (q.0 ≡ p.0) × (arc_value q.1 ≡ arc_value p.1)) es fs → IsStrictlySortedBy nat_cmp (keys_of es)
       → IsStrictlySortedBy nat_cmp (keys_of fs)

@@ -30,6 +30,7 @@ turned a b = grind arith
 back : (k j : ℕ) → nat_cmp k j ≡ Greater → nat_cmp j k ≡ Less
 back k j e = grind arith
 
+-- `None` is not `Some`
 pub no_some : {X : Type 0} (o : Option X) → o ≡ None → IsSome o → ⊥
 no_some o e h = cc
 
@@ -63,6 +64,7 @@ module _ {X : Type 0} where
   remove-past k [] ms h = refl
   remove-past k (e ∷ es) ms (low, lows) = rw (above e.0 k low) (ap (λ l. e ∷ l) (remove-past k es ms lows))
 
+  -- a key above all others is inserted at the end
   pub insert-last : (k : ℕ) (a : X) (es : List (ℕ × X)) → AreBelow k es
       → insert_entry nat_cmp es k a ≡ es ++ (k, a) ∷ []
   insert-last k a [] h = refl
@@ -70,17 +72,20 @@ module _ {X : Type 0} where
 
   -- ---- at a key that stands between
 
+  -- a key is found behind lower ones
   pub lookup-between : (k : ℕ) (x : X) (es ms : List (ℕ × X)) → AreBelow k es
       → lookup (at k) (es ++ (k, x) ∷ ms) ≡ Some x
   lookup-between k x es ms h =
       lookup-past k es ((k, x) ∷ ms) h ∙ ap (λ o. cond (is_eq o) (Some x) (lookup (at k) ms)) (itself k)
 
+  -- and replaced there
   pub insert-between : (k : ℕ) (x a : X) (es ms : List (ℕ × X)) → AreBelow k es
       → insert_entry nat_cmp (es ++ (k, x) ∷ ms) k a ≡ es ++ (k, a) ∷ ms
   insert-between k x a es ms h =
       insert-past k a es ((k, x) ∷ ms) h ∙ ap (λ l. es ++ l) (ap (λ o. match_ordering o ((k, a) ∷ (k, x) ∷ ms)
       ((k, a) ∷ ms) ((k, x) ∷ insert_entry nat_cmp ms k a)) (itself k))
 
+  -- and removed there
   pub remove-between : (k : ℕ) (x : X) (es ms : List (ℕ × X)) → AreBelow k es
       → remove_entry (at k) (es ++ (k, x) ∷ ms) ≡ es ++ ms
   remove-between k x es ms h =
@@ -89,6 +94,7 @@ module _ {X : Type 0} where
 
   -- ---- where the later ones don't have the key
 
+  -- a key that is not in the second part is looked up in the first
   pub lookup-first : (t : ℕ → Bool) (es ms : List (ℕ × X)) → lookup t ms ≡ None → lookup t (es ++ ms) ≡ lookup t es
   lookup-first t [] ms n = n
   lookup-first t (e ∷ es) ms n = ap (λ o. cond (t e.0) (Some e.1) o) (lookup-first t es ms n)
@@ -101,6 +107,7 @@ module _ {X : Type 0} where
     by true n later = cc
     by false n later = ap (λ l. m ∷ l) (later n)
 
+  -- and removed there
   pub remove-first : (t : ℕ → Bool) (es ms : List (ℕ × X)) → lookup t ms ≡ None
       → remove_entry t (es ++ ms) ≡ remove_entry t es ++ ms
   remove-first t [] ms n = remove-none t ms n
@@ -110,6 +117,7 @@ module _ {X : Type 0} where
     by true later = refl
     by false later = ap (λ l. e ∷ l) later
 
+  -- and replaced there, if it is there
   pub insert-first : (k : ℕ) (a : X) (es ms : List (ℕ × X)) → IsSome (lookup (at k) es)
       → insert_entry nat_cmp (es ++ ms) k a ≡ insert_entry nat_cmp es k a ++ ms
   insert-first k a [] ms h = let none : Option X = None in absurd (no_some none refl h)
@@ -124,6 +132,7 @@ module _ {X : Type 0} where
 
   -- ---- keys in order
 
+  -- the keys before a key of a sorted list are lower
   pub below_sorted : (k : ℕ) (x : X) (es ms : List (ℕ × X)) → IsStrictlySortedBy nat_cmp (keys_of (es ++ (k, x) ∷ ms))
       → AreBelow k es
   unfolding IsStrictlySortedBy
@@ -134,6 +143,7 @@ module _ {X : Type 0} where
     one [] h = h.0
     one (f ∷ fs) h = one fs h.1
 
+  -- the rest of a sorted list is sorted
   pub rest_sorted : (es ms : List (ℕ × X)) → IsStrictlySortedBy nat_cmp (keys_of (es ++ ms))
       → IsStrictlySortedBy nat_cmp (keys_of ms)
   unfolding IsStrictlySortedBy
@@ -144,8 +154,8 @@ module _ {X : Type 0} where
       → AllByRecursion P (keys_of (insert_entry nat_cmp es k a))
   all_inserted P k a [] p h = (p, tt)
   all_inserted P k a (e ∷ es) p (first, rest) = by (nat_cmp k e.0) (all_inserted P k a es p rest) where
-    by : (o : Ordering) → AllByRecursion P (keys_of (insert_entry nat_cmp es k a)) → AllByRecursion P (keys_of
-        (match_ordering o ((k, a) ∷ e ∷ es) ((e.0, a) ∷ es) (e ∷ insert_entry nat_cmp es k a)))
+    by : (o : Ordering) → AllByRecursion P (keys_of (insert_entry nat_cmp es k a)) → AllByRecursion P
+        (keys_of (match_ordering o ((k, a) ∷ e ∷ es) ((e.0, a) ∷ es) (e ∷ insert_entry nat_cmp es k a)))
     by Less later = (p, (first, rest))
     by Equal later = (first, rest)
     by Greater later = (first, later)
@@ -161,16 +171,18 @@ module _ {X : Type 0} where
   sorted-insert k a [] s = (tt, tt)
   sorted-insert k a (e ∷ es) (first, rest) = by (nat_cmp k e.0) refl (sorted-insert k a es rest) where
     by : (o : Ordering) → nat_cmp k e.0 ≡ o
-        → IsStrictlySortedBy nat_cmp (keys_of (insert_entry nat_cmp es k a)) → IsStrictlySortedBy nat_cmp (keys_of
-        (match_ordering o ((k, a) ∷ e ∷ es) ((e.0, a) ∷ es) (e ∷ insert_entry nat_cmp es k a)))
+        → IsStrictlySortedBy nat_cmp (keys_of (insert_entry nat_cmp es k a)) → IsStrictlySortedBy nat_cmp
+        (keys_of (match_ordering o ((k, a) ∷ e ∷ es) ((e.0, a) ∷ es) (e ∷ insert_entry nat_cmp es k a)))
     by Less p later = ((p, all_further k e.0 es p first), (first, rest))
     by Equal p later = (first, rest)
     by Greater p later = (all_inserted (λ y. nat_cmp e.0 y ≡ Less) k a es (back k e.0 p) first, later)
 
+  -- a sorted list stays sorted with one key more
   pub sorted-inserted : (k : ℕ) (a : X) (es fs : List (ℕ × X)) → fs ≡ insert_entry nat_cmp es k a
       → IsStrictlySortedBy nat_cmp (keys_of es) → IsStrictlySortedBy nat_cmp (keys_of fs)
   sorted-inserted k a es fs e s = subst (λ l. IsStrictlySortedBy nat_cmp (keys_of l)) (sym e) (sorted-insert k a es s)
 
+  -- also at the end
   pub sorted-last : (k : ℕ) (a : X) (es : List (ℕ × X)) → AreBelow k es → IsStrictlySortedBy nat_cmp (keys_of es)
       → IsStrictlySortedBy nat_cmp (keys_of (es ++ (k, a) ∷ []))
   sorted-last k a es low s =
@@ -195,6 +207,7 @@ module _ {X : Type 0} where
     by true later = rest
     by false later = (all_removed (λ y. nat_cmp e.0 y ≡ Less) t es first, later)
 
+  -- and with one key less
   pub sorted-removed : (t : ℕ → Bool) (es fs : List (ℕ × X)) → fs ≡ remove_entry t es
       → IsStrictlySortedBy nat_cmp (keys_of es) → IsStrictlySortedBy nat_cmp (keys_of fs)
   sorted-removed t es fs e s = subst (λ l. IsStrictlySortedBy nat_cmp (keys_of l)) (sym e) (sorted-remove t es s)
@@ -215,6 +228,7 @@ module _ {X : Type 0} where
 
   -- ---- what a look-up finds afterwards
 
+  -- a look-up after an insertion finds the new value under its key, and else what was there
   pub lookup-insert : (k : ℕ) (a : X) (es : List (ℕ × X)) (q : ℕ)
       → lookup (at q) (insert_entry nat_cmp es k a) ≡ cond (at k q) (Some a) (lookup (at q) es)
   lookup-insert k a [] q = ap (λ b. cond b (Some a) None) (turned q k)

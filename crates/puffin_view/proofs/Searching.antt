@@ -74,7 +74,7 @@ module _ {K : Type 0} (R : K → K → Ordering) (o : IsTotalOrder R) where
 any_alike : {A : Type 0} (p q : A → Bool) (P : A → Type 0) → ((a : A) → P a → p a ≡ q a) → (xs : List A)
     → AllByRecursion P xs → list_any p xs ≡ list_any q xs
 any_alike p q P same [] h = refl
-any_alike p q P same (x ∷ xs) h = λ j. same x h.0 j || any_alike p q P same xs h.1 j
+any_alike p q P same (x ∷ xs) (first, others) = λ j. same x first j || any_alike p q P same xs others j
 
 -- indices
 eq_numbers : (a b : ℕ) → is_eq (nat_cmp a b) ≡ nat_eq a b
@@ -84,11 +84,13 @@ any_number : (i : ℕ) (is : List ℕ) → list_any (λ k. is_eq (nat_cmp k i)) 
 any_number i [] = refl
 any_number i (k ∷ is) = λ j. eq_numbers k i j || any_number i is j
 
+-- a binary search of sorted indices finds one exactly if it is there
 pub searched_index : (is : List ℕ) (i n : ℕ) (r : Result ℕ ℕ) → n ≡ length is → IsStrictlySortedBy nat_cmp is
     → IsSearchInRange r n → IsBinarySearchResult (λ k. nat_cmp k i) is r → is_ok r ≡ list_any (λ k. nat_eq k i) is
 searched_index is i n r as_many sorted range found =
     searched nat_cmp nat_cmp_total is i r sorted (subst (IsSearchInRange r) as_many range) found ∙ any_number i is
 
+-- the same for sorted ranks
 pub searched_rank : (slow : List SlowRank) (x : SlowRank) (n : ℕ) (r : Result ℕ ℕ) → n ≡ length slow
     → IsStrictlySortedBy rank_cmp slow → IsSearchInRange r n → IsBinarySearchResult (λ y. rank_cmp y x) slow r
     → is_ok r ≡ list_any (λ y. is_eq (rank_cmp y x)) slow
@@ -112,6 +114,7 @@ behind (a ∷ (b ∷ rest)) x l sorted e p =
     (all_last_from (λ r. rank_cmp a r ≡ Less) b rest (sorted_head rank_cmp a (b ∷ rest) sorted)) in
     rw (rank_cmp_total.trans a l x far p) (behind (b ∷ rest) x l (sorted_tail rank_cmp a (b ∷ rest) sorted) e p)
 
+-- a rank that comes after the last is not there
 pub none_behind : (slow : List SlowRank) (x l : SlowRank) → IsStrictlySortedBy rank_cmp slow → last_in slow ≡ Some l
     → is_le (rank_cmp x l) ≡ false → list_any (λ y. is_eq (rank_cmp y x)) slow ≡ false
 none_behind slow x l sorted e p = behind slow x l sorted e (less_than x l p)
@@ -141,6 +144,7 @@ by_index held f i x s there long at_i ranked = by (nat_eq s.frame_index i) refl 
   by false e =
       other_index s.duration_ns.0 x.duration_ns.0 s.frame_index x.frame_index (ap (nat_eq s.frame_index) at_i ∙ e)
 
+-- the rank of the frame held under an index is there exactly if a rank with this index is
 pub any_at_index : (held : HeldFrames) (f : Frame) (i : ℕ) (x : SlowRank) (slow : List SlowRank)
     → AreRanked held slow → fin.get held i ≡ Some f → x.duration_ns.0 ≡ duration_of f → x.frame_index ≡ i
     → list_any (λ s. is_eq (rank_cmp s x)) slow ≡ list_any (λ s. nat_eq s.frame_index i) slow
@@ -148,18 +152,19 @@ any_at_index held f i x slow ranked there long at_i =
     any_alike (λ s. is_eq (rank_cmp s x)) (λ s. nat_eq s.frame_index i) (λ s. option_map rank_of
     (fin.get held (rank_index s)) ≡ Some s) (λ s h. by_index held f i x s there long at_i h) slow ranked
 
+-- no rank has an index under which nothing is held
 pub none_at_index : (held : HeldFrames) (i : ℕ) (slow : List SlowRank) → AreRanked held slow → fin.get held i ≡ None
     → false ≡ list_any (λ s. nat_eq s.frame_index i) slow
 none_at_index held i [] ranked gone = refl
-none_at_index held i (s ∷ slow) ranked gone =
-    by (nat_eq s.frame_index i) refl (none_at_index held i slow ranked.1 gone) where
+none_at_index held i (s ∷ slow) (is_ranked, are_ranked) gone =
+    by (nat_eq s.frame_index i) refl (none_at_index held i slow are_ranked gone) where
       none_is : None ≡ Some s → ⊥
       none_is e = cc
 
       by : (b : Bool) → nat_eq s.frame_index i ≡ b → false ≡ list_any (λ s. nat_eq s.frame_index i) slow
           → false ≡ (b || list_any (λ s. nat_eq s.frame_index i) slow)
       by true e later = absurd (none_is (sym (ap (λ k. option_map rank_of (fin.get held k)) (equal_to s.frame_index i e)
-          ∙ ap (option_map rank_of) gone) ∙ ranked.0))
+          ∙ ap (option_map rank_of) gone) ∙ is_ranked))
       by false e later = later
 
 -- what is stored is in order and ranked
@@ -173,11 +178,11 @@ indices_rise (f ∷ fs) h = (above fs h.0, indices_rise fs h.1) where
   above : (gs : List Frame) → AllByRecursion (λ g. index_of f < index_of g) gs
       → AllByRecursion (λ i. nat_cmp (index_of f) i ≡ Less) (map index_of gs)
   above [] h = tt
-  above (g ∷ gs) h = (less (index_of f) (index_of g) h.0, above gs h.1)
+  above (g ∷ gs) (low, lows) = (less (index_of f) (index_of g) low, above gs lows)
 
 frames_ranked : (held : HeldFrames) (fs : List Frame) → AreHeld (fin.get held) fs → AreRanked held (map rank_of fs)
 frames_ranked held [] h = tt
-frames_ranked held (f ∷ fs) h = (ap (option_map rank_of) h.0, frames_ranked held fs h.1)
+frames_ranked held (f ∷ fs) (is_held, are_held) = (ap (option_map rank_of) is_held, frames_ranked held fs are_held)
 
 module _ (held : HeldFrames) (recent : List ℕ) (slow : List SlowRank) (last : Option ℕ) (R S : List Frame)
     (h : AreStored held recent slow last R S) where
@@ -198,15 +203,16 @@ all_kept : (P Q : SlowRank → Type 0) (slow : List SlowRank)
     → ((r : SlowRank) → has_number (rank_index r) (map rank_index slow) ≡ true → P r → Q r) → AllByRecursion P slow
     → AllByRecursion Q slow
 all_kept P Q [] k h = tt
-all_kept P Q (r ∷ slow) k h = (
-  k r (has_itself r slow) h.0,
+all_kept P Q (r ∷ slow) k (first, others) = (
+  k r (has_itself r slow) first,
   all_kept P Q slow (λ s e. k s
-      (later (nat_eq (rank_index s) (rank_index r)) (has_number (rank_index s) (map rank_index slow)) e)) h.1,
+      (later (nat_eq (rank_index s) (rank_index r)) (has_number (rank_index s) (map rank_index slow)) e)) others,
 ) where
   later : (a b : Bool) → b ≡ true → (a || b) ≡ true
   later true b e = refl
   later false b e = e
 
+-- what stays held keeps its rank
 pub still_ranked : (old new : HeldFrames) (slow : List SlowRank) (gone : List ℕ)
     → LetsGo old (map rank_index slow) gone new → AreRanked old slow → AreRanked new slow
 still_ranked old new slow gone go ranked =

@@ -20,6 +20,7 @@ regroup done left rest whole c e h = append_assoc done (c ∷ []) rest ∙ ap (�
 rank_of : ℕ → Frame → Rank
 rank_of k f = record { duration = duration_of f; index = index_of f; place = k }
 
+-- the ranks so far, with that of the next place
 pub ranked_more : {A X : Type 0} (g : A → Frame) (s : X → Rank) (hs : List A)
     (k : ℕ) (a : A) (done new : List X) (x : X) (whole : List Rank) → k < length hs → a ≡ get_or hs k a
     → s x ≡ record { duration = duration_of (g a); index = index_of (g a); place = k } → new ≡ done ++ x ∷ []
@@ -47,12 +48,14 @@ map_sorted f back undo lt xs h = λ k d low high.
     ap (λ b. lt b (get_or (map f xs) k d)) later ∙ ap (λ b. lt (f (get_or xs (k + 1) (back d))) b) first
     ∙ h k (back d) low far
 
+-- a place of a mapped list
 pub slice_get_map : {A B : Type 0} (f : A → B) (xs : List A) (k : ℕ)
     → slice_get (map f xs) k ≡ option_map f (slice_get xs k)
 slice_get_map f [] k = refl
 slice_get_map f (x ∷ xs) zero = refl
 slice_get_map f (x ∷ xs) (suc k) = slice_get_map f xs k
 
+-- the frame at a place is added
 pub pushed_at : {A B : Type 0} (g : A → B) (all new : List A) (x a : A) (frames : List A) (place : ℕ)
     → new ≡ all ++ x ∷ [] → g x ≡ g a → Some a ≡ slice_get frames place
     → map g new ≡ map g all ++ option_to_list (slice_get (map g frames) place)
@@ -60,6 +63,7 @@ pushed_at g all new x a frames place is same there =
     ap (map g) is ∙ map-more g all x ∙ ap (λ y. map g all ++ y ∷ []) same
     ∙ ap (λ o. map g all ++ option_to_list o) (ap (option_map g) there ∙ sym (slice_get_map g frames place))
 
+-- beyond the list nothing is added
 pub not_pushed_at : {A B : Type 0} (g : A → B) (all : List A) (frames : List A) (place : ℕ)
     → None ≡ slice_get frames place → map g all ≡ map g all ++ option_to_list (slice_get (map g frames) place)
 not_pushed_at g all frames place there =
@@ -72,11 +76,13 @@ no_room n h = omega arith
 no_less : (k : ℕ) → k < 0 → ⊥
 no_less k h = omega arith
 
+-- beyond a list there is nothing
 pub get_past : {A : Type 0} (xs : List A) (k : ℕ) → length xs ≤ k → None ≡ slice_get xs k
 get_past [] k h = refl
 get_past (x ∷ xs) zero h = absurd (no_room (length xs) h)
 get_past (x ∷ xs) (suc k) h = get_past xs k (omega arith)
 
+-- within a list there is the element
 pub get_within : {A : Type 0} (xs : List A) (k : ℕ) (a : A) → k < length xs → a ≡ get_or xs k a
     → Some a ≡ slice_get xs k
 get_within [] k a h e = absurd (no_less k h)

@@ -28,12 +28,15 @@ below_apart a b low e = omega arith
 
 got_more : (held : HeldFrames) (f g : Frame) → index_of g ≢ index_of f → fin.get held (index_of g) ≡ Some g
     → fin.get (fin.insert held (index_of f) f) (index_of g) ≡ Some g
-got_more held f g out is = fin.get-insert nat_cmp_total held (index_of f) f (index_of g) ∙ ap (λ b. cond b (Some f)
-    (fin.get held (index_of g))) (is_at (index_of g) (index_of f) ∙ apart_to (index_of g) (index_of f) out) ∙ is
+got_more held f g out is = fin.get-insert nat_cmp_total held (index_of f) f (index_of g)
+    ∙ ap (λ b. cond b (Some f) (fin.get held (index_of g)))
+    (is_at (index_of g) (index_of f) ∙ apart_to (index_of g) (index_of f) out) ∙ is
 
+-- a frame that is put is found
 pub got_itself : (held : HeldFrames) (f : Frame) → fin.get (fin.insert held (index_of f) f) (index_of f) ≡ Some f
-got_itself held f = fin.get-insert nat_cmp_total held (index_of f) f (index_of f) ∙ ap (λ b. cond b (Some f)
-    (fin.get held (index_of f))) (is_at (index_of f) (index_of f) ∙ equals (index_of f) (index_of f) refl)
+got_itself held f = fin.get-insert nat_cmp_total held (index_of f) f (index_of f)
+    ∙ ap (λ b. cond b (Some f) (fin.get held (index_of f)))
+    (is_at (index_of f) (index_of f) ∙ equals (index_of f) (index_of f) refl)
 
 got_less : (held : HeldFrames) (f : Frame) (q : ℕ) → nat_eq q (index_of f) ≡ false → fin.get held q ≡ None
     → fin.get (fin.insert held (index_of f) f) q ≡ None
@@ -68,6 +71,7 @@ index-more : (fs : List Frame) (f : Frame) → map index_of fs ++ index_of f ∷
 index-more [] f = refl
 index-more (g ∷ fs) f = ap (λ is. index_of g ∷ is) (index-more fs f)
 
+-- the ranks of frames with one more in its place
 pub ranks-place : (f : Frame) (fs : List Frame)
     → place is_before (rank_of f) (map rank_of fs) ≡ map rank_of (place is_slower_frame f fs)
 ranks-place f [] = refl
@@ -142,6 +146,7 @@ has_index-place q f (g ∷ fs) h = at (is_slower_frame f g) h (has_index-place q
   at false h later = let both = neither (nat_eq q (index_of g)) (has_index q (place is_slower_frame f fs)) h in
       rw both.0 (later both.1)
 
+-- neither of two tests passes
 pub first_false : {a b : Bool} → a ≡ false → b ≡ false → (a || b) ≡ false
 first_false {a} {b} e p = rw (e, p) refl
 
@@ -203,8 +208,8 @@ unfolding IsStrictlySortedBy
 stored-none held recent slow e r s =
     let P : HeldFrames → Type 0 =
     λ m. AreStored m recent slow None (frames_under m recent) (frames_under m (map rank_index slow)) in
-    let Q : List ℕ → Type 0 = λ is. AreStored fin.empty is slow None (frames_under fin.empty is) (frames_under
-    fin.empty (map rank_index slow)) in
+    let Q : List ℕ → Type 0 = λ is. AreStored fin.empty is slow None (frames_under fin.empty is)
+    (frames_under fin.empty (map rank_index slow)) in
     let R : List SlowRank → Type 0 =
     λ rs. AreStored fin.empty [] rs None [] (frames_under fin.empty (map rank_index rs)) in
     subst P (sym e) (subst Q (sym r) (subst R (sym s) (record {
@@ -224,15 +229,18 @@ pub index-rank_of : (fs : List Frame) → map rank_index (map rank_of fs) ≡ ma
 index-rank_of [] = refl
 index-rank_of (f ∷ fs) = ap (λ is. index_of f ∷ is) (index-rank_of fs)
 
+-- the frames under the recent indices are the recent frames
 pub recent_back : (held : HeldFrames) (recent : List ℕ) (slow : List SlowRank) (last : Option ℕ) (R S : List Frame)
     → AreStored held recent slow last R S → frames_under held recent ≡ R
 recent_back held recent slow last R S h = ap (frames_under held) h.recent_at ∙ held_back (fin.get held) R h.recent_held
 
+-- the frames under the slow ranks' indices are the slow frames
 pub slow_back : (held : HeldFrames) (recent : List ℕ) (slow : List SlowRank) (last : Option ℕ) (R S : List Frame)
     → AreStored held recent slow last R S → frames_under held (map rank_index slow) ≡ S
 slow_back held recent slow last R S h = ap (λ rs. frames_under held (map rank_index rs)) h.slow_at
     ∙ ap (frames_under held) (index-rank_of S) ∙ held_back (fin.get held) S h.slow_held
 
+-- so the fields store the frames that are found under them
 pub stored_as : (held : HeldFrames) (recent : List ℕ) (slow : List SlowRank) (last : Option ℕ) (R S : List Frame)
     → AreStored held recent slow last R S
     → AreStored held recent slow last (frames_under held recent) (frames_under held (map rank_index slow))
@@ -241,6 +249,7 @@ stored_as held recent slow last R S h =
     let Q : List Frame → Type 0 = λ fs. AreStored held recent slow last R fs in
     subst P (sym (recent_back held recent slow last R S h)) (subst Q (sym (slow_back held recent slow last R S h)) h)
 
+-- and the view that they stand for is the one with these frames
 pub view_as : (held : HeldFrames) (recent : List ℕ) (slow : List SlowRank) (last : Option ℕ) (max_recent max_slow : ℕ)
     (packs : Bool) (v : View) → AreStored held recent slow last v.recent v.slow → last ≡ v.last
     → max_recent ≡ v.max_recent → max_slow ≡ v.max_slow → packs ≡ v.packs
@@ -259,6 +268,7 @@ view_as held recent slow last max_recent max_slow packs v h l m n p =
 
 -- all that is held is the frames, by their indices
 
+-- a look-up among frames that are held
 pub find_held : (h : ℕ → Option Frame) (q : ℕ) (fs : List Frame) → AreHeld h fs
     → fin.find nat_cmp q (map (λ f. (index_of f, f)) fs) ≡ cond (has_index q fs) (h q) None
 find_held h q [] held = refl
@@ -274,6 +284,7 @@ held_append : (h : ℕ → Option Frame) (fs gs : List Frame) → AreHeld h fs �
 held_append h [] gs p q = q
 held_append h (f ∷ fs) gs (first, others) q = (first, held_append h fs gs others q)
 
+-- the map holds exactly the frames of both lists
 pub held_whole : (held : HeldFrames) (recent : List ℕ) (slow : List SlowRank) (last : Option ℕ) (R S : List Frame)
     → AreStored held recent slow last R S → held ≡ frames_by_index (R ++ S)
 held_whole held recent slow last R S h =
@@ -287,6 +298,7 @@ held_whole held recent slow last R S h =
 
 -- the newest frame
 
+-- the newest recent frame is held under the last recent index
 pub newest_held : (held : HeldFrames) (recent : List ℕ) (slow : List SlowRank) (last : Option ℕ) (R S : List Frame)
     (i : ℕ) → AreStored held recent slow last R S → last_in recent ≡ Some i → fin.get held i ≡ last_in R
 newest_held held recent slow last R S i h newest =
@@ -294,6 +306,7 @@ newest_held held recent slow last R S i h newest =
     ap (fin.get held) (sym found.2)
     ∙ all_last (λ f. fin.get held (index_of f) ≡ Some f) R found.0 h.recent_held found.1 ∙ sym found.1
 
+-- so something is held under it
 pub newest_there : (held : HeldFrames) (recent : List ℕ) (slow : List SlowRank) (last : Option ℕ)
     (R S : List Frame) (f : Frame) (i : ℕ) → AreStored held recent slow last R S → last_in R ≡ Some f → i ≡ index_of f
     → IsSome (fin.get held i)
@@ -313,6 +326,7 @@ longer_before r s low = at (int_lt s.duration_ns.0 r.duration_ns.0) (int_lt r.du
   at false true = refl
   at false false = above
 
+-- a rank belongs among the ranks exactly if its frame belongs among the frames
 pub enters_same : (max : ℕ) (f : Frame) (slow : List SlowRank) (S : List Frame) → slow ≡ map rank_of S
     → AllByRecursion (λ g. index_of g < index_of f) S → rank_enters max slow (rank_of f) ≡ enters_among max S f
 enters_same max f slow S e before =

@@ -48,6 +48,7 @@ has_index-packed : (q i : ℕ) (fs : List Frame) → has_index q (map (packed_un
 has_index-packed q i [] = refl
 has_index-packed q i (f ∷ fs) = λ j. nat_eq q (index_packed_at i f j) || has_index-packed q i fs j
 
+-- the lists with the newest frame packed are stored after it was put, packed, under its index
 pub stored-packed : (held : HeldFrames) (recent : List ℕ) (slow : List SlowRank) (last : Option ℕ) (R S : List Frame)
     (f : Frame) → AreStored held recent slow last R S → last_in R ≡ Some f
     → AreStored (fin.insert held (index_of f) (packed_alone f)) recent slow last (map (packed_under (index_of f)) R)

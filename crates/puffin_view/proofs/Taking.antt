@@ -27,8 +27,8 @@ abbrev pub AreBefore : ℕ → List Frame → Type 0
 AreBefore i fs = AllByRecursion (λ f. index_of f < i) fs
 
 before_last : (i : ℕ) (x : Frame) (xs : List Frame) → AreBefore i (x ∷ xs) → index_of (last_from x xs) < i
-before_last i x [] h = h.0
-before_last i x (y ∷ ys) h = before_last i y ys h.1
+before_last i x [] (only, none) = only
+before_last i x (y ∷ ys) (first, others) = before_last i y ys others
 
 not_below : (a b : ℕ) → nat_lt a b ≡ false → b ≤ a
 not_below a b h = grind arith
@@ -65,8 +65,9 @@ slow_at v f ds false p h e =
 pub Holds-joined : (v : View) (f : Frame) (cs ds : List PacketFields) → Holds cs ds v → AreBefore (index_of f) v.slow
     → Holds (cs ++ fields_of f ∷ []) (ds ++ fields_of f ∷ []) (joined_by v f)
 Holds-joined v f cs ds h late = record {
-  recent = map-last_of v.max_recent (v.recent ++ f ∷ []) ∙ ap (last_of v.max_recent) (map-more fields_of v.recent f
-      ∙ ap (λ xs. xs ++ fields_of f ∷ []) h.recent) ∙ last_of-more v.max_recent cs (fields_of f);
+  recent = map-last_of v.max_recent (v.recent ++ f ∷ [])
+      ∙ ap (last_of v.max_recent) (map-more fields_of v.recent f ∙ ap (λ xs. xs ++ fields_of f ∷ []) h.recent)
+      ∙ last_of-more v.max_recent cs (fields_of f);
   slow = slow_at v f ds (enters v f) refl late h.slow;
 }
 
@@ -85,6 +86,7 @@ Holds-choice : (v : View) (cs ds : List PacketFields) (b : Bool) → Holds cs ds
 Holds-choice v cs ds true h = Holds-newest_at v cs ds (last_in v.recent) h
 Holds-choice v cs ds false h = h
 
+-- an emptied view holds the frames of no list
 pub Holds-emptied : (v : View) → Holds [] [] (without_frames v)
 Holds-emptied v = record { recent = sym (drop-nil (0 - v.max_recent)); slow = sym (take_nil v.max_slow) } where
   take_nil : (n : ℕ) → take n (let none : List PacketFields = [] in none) ≡ []
@@ -95,10 +97,11 @@ Holds-emptied v = record { recent = sym (drop-nil (0 - v.max_recent)); slow = sy
 pub steady_before : (last : Option ℕ) (i : ℕ) (fs : List Frame) → option_map_or (λ l. nat_le i l) last false ≡ false
     → AllByRecursion (λ f. IsUpTo last (index_of f)) fs → AreBefore i fs
 steady_before last i [] p h = tt
-steady_before None i (f ∷ fs) p h = absurd h.0
-steady_before (Some l) i (f ∷ fs) p h = (at_most (index_of f) i l h.0 p, steady_before (Some l) i fs p h.1) where
-  at_most : (a i l : ℕ) → a ≤ l → nat_le i l ≡ false → a < i
-  at_most a i l q e = grind arith
+steady_before None i (f ∷ fs) p (first, others) = absurd first
+steady_before (Some l) i (f ∷ fs) p (first, others) =
+    (at_most (index_of f) i l first p, steady_before (Some l) i fs p others) where
+      at_most : (a i l : ℕ) → a ≤ l → nat_le i l ≡ false → a < i
+      at_most a i l q e = grind arith
 
 index_packed : (i : ℕ) (f : Frame) (b : Bool) → index_of (cond b (packed_alone f) f) ≡ index_of f
 index_packed i f true = refl
@@ -107,7 +110,8 @@ index_packed i f false = refl
 all_packed : (P : ℕ → Type 0) (i : ℕ) (fs : List Frame) → AllByRecursion (λ f. P (index_of f)) fs
     → AllByRecursion (λ f. P (index_of f)) (map (packed_under i) fs)
 all_packed P i [] h = tt
-all_packed P i (f ∷ fs) h = (subst P (sym (index_packed i f (nat_eq (index_of f) i))) h.0, all_packed P i fs h.1)
+all_packed P i (f ∷ fs) (first, others) =
+    (subst P (sym (index_packed i f (nat_eq (index_of f) i))) first, all_packed P i fs others)
 
 all_newest_at : (P : ℕ → Type 0) (v : View) (o : Option Frame) → AllByRecursion (λ f. P (index_of f)) v.slow
     → AllByRecursion (λ f. P (index_of f)) (option_map_or (λ f. with_packed (index_of f) v) o v).slow
@@ -121,8 +125,8 @@ all_choice P v false h = h
 
 more_at : (v : View) (f : Frame) (cs ds : List PacketFields) (b : Bool) → b ≡ false → is_past v (index_of f) ≡ false
     → IsSteady v → Holds cs ds v
-    → Holds (cs ++ fields_of f ∷ []) (ds
-    ++ fields_of f ∷ []) (joined_by (cond b (without_frames v) (cond v.packs (with_newest_packed v) v)) f)
+    → Holds (cs ++ fields_of f ∷ []) (ds ++ fields_of f ∷ [])
+    (joined_by (cond b (without_frames v) (cond v.packs (with_newest_packed v) v)) f)
 more_at v f cs ds true e p steady h = cc
 more_at v f cs ds false e p steady h =
     Holds-joined (cond v.packs (with_newest_packed v) v) f cs ds (Holds-choice v cs ds v.packs h)
@@ -133,8 +137,8 @@ pub Holds-more : (v : View) (f : Frame) (cs ds : List PacketFields) → IsSteady
     → Holds cs ds v → Holds (cs ++ fields_of f ∷ []) (ds ++ fields_of f ∷ []) (after_taking v f)
 Holds-more v f cs ds steady p h = more_at v f cs ds (is_past v (index_of f)) p p steady h
 
-anew_at : (v : View) (f : Frame) (b : Bool) → b ≡ true → Holds (fields_of f ∷ []) (fields_of f ∷ []) (joined_by
-    (cond b (without_frames v) (cond v.packs (with_newest_packed v) v)) f)
+anew_at : (v : View) (f : Frame) (b : Bool) → b ≡ true → Holds (fields_of f ∷ []) (fields_of f ∷ [])
+    (joined_by (cond b (without_frames v) (cond v.packs (with_newest_packed v) v)) f)
 anew_at v f true e = Holds-joined (without_frames v) f [] [] (Holds-emptied v) tt
 anew_at v f false e = cc
 
@@ -162,6 +166,7 @@ steady_at v f true p h = steady_slow (without_frames v) f (enters (without_frame
 steady_at v f false p h = let w : View = cond v.packs (with_newest_packed v) v in steady_slow w f (enters w f)
     (all_choice (λ i. i < index_of f) v v.packs (steady_before v.last (index_of f) v.slow p h))
 
+-- taking a frame keeps all slow indices at most the last one
 pub IsSteady-taking : (v : View) (f : Frame) → IsSteady v → IsSteady (after_taking v f)
 IsSteady-taking v f h = steady_at v f (is_past v (index_of f)) refl h
 
@@ -174,8 +179,8 @@ and_assoc : (a b c : Bool) → (a && (b && c)) ≡ ((a && b) && c)
 and_assoc true b c = refl
 and_assoc false b c = refl
 
-rises-more : (x : PacketFields) (xs : List PacketFields) (c : PacketFields) → rises_above (frame_index x) (xs
-    ++ c ∷ []) ≡ (rises_above (frame_index x) xs && nat_lt (frame_index (last_from x xs)) (frame_index c))
+rises-more : (x : PacketFields) (xs : List PacketFields) (c : PacketFields) → rises_above (frame_index x)
+    (xs ++ c ∷ []) ≡ (rises_above (frame_index x) xs && nat_lt (frame_index (last_from x xs)) (frame_index c))
 rises-more x [] c = and_true (nat_lt (frame_index x) (frame_index c))
 rises-more x (y ∷ ys) c = ap (λ b. nat_lt (frame_index x) (frame_index y) && b) (rises-more y ys c)
     ∙ and_assoc (nat_lt (frame_index x) (frame_index y)) (rises_above (frame_index y) ys)
@@ -186,6 +191,7 @@ more_taken_at : (whole later rest : List PacketFields) (c : PacketFields) (b d l
 more_taken_at whole later rest c true d l e p ih = rw (e, p) refl
 more_taken_at whole later rest c false d l e p ih = rw e ih
 
+-- a frame with a higher index joins the frames taken
 pub taken-more : (x : PacketFields) (xs : List PacketFields) (c : PacketFields)
     → nat_lt (frame_index (last_from x xs)) (frame_index c) ≡ true
     → rising_end ((x ∷ xs) ++ c ∷ []) ≡ rising_end (x ∷ xs) ++ c ∷ []
@@ -199,6 +205,7 @@ none_taken_at : (whole later : List PacketFields) (c : PacketFields) (b d l : Bo
 none_taken_at whole later c true d l e p ih = rw (e, p) ih
 none_taken_at whole later c false d l e p ih = rw e ih
 
+-- a frame whose index is not higher is taken alone
 pub taken-anew : (x : PacketFields) (xs : List PacketFields) (c : PacketFields)
     → nat_lt (frame_index (last_from x xs)) (frame_index c) ≡ false → rising_end ((x ∷ xs) ++ c ∷ []) ≡ c ∷ []
 taken-anew x [] c p = rw p refl
@@ -210,6 +217,7 @@ last-more : (x : PacketFields) (xs : List PacketFields) (c : PacketFields) → l
 last-more x [] c = refl
 last-more x (y ∷ ys) c = last-more y ys c
 
+-- at most, or above
 pub opposite : (i l : ℕ) (b : Bool) → nat_le i l ≡ b → nat_lt l i ≡ (cond b false true)
 opposite i l true h = grind arith
 opposite i l false h = grind arith

@@ -44,6 +44,7 @@ pub record Added (old : Totals) (all left : List Held) (new : Totals) : Type 0 w
   pub whole : all ≡ before ++ left
   pub totals : new ≡ fold with_stream old (map entry_of before)
 
+-- one more stream was added
 pub one_added : (old mid new : Totals) (all left rest : List Held) (e : Held) → left ≡ e ∷ rest
     → new ≡ with_stream mid (entry_of e) → Added old all left mid → Added old all rest new
 one_added old mid new all left rest e is step added = record {
@@ -55,6 +56,7 @@ one_added old mid new all left rest e is step added = record {
       ∙ fold_push with_stream old (map entry_of added.before) (entry_of e));
 }
 
+-- all streams of the frame were added
 pub all_added : (old new : Totals) (all left : List Held) → left ≡ [] → Added old all left new
     → IsStrictlySortedBy thread_cmp (keys_of all) → new ≡ fold with_stream old (tree.entries (shared_streams all))
 all_added old new all left none added sorted =
@@ -63,6 +65,7 @@ all_added old new all left none added sorted =
     added.totals ∙ ap (λ (es : List Held). fold with_stream old (map entry_of es)) (sym whole)
     ∙ ap (fold with_stream old) (sym (entries_held all sorted))
 
+-- the streams so far were added, and the others not
 pub some_added : (old new : Totals) (all left : List Held) → Added old all left new
     → IsStrictlySortedBy thread_cmp (keys_of all) → HasSome old (shared_streams all) new
 some_added old new all left added sorted = (

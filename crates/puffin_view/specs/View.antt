@@ -20,6 +20,7 @@ use Rattle.puffin_view.specs.View.ViewedFrames.{Frame, is_slower_frame, slowest,
 
 -- ---- the frames that a view holds
 
+-- a view's frames and settings
 pub record View : Type 0 where
   -- the last frames, oldest first
   pub recent : List Frame
@@ -27,6 +28,7 @@ pub record View : Type 0 where
   pub slow : List Frame
   -- the index of the last frame taken
   pub last : Option ℕ
+  -- the greatest number of recent frames, and of slow ones
   pub max_recent : ℕ
   pub max_slow : ℕ
   -- whether the newest frame is packed before another is taken
@@ -51,8 +53,8 @@ last_index frames = option_map frame_index (last_in frames)
 abbrev pub rises_behind : Option ℕ → PacketFields → Bool
 rises_behind last next = option_map_or (λ index. nat_lt index (frame_index next)) last true
 
--- The view took frames with these contents, in order, and its limits didn't change after the first of them. It holds only those
--- since the last one whose index didn't rise.
+-- The view took frames with these contents, in order, and its limits didn't change after the first of them. A frame whose index
+-- isn't above the last one empties the view first, so it holds frames of the last run of rising indices.
 pub record Took (taken : List PacketFields) (view : View) : Type 0 where
   pub holds : Holds (rising_end taken) (rising_end taken) view
   pub last : view.last ≡ last_index taken

@@ -17,10 +17,11 @@ use Rattle.puffin_merge.specs.Merge.Occurrences.{Label}
 
 -- ---- keys
 
+-- a key's id and the bytes of its text
 abbrev pub key_label : Key → Label
 key_label key = record { id = key.id; text = string_bytes key.text }
 
--- the label of a key that borrows its text
+-- the same of a key that borrows its text
 abbrev pub ref_label : KeyRef → Label
 ref_label key = record { id = key.id; text = key.text.now }
 
@@ -33,7 +34,7 @@ pub record IsKeyOf (key : Key) (parent_number : ℕ) (its_label : Label) : Type 
 abbrev pub IsSameKey : Key → Key → Type 0
 IsSameKey key other = IsKeyOf key other.parent.number (key_label other)
 
--- the node at place k has this parent's number and this label
+-- the node at place k has this parent's number and this label (`default` would stand for a node beyond the list)
 abbrev pub HasLabel : List Node → ℕ → ℕ → Label → Type 0
 HasLabel nodes k parent label =
     (default : Node) → IsKeyOf (slice_index_or nodes k default).key parent label
@@ -76,13 +77,15 @@ pub record TableParts : Type 0 where
   pub texts : BTreeMap (String Global) TextNumber
   pub numbers : BTreeMap NumberedKey NodeNumber
 
+-- the number of a text, if it has one
 abbrev pub text_number_in : TableParts → String Global → Option TextNumber
 text_number_in t text = lookup (is_at (string_cmp text)) t.texts.entries
 
+-- the number of the node with this key, if there is one
 abbrev pub node_number_in : TableParts → NumberedKey → Option NodeNumber
 node_number_in t key = lookup (is_at (numbered_key_cmp key)) t.numbers.entries
 
--- the number of the node with this key, if its text has this number; none if its text has none
+-- the same for a key with its text, whose number is given; none if the text has no number
 abbrev pub number_in : TableParts → Key → Option TextNumber → Option NodeNumber
 number_in t key None = None
 number_in t key (Some text) = node_number_in t (numbered_key_of key text)

@@ -84,6 +84,7 @@ whole_again : (cs : List PacketFields) → Again → AllByRecursion IsPacked cs 
     → file_at (file_of cs) ≡ unless_missing (list_any lacks_ids cs) (map packed cs) (drop 4 [])
 whole_again cs again all few = ap file_at (sym (append-nil (file_of cs))) ∙ file_again cs [] again all few refl
 
+-- a written file is read as its frames
 pub frames_again : (cs : List PacketFields) (new : Option (List ℕ)) (frames : List Stored) → Again
     → AllByRecursion IsPacked cs → length cs < 2 ^ 64 - 1 → TookFrames file_at (Some (file_of cs)) new frames
     → frames ≡ map packed cs
@@ -92,6 +93,7 @@ frames_again cs new frames again all few h =
     frames_given (list_any lacks_ids cs) (map packed cs) frames (drop 4 []) k.0
     (sym (whole_again cs again all few) ∙ k.1)
 
+-- a written file has no fault but missing ids
 pub fault_again : (cs : List PacketFields) (new : Option (List ℕ)) (e : FileError)
     → Again → AllByRecursion IsPacked cs → length cs < 2 ^ 64 - 1 → FailsToRead file_at (Some (file_of cs)) new e
     → (IsOutside e → ⊥)
@@ -139,10 +141,12 @@ rising_by (e ∷ es) keys sorted =
     (sym keys.0) (first (below_all nat_cmp e.0 es) (is_sorted nat_cmp es) sorted))
     (second (below_all nat_cmp e.0 es) (is_sorted nat_cmp es) sorted)
 
+-- a view's frames rise by index
 pub fields_rise : (v : View) → is_rising (fields_in v) ≡ true
 fields_rise v = let fs = v.recent ++ v.slow in
     rising_by (fin.entries (frames_by_index fs)) (keyed fs) (fin.entries_sorted (frames_by_index fs))
 
+-- frames that rise are all kept
 pub all_taken : (cs : List PacketFields) → is_rising cs ≡ true → rising_end cs ≡ cs
 all_taken [] h = refl
 all_taken (c ∷ cs) h = ap (λ (b : Bool). cond b (c ∷ cs) (rising_end cs)) h
@@ -163,13 +167,16 @@ ready_keeps false false v = refl
 taking_keeps : (v : View) (f : Frame) → (after_taking v f).max_recent ≡ v.max_recent
 taking_keeps v f = ready_keeps (is_past v (index_of f)) v.packs v
 
+-- taking frames keeps the limit
 pub all_keep : (v : View) (fs : List Frame) → (after_all v fs).max_recent ≡ v.max_recent
 all_keep v [] = refl
 all_keep v (f ∷ fs) = all_keep (after_taking v f) fs ∙ taking_keeps v f
 
+-- the last ones of no more than that many are all
 pub last_of_all : (n : ℕ) (cs : List PacketFields) → length cs ≤ n → last_of n cs ≡ cs
 last_of_all n cs h = let none : length cs - n ≡ 0 = omega arith in ap (λ (k : ℕ). drop k cs) none
 
+-- a packed frame is read with its own contents
 pub said_again : (cs : List PacketFields) → map fields_of (map frame_stored (map packed cs)) ≡ cs
 said_again [] = refl
 said_again (c ∷ cs) = ap (λ (ds : List PacketFields). c ∷ ds) (said_again cs)
@@ -186,6 +193,7 @@ view_by cs frames view rising few is h =
     ∙ (ap (λ (ds : List PacketFields). last_of (2 ^ 64 - 1) (rising_end ds)) said
     ∙ (ap (last_of (2 ^ 64 - 1)) (all_taken cs rising) ∙ last_of_all (2 ^ 64 - 1) cs (omega (arith, few)))))
 
+-- a view's file is read as a view with the same frames
 pub view_again : (v : View) (new : Option (List ℕ)) (view : FrameView) → Again → AllByRecursion IsPacked (fields_in v)
     → length (fields_in v) < 2 ^ 64 - 1 → ReadsView file_at (Some (file_of (fields_in v))) new (Ok view)
     → map fields_of (view_of view).recent ≡ fields_in v

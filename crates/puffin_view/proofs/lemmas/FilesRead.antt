@@ -89,6 +89,7 @@ frames_fail (Err f) read e is = ap Err (ap fault_in is)
 frames_fail (Ok (None, after)) read e is = absurd cc
 frames_fail (Ok (Some t, after)) read e is = fault_by (read after) (with_ids t) after e is
 
+-- frames that were given are read first, and then what follows
 pub goes_on : (bytes : List ℕ) (frames : List Stored) → AreGiven bytes frames → (n : ℕ) (rest : List ℕ)
     → frames_at (n + length frames) (bytes ++ rest) ≡ behind frames (frames_at n rest)
 goes_on bytes [] none n rest =
@@ -116,6 +117,7 @@ one_more bytes [] t s none is = (t, [], ap (λ (b : List ℕ). b ++ t) none ∙ 
 one_more bytes (f ∷ frames) t s h is =
     (h.0, h.1 ++ t, ap (λ (b : List ℕ). b ++ t) h.2 ∙ append_assoc h.0 h.1 t, h.3, one_more h.1 frames t s h.4 is)
 
+-- one frame more was given
 pub gives_one : (old mid new : Option (List ℕ)) (frames : List Stored) (s : Stored) (t : List ℕ)
     → HasGiven old mid frames → Consumes mid new t → ((rest : List ℕ) → frame_at (t ++ rest) ≡ Ok (Some s, rest))
     → HasGiven old new (frames ++ s ∷ [])
@@ -162,6 +164,7 @@ at_end_by : (b : Bool) (bytes after : List ℕ)
 at_end_by true bytes after e = refl
 at_end_by false bytes after e = absurd (frame_after (take 4 bytes) (drop 4 bytes) after e)
 
+-- what is read as the end is an end
 pub is_at_end : (bytes after : List ℕ) → next_at bytes ≡ Ok (None, after) → is_end bytes ≡ true
 unfolding next_at
 is_at_end bytes after e = at_end_by (is_end bytes) bytes after e
@@ -172,6 +175,7 @@ four_end a b d f rest h =
     let long : ltb (length (a ∷ b ∷ d ∷ f ∷ rest)) 4 ≡ false = le-ltb _ _ (omega arith) in
     rw long h
 
+-- four zeros are the end, whatever follows
 pub end_stays : (taken rest : List ℕ) → length taken ≡ 4 → is_end taken ≡ true
     → next_at (taken ++ rest) ≡ Ok (None, rest)
 unfolding next_at
@@ -204,6 +208,7 @@ took_by old mid new frames n h e = record {
 room : (k : ℕ) → k < most_packets → suc (most_packets - suc k) + k ≡ most_packets
 room k lt = omega arith
 
+-- at the end the frames given are those of the file
 pub takes_all : (old mid new : Option (List ℕ)) (frames : List Stored) → length frames < most_packets
     → HasGiven old mid frames → AtEnd mid new → TookFrames file_at old new frames
 takes_all old mid new frames lt h e =
@@ -252,6 +257,7 @@ fails_by old mid new frames n h file.Memory f = tt
 fails_by old mid new frames n h file.Truncated f = fault_at_end old mid new frames n h file.Truncated f.0 f.1 f.3 f.2
 fails_by old mid new frames n h e f = fault_follows old mid new frames n h e f.0 f.1 f.2
 
+-- the next frame's fault is that of the file
 pub fails_next : (old mid new : Option (List ℕ)) (frames : List Stored) (e : FileError) → length frames < most_packets
     → HasGiven old mid frames → FailsAt e mid new frame_at → FailsToRead file_at old new e
 fails_next old mid new frames e lt h f =
@@ -268,22 +274,27 @@ spent_by old new frames h = record {
   last = inl (λ rest. goes_on h.bytes frames h.given 0 rest);
 }
 
+-- a file of too many frames is `Truncated`
 pub spent : (old new : Option (List ℕ)) (frames : List Stored) → length frames ≡ most_packets
     → HasGiven old new frames → FailsToRead file_at old new file.Truncated
 spent old new frames e h =
     let all : 0 + length frames ≡ most_packets = omega (arith, e) in
     subst (λ (n : ℕ). TookFault (file_below n) old new file.Truncated) all (spent_by old new frames h)
 
+-- the greatest number of packets
 pub most_is : most_packets ≡ 2 ^ 64 - 1
 unfolding most_packets
 most_is = refl
 
+-- fewer than the greatest number
 pub room_left : (n : ℕ) → n < 2 ^ 64 - 1 → n < most_packets
 room_left n lt = subst (λ (m : ℕ). n < m) (sym most_is) lt
 
+-- the loop has counted to the greatest number
 pub none_left : (n k : ℕ) → n ≡ k → 2 ^ 64 - 1 ≤ k → k ≤ 2 ^ 64 - 1 → n ≡ most_packets
 none_left n k e low high = subst (λ (m : ℕ). n ≡ m) (sym most_is) (omega (arith, e, low, high))
 
+-- so many frames are the greatest number of packets
 pub most_frames : (n : ℕ) → n ≡ 2 ^ 64 - 1 → n ≡ most_packets
 most_frames n e = subst (λ (m : ℕ). n ≡ m) (sym most_is) e
 
@@ -298,21 +309,25 @@ without_ids : (s : Stored) (bytes rest : List ℕ) → next_at bytes ≡ Ok (Som
     → lacks_ids (fields_of (frame_stored s)) ≡ true → frame_at bytes ≡ Err (file.Refused MissingId)
 without_ids s bytes rest is lacks = rw (is, lacks) refl
 
+-- a frame whose details have ids is given
 pub checked : (old new : Option (List ℕ)) (frame : FrameData)
     → FromDevice {X = FrameData} (λ f. Some (stored_of f)) old new (Ok frame) next_at
     → lacks_ids (fields_of (frame_stored (stored_of frame))) ≡ false → GivesNext old new (Ok (Some frame))
 checked old new frame h ids = (h.0, h.1, λ rest. with_its_ids (stored_of frame) (h.0 ++ rest) rest (h.2 rest) ids, h.3)
 
+-- a frame whose details lack ids is a fault
 pub refused : (old new : Option (List ℕ)) (frame : FrameData)
     → FromDevice {X = FrameData} (λ f. Some (stored_of f)) old new (Ok frame) next_at
     → lacks_ids (fields_of (frame_stored (stored_of frame))) ≡ true → GivesNext old new (Err (file.Refused MissingId))
 refused old new frame h lacks = (h.0, h.1, λ rest. without_ids (stored_of frame) (h.0 ++ rest) rest (h.2 rest) lacks)
 
+-- a fault of the packet is one of the frame
 pub failed : (old new : Option (List ℕ)) (e : FileError) → FailsAt e old new next_at → GivesNext old new (Err e)
 failed old new e h = stops e old new next_at frame_with_ids h
 
 -- ---- a call after others
 
+-- a call that gave a frame gave one more of the file
 pub given_more : (mid new : Option (List ℕ)) (r : Result (Option FrameData) FileError) → GivesNext mid new r
     → IfOk r (λ next. IfSome next (λ frame. (old : Option (List ℕ)) (frames : List Stored) → HasGiven old mid frames
     → HasGiven old new (frames ++ stored_of frame ∷ [])))
@@ -320,6 +335,7 @@ given_more mid new (Err e) h = tt
 given_more mid new (Ok None) h = tt
 given_more mid new (Ok (Some frame)) h = λ old frames g. gives_one old mid new frames (stored_of frame) h.0 g h.1 h.2
 
+-- a call that gave the end gave all frames of the file
 pub all_given : (mid new : Option (List ℕ)) (r : Result (Option FrameData) FileError) → GivesNext mid new r
     → IfOk r (λ next. IfNone next ((old : Option (List ℕ)) (frames : List Stored) → HasGiven old mid frames
     → length frames < 2 ^ 64 - 1 → TookFrames file_at old new frames))
@@ -327,6 +343,7 @@ all_given mid new (Err e) h = tt
 all_given mid new (Ok None) h = λ old frames g lt. takes_all old mid new frames (room_left (length frames) lt) g h
 all_given mid new (Ok (Some frame)) h = tt
 
+-- a call that failed has the fault of the file
 pub fault_given : (mid new : Option (List ℕ)) (r : Result (Option FrameData) FileError) → GivesNext mid new r
     → IfErr r (λ e. (old : Option (List ℕ)) (frames : List Stored) → HasGiven old mid frames
     → length frames < 2 ^ 64 - 1 → FailsToRead file_at old new e)

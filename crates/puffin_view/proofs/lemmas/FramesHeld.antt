@@ -58,8 +58,8 @@ module _ (P : Frame → Type 0) (keeps : (i : ℕ) (f : Frame) → P f → P (pa
 
   all_held : (v : View) (fs : List Frame) → AllByRecursion P fs → AllHeld P v → AllHeld P (after_all v fs)
   all_held v [] all h = h
-  all_held v (f ∷ fs) all h =
-      all_held (after_taking v f) fs all.1 (joined_held _ f all.0 (ready_held (is_past v (index_of f)) v.packs v h))
+  all_held v (f ∷ fs) (first, others) h =
+      all_held (after_taking v f) fs others (joined_held _ f first (ready_held (is_past v (index_of f)) v.packs v h))
 
 -- ---- tests of what frames say
 
@@ -69,18 +69,18 @@ Fails p f = p (fields_of f) ≡ false
 fail_all : (p : PacketFields → Bool) (fs : List Frame) → list_any p (map fields_of fs) ≡ false
     → AllByRecursion (Fails p) fs
 fail_all p [] h = tt
-fail_all p (f ∷ fs) h = let both = neither (p (fields_of f)) (list_any p (map fields_of fs)) h in
-    (both.0, fail_all p fs both.1)
+fail_all p (f ∷ fs) h = let (first, others) = neither (p (fields_of f)) (list_any p (map fields_of fs)) h in
+    (first, fail_all p fs others)
 
 none_passes : (p : PacketFields → Bool) (fs : List Frame) → AllByRecursion (Fails p) fs
     → list_any p (map fields_of fs) ≡ false
 none_passes p [] h = refl
-none_passes p (f ∷ fs) h = rw h.0 (none_passes p fs h.1)
+none_passes p (f ∷ fs) (first, others) = rw first (none_passes p fs others)
 
 all_append : (P : Frame → Type 0) (fs gs : List Frame) → AllByRecursion P fs → AllByRecursion P gs
     → AllByRecursion P (fs ++ gs)
 all_append P [] gs h k = k
-all_append P (f ∷ fs) gs h k = (h.0, all_append P fs gs h.1 k)
+all_append P (f ∷ fs) gs (first, others) k = (first, all_append P fs gs others k)
 
 says_same : (i : ℕ) (f : Frame) → fields_of (packed_under i f) ≡ fields_of f
 says_same i f = at (nat_eq (index_of f) i) where
@@ -89,6 +89,7 @@ says_same i f = at (nat_eq (index_of f) i) where
   at true = refl
   at false = refl
 
+-- a view holds only frames that it held or took
 pub held_or_taken : (p : PacketFields → Bool) (v : View) (fs : List Frame) → list_any p (fields_held v) ≡ false
     → list_any p (map fields_of fs) ≡ false → list_any p (fields_held (after_all v fs)) ≡ false
 held_or_taken p v fs held none =
@@ -106,33 +107,34 @@ held_or_taken p v fs held none =
 entries_put : (P : Frame → Type 0) (i : ℕ) (f : Frame) (es : List (ℕ × Frame)) → P f → AllByRecursion (λ e. P e.1) es
     → AllByRecursion (λ e. P e.1) (fin.put nat_cmp i f es)
 entries_put P i f [] p h = (p, tt)
-entries_put P i f (e ∷ es) p h = at (nat_cmp i e.0) (entries_put P i f es p h.1) where
+entries_put P i f (e ∷ es) p (first, others) = at (nat_cmp i e.0) (entries_put P i f es p others) where
   at : (o : Ordering) → AllByRecursion (λ d. P d.1) (fin.put nat_cmp i f es)
       → AllByRecursion (λ d. P d.1) (by_order o ((i, f) ∷ e ∷ es) ((e.0, f) ∷ es) (e ∷ fin.put nat_cmp i f es))
-  at Less later = (p, h)
-  at Equal later = (p, h.1)
-  at Greater later = (h.0, later)
+  at Less later = (p, (first, others))
+  at Equal later = (p, others)
+  at Greater later = (first, later)
 
 no_length : {B : Type 0} (xs : List B) → length xs ≡ 0 → xs ≡ []
 no_length [] e = refl
 no_length (x ∷ xs) e = absurd (omega arith)
 
 no_entries : fin.entries (frames_by_index []) ≡ []
-no_entries = no_length (fin.entries (frames_by_index [])) (sym (fin.len-entries (fin.empty {X = Frame} {R = nat_cmp}))
-    ∙ fin.len-empty nat_cmp Frame)
+no_entries = no_length (fin.entries (frames_by_index []))
+    (sym (fin.len-entries (fin.empty {X = Frame} {R = nat_cmp})) ∙ fin.len-empty nat_cmp Frame)
 
 entries_all : (P : Frame → Type 0) (fs : List Frame) → AllByRecursion P fs
     → AllByRecursion (λ e. P e.1) (fin.entries (frames_by_index fs))
 entries_all P [] h = subst (AllByRecursion (λ e. P e.1)) (sym no_entries) tt
-entries_all P (f ∷ fs) h =
+entries_all P (f ∷ fs) (first, others) =
     subst (AllByRecursion (λ e. P e.1)) (sym (fin.entries-insert nat_cmp_total (frames_by_index fs) (index_of f) f))
-    (entries_put P (index_of f) f (fin.entries (frames_by_index fs)) h.0 (entries_all P fs h.1))
+    (entries_put P (index_of f) f (fin.entries (frames_by_index fs)) first (entries_all P fs others))
 
 values_all : (P : Frame → Type 0) (es : List (ℕ × Frame)) → AllByRecursion (λ e. P e.1) es
     → AllByRecursion P (map (λ e. e.1) es)
 values_all P [] h = tt
-values_all P (e ∷ es) h = (h.0, values_all P es h.1)
+values_all P (e ∷ es) (first, others) = (first, values_all P es others)
 
+-- a view lists only frames that it holds
 pub listed_is_held : (p : PacketFields → Bool) (v : View) → list_any p (fields_held v) ≡ false
     → list_any p (fields_in v) ≡ false
 listed_is_held p v held =
@@ -199,26 +201,27 @@ found_first q (f ∷ fs) gs h =
 -- and none under another
 not_found : (q : ℕ) (fs : List Frame) → has_index q fs ≡ false → fin.find nat_cmp q (map by_own_index fs) ≡ None
 not_found q [] h = refl
-not_found q (f ∷ fs) h = let both = neither (nat_eq q (index_of f)) (has_index q fs) h in
-    rw (is_at q (index_of f), both.0) (not_found q fs both.1)
+not_found q (f ∷ fs) h = let (apart, others) = neither (nat_eq q (index_of f)) (has_index q fs) h in
+    rw (is_at q (index_of f), apart) (not_found q fs others)
 
 has_either : (q : ℕ) (fs gs : List Frame) → has_index q fs ≡ false → has_index q gs ≡ false
     → has_index q (fs ++ gs) ≡ false
 has_either q [] gs h k = k
-has_either q (f ∷ fs) gs h k = let both = neither (nat_eq q (index_of f)) (has_index q fs) h in
-    rw both.0 (has_either q fs gs both.1 k)
+has_either q (f ∷ fs) gs h k = let (apart, others) = neither (nat_eq q (index_of f)) (has_index q fs) h in
+    rw apart (has_either q fs gs others k)
 
 -- an index that no first frame has none of frames has whose indices they have
 none_of_these : (q : ℕ) (fs gs : List Frame) → has_index q fs ≡ false
     → AllByRecursion (λ g. has_index (index_of g) fs ≡ true) gs → has_index q gs ≡ false
 none_of_these q fs [] h all = refl
-none_of_these q fs (g ∷ gs) h all = rw (apart (nat_eq q (index_of g)) refl) (none_of_these q fs gs h all.1) where
-  equal : nat_eq q (index_of g) ≡ true → q ≡ index_of g
-  equal e = grind arith
+none_of_these q fs (g ∷ gs) h (first, rest) =
+    rw (apart (nat_eq q (index_of g)) refl) (none_of_these q fs gs h rest) where
+      equal : nat_eq q (index_of g) ≡ true → q ≡ index_of g
+      equal e = grind arith
 
-  apart : (b : Bool) → nat_eq q (index_of g) ≡ b → b ≡ false
-  apart true e = let same : has_index q fs ≡ true = ap (λ (i : ℕ). has_index i fs) (equal e) ∙ all.0 in cc
-  apart false e = refl
+      apart : (b : Bool) → nat_eq q (index_of g) ≡ b → b ≡ false
+      apart true e = let same : has_index q fs ≡ true = ap (λ (i : ℕ). has_index i fs) (equal e) ∙ first in cc
+      apart false e = refl
 
 found_alike : (q : ℕ) (fs gs : List Frame) → AllByRecursion (λ g. has_index (index_of g) fs ≡ true) gs
     → fin.find nat_cmp q (map by_own_index (fs ++ gs)) ≡ fin.find nat_cmp q (map by_own_index fs)
@@ -263,12 +266,13 @@ rising_in_place fs rising few =
     let v = after_all read_view fs in
     let recent = rising_are_recent fs rising few in
     let slow : AllByRecursion (λ g. has_index (index_of g) fs ≡ true) v.slow =
-    (all_held (λ g. has_index (index_of g) fs ≡ true) (λ i f h. ap (λ (k : ℕ). has_index k fs) (index_packed_at i f)
-    ∙ h) read_view fs (has_all (λ g. has_index (index_of g) fs ≡ true) fs (λ g h. h))
-    (record { recent = tt; slow = tt })).slow in
+    (all_held (λ g. has_index (index_of g) fs ≡ true)
+    (λ i f h. ap (λ (k : ℕ). has_index k fs) (index_packed_at i f) ∙ h) read_view fs
+    (has_all (λ g. has_index (index_of g) fs ≡ true) fs (λ g h. h)) (record { recent = tt; slow = tt })).slow in
     let alike : (q : ℕ) → has_index q fs ≡ has_index q v.recent = λ q.
-    sym (has-index_of q fs) ∙ (ap (has_number q) (indices_said fs
-    ∙ (ap (map frame_index) (sym recent) ∙ sym (indices_said v.recent))) ∙ has-index_of q v.recent) in
+    sym (has-index_of q fs)
+    ∙ (ap (has_number q) (indices_said fs ∙ (ap (map frame_index) (sym recent) ∙ sym (indices_said v.recent)))
+    ∙ has-index_of q v.recent) in
     let slow_again : AllByRecursion (λ g. has_index (index_of g) v.recent ≡ true) v.slow =
     all_map (λ g. has_index (index_of g) fs ≡ true) (λ g. has_index (index_of g) v.recent ≡ true)
     (λ g h. sym (alike (index_of g)) ∙ h) v.slow slow in
@@ -284,6 +288,7 @@ read_in_place cs rising few =
     let short : length fs < 2 ^ 64 - 1 = omega (arith, few, map-length fields_of fs, ap length said) in
     rising_in_place fs rises short ∙ (rising_are_recent fs rises short ∙ said)
 
+-- a view that takes the frames of a view's file holds exactly these
 pub read_again : (v : View) → length (fields_in v) < 2 ^ 64 - 1
     → fields_in (after_all read_view (map frame_stored (map packed (fields_in v)))) ≡ fields_in v
 read_again v few = read_in_place (fields_in v) (fields_rise v) few

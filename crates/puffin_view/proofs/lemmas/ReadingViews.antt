@@ -15,11 +15,13 @@ use Rattle.puffin_view.proofs.lemmas.FramesHeld.{rising_in_place}
 
 -- ---- one frame more
 
+-- a frame whose index rises joins the frames kept
 pub end_goes_on : (cs : List PacketFields) (c : PacketFields) → rises_behind (last_index cs) c ≡ true
     → rising_end (cs ++ c ∷ []) ≡ rising_end cs ++ c ∷ []
 end_goes_on [] c rises = refl
 end_goes_on (x ∷ xs) c rises = taken-more x xs c rises
 
+-- another frame replaces them all
 pub end_begins_anew : (cs : List PacketFields) (c : PacketFields) → rises_behind (last_index cs) c ≡ false
     → rising_end (cs ++ c ∷ []) ≡ c ∷ []
 end_begins_anew [] c falls = refl
@@ -122,6 +124,7 @@ recent_are fs few =
     ∙ last_of_all (2 ^ 64 - 1) (rising_end (map fields_of fs))
     (omega (arith, few, fewer (map fields_of fs), map-length fields_of fs)))
 
+-- a view that reads frames keeps the last run of rising indices
 pub kept_by_reading : (fs : List Frame) → length fs < 2 ^ 64 - 1
     → fields_in (after_all read_view fs) ≡ rising_end (map fields_of fs)
 kept_by_reading fs few =

@@ -16,19 +16,18 @@ walk_with-requires c κs =
     let same = passed_128 c.origin_of-merging.result
     (origin_fits c.origin_of-merging.result c.origin_of-merging.ensures.is) in (
       (refl, tt),
-      subst (λ (w : OpenScope). StandsFor (record {
-        table = c.args.merging.now.table;
-        origin = to_z w128 (of_z w128 c.origin_of-merging.result);
-      }) w _) (sym c.outside-outside.ensures) (record {
-        table = c.requires;
-        node = omega arith;
-        path = top_path c.args.merging.now.table.nodes.items;
-        depth = refl;
-        shallow = omega arith;
-        origin = ap (λ (t : ℤ). to_z w128 (of_z w128 t)) same;
-        is_origin =
-            subst IsOrigin (sym (ap (λ (t : ℤ). to_z w128 (of_z w128 t)) same ∙ same)) c.origin_of-merging.ensures.is;
-      }),
+      subst (λ (w : OpenScope). StandsFor
+          (record { table = c.args.merging.now.table; origin = to_z w128 (of_z w128 c.origin_of-merging.result) }) w
+          _) (sym c.outside-outside.ensures) (record {
+            table = c.requires;
+            node = omega arith;
+            path = top_path c.args.merging.now.table.nodes.items;
+            depth = refl;
+            shallow = omega arith;
+            origin = ap (λ (t : ℤ). to_z w128 (of_z w128 t)) same;
+            is_origin =
+                subst IsOrigin (sym (ap (λ (t : ℤ). to_z w128 (of_z w128 t)) same ∙ same)) c.origin_of-merging.ensures.is;
+          }),
     )
 
 pub returns-in-None-clause-ok : goal.returns-in-None-clause-ok

@@ -17,8 +17,8 @@ returns-in_err-placements-clause-err c =
         large.0,
         placements_some c.args.table.now c.args.frames c.in_ok-ordered_nodes.ordered_nodes.items
             c.in_ok-ordered_nodes.ensures.ordered_nodes
-            (subst (λ (ordered_nodes : List OrderedNode). (d : Node) → EachOf EndFits
-            (placements_from c.args.table.now.nodes.items c.args.frames above_all ordered_nodes d) → ⊥)
+            (subst (λ (ordered_nodes : List OrderedNode). (d : Node) → EachOf
+            EndFits (placements_from c.args.table.now.nodes.items c.args.frames above_all ordered_nodes d) → ⊥)
             c.as_slice.ensures.value large.1),
       )
     ])

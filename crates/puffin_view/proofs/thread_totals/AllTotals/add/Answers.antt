@@ -18,8 +18,9 @@ streams-init c = record { before = []; whole = search rules; totals = refl }
 pub streams-preserved : goal.streams-preserved
 streams-preserved c =
     let left = rest_more deref_pair _ _ _ _ c.in-Some.is c.next.ensures.steps in
-    one_added _ _ _ _ _ _ _ left (c.in_ok-add_stream.ensures.ok ∙ ap (λ i. with_stream (by_key
-    c.streams.self.totals.entries) (key_of c.in-Some.thread.now, facts_of i)) c.deref.ensures) c.streams.invariant
+    one_added _ _ _ _ _ _ _ left (c.in_ok-add_stream.ensures.ok
+    ∙ ap (λ i. with_stream (by_key c.streams.self.totals.entries) (key_of c.in-Some.thread.now, facts_of i))
+    c.deref.ensures) c.streams.invariant
 
 pub returns-clause-ok : goal.returns-clause-ok
 returns-clause-ok c =

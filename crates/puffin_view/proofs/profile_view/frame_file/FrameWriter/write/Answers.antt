@@ -33,8 +33,8 @@ returns-clause-begun g c =
     let learnt = c.in_ok-insert_all.ensures.ok
     ∙ ap (λ ds. with_all_details c.args.self.now.scopes (shared_details ds)) c.deref.ensures.value in
     let same = ap (λ (s : Collection). fields_if c.args.self.now.is_first s c.args.frame.now) learnt in
-    subst (λ (p : PacketFields). IfErr c.write_packet-written.result (λ e. (old : Option (List ℕ))
-    (cs : List PacketFields) → HoldsFile old (g.D.Drain.contents c.args.self.now.drain) cs
+    subst (λ (p : PacketFields). IfErr c.write_packet-written.result (λ e.
+    (old : Option (List ℕ)) (cs : List PacketFields) → HoldsFile old (g.D.Drain.contents c.args.self.now.drain) cs
     → HoldsBegun old (g.D.Drain.contents c.write_packet-written.new.drain) cs p)) same
     (packet_begun g.D.Drain.contents c.args.self.now.drain c.write_packet-written.new.drain _
     c.write_packet-written.result w.begun w.untouched w.cause)

@@ -1,4 +1,5 @@
--- The frame is replaced in the row or, if the row has none with its index, in the map. The indices stay, and so does their order.
+-- The frame is replaced in the row or, if the row has none with its index, in the map. The indices stay, and so does their
+-- order.
 use Rattle.std.proofs.Common.{◌≡◌, ◌++◌, sym, ap, ◌∙◌, Some, refl, subst}
 use Rattle.std.specs.Prelude.{IsSome}
 use Rattle.std.specs.Map.{lookup}
@@ -53,8 +54,9 @@ returns-in-Ok-clause-old c =
     let s = c.args.self.now in
     let index : c.frame_index-index.result ≡ index_of (shared_frame c.args.frame) =
     c.frame_index-index.ensures ∙ ap (λ f. index_of (frame_of f)) c.deref.ensures in
-    c.in-Ok.ensures.old ∙ sym (lookup-first (at c.frame_index-index.result) s.older.entries (keyed s.newest.items)
-    c.in-None.ensures.none) ∙ ap (λ k. lookup (at k) (rows_of s)) index
+    c.in-Ok.ensures.old ∙ sym
+    (lookup-first (at c.frame_index-index.result) s.older.entries (keyed s.newest.items) c.in-None.ensures.none)
+    ∙ ap (λ k. lookup (at k) (rows_of s)) index
 
 pub returns-in-Ok-clause-entries : goal.returns-in-Ok-clause-entries
 returns-in-Ok-clause-entries c =

@@ -35,8 +35,8 @@ rank_is : (c : goal.After-cut_recent) → c.of-rank.result ≡ rank_of (frame c)
 rank_is c = c.of-rank.ensures ∙ ap (λ f. rank_of (frame_of f)) c.deref.ensures
 
 stored : (c : goal.After-cut_recent)
-    → AreStored c.cut_recent.new.held c.cut_recent.new.recent.items c.enter_slow.new.slow.items (Some
-    (index_of (frame c))) (joined_by (before c) (frame c)).recent (joined_by (before c) (frame c)).slow
+    → AreStored c.cut_recent.new.held c.cut_recent.new.recent.items c.enter_slow.new.slow.items
+    (Some (index_of (frame c))) (joined_by (before c) (frame c)).recent (joined_by (before c) (frame c)).slow
 stored c =
     let s = c.self.inside in
     stored_joined (before c) (frame c) s.held c.push.new.self s.recent.items c.push_back_reserved.new.self.items

@@ -43,8 +43,8 @@ packs c =
     ∙ ap (λ f. packed_alone (frame_of f)) c.deref-2.ensures
 
 stored : (c : goal.After-replace)
-    → AreStored c.replace.new.self c.self.inside.recent.items c.self.inside.slow.items c.self.inside.last (with_packed
-    (index_of (newest c)) (before c)).recent (with_packed (index_of (newest c)) (before c)).slow
+    → AreStored c.replace.new.self c.self.inside.recent.items c.self.inside.slow.items c.self.inside.last
+    (with_packed (index_of (newest c)) (before c)).recent (with_packed (index_of (newest c)) (before c)).slow
 stored c =
     packed_newest c.self.inside.held c.replace.new.self c.self.inside.recent.items c.self.inside.slow.items
     c.self.inside.last (before c).recent (before c).slow (newest c) (shared_frame c.in_ok-packed.packed)

@@ -9,5 +9,6 @@ use Rattle.puffin_view.proofs.profile_view.frame_view.FrameView.stats.Goals as g
 pub returns : goal.returns
 returns c =
     let s = c.self.inside in
-    c.stats.ensures ∙ ap (λ m. stats_of (fin.values m)) (held_whole s.held s.recent.items s.slow.items s.last _ _
-    c.self.invariant) ∙ ap (λ v. stats_of (all_uniq v.frames)) c.self.view_is
+    c.stats.ensures ∙ ap
+    (λ m. stats_of (fin.values m)) (held_whole s.held s.recent.items s.slow.items s.last _ _ c.self.invariant)
+    ∙ ap (λ v. stats_of (all_uniq v.frames)) c.self.view_is

@@ -10,7 +10,8 @@ use Rattle.puffin_view.specs.View.Known.{view_of}
 use Rattle.puffin_view.specs.View.File.{file_of, fields_in, first_with}
 use Rattle.puffin_view.proofs.profile_view.frame_view.FrameView.write_frames.Given as goal
 
--- the file of the frames so far is written, and the others are left, the first of them with the details, if it is the first of all
+-- the file of the frames so far is written, and the others are left, the first of them with the details, if it is the first of
+-- all
 abbrev pub invariant-frames : goal.invariant-frames
 invariant-frames g l =
     (done : List PacketFields) × (first_with (option_map (λ c. c.now) l.fn.scopes) (fields_in (view_of l.fn.self))

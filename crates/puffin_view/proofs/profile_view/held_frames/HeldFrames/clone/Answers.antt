@@ -10,5 +10,6 @@ invariant_of-result c = summed_cloned (rows_of c.self.inside.frames) (rows_of c.
     c.self.inside.sums c.in_ok-clone.ensures.ok c.self.invariant
 
 pub returns-clause-ok : goal.returns-clause-ok
-returns-clause-ok c = ap fin.from_entries (seen_cloned (rows_of c.self.inside.frames) (rows_of c.in_ok-clone.field-0)
-    c.in_ok-clone.ensures.ok) ∙ c.self.view_is
+returns-clause-ok c = ap fin.from_entries
+    (seen_cloned (rows_of c.self.inside.frames) (rows_of c.in_ok-clone.field-0) c.in_ok-clone.ensures.ok)
+    ∙ c.self.view_is
