@@ -65,6 +65,7 @@ read_these added m h = subst (λ (xs : List FrameBytes). HasRead xs (length adde
 abbrev Added : List FrameBytes → Merger → ℕ → Type 0
 Added frames m tried = (h : HasAdded frames m) × (tries_for h ≡ tried)
 
+-- frames that were read are those that were added
 added_of : (frames : List FrameBytes) (i : ℕ) (m : Merger) (tried : ℕ) → i ≡ length frames
     → HasRead frames i m.merging.table tried → m.frames ≡ length frames → m.first ≡ start_of frames
     → Added frames m tried

@@ -1,5 +1,5 @@
 -- A slice of frames is added, one after the other.
-use Rattle.std.proofs.Common.{◌≡◌, ℕ, zero, suc, ◌+◌, ◌<◌, ◌≤◌, List, [], ◌∷◌, ◌++◌, length, take, drop, get_or, ◌⊎◌, refl, sym, ap, subst, ◌∙◌, arith, Result, Ok, Err, Vec}
+use Rattle.std.proofs.Common.{◌≡◌, ℕ, ◌+◌, ◌<◌, ◌≤◌, List, [], ◌∷◌, ◌++◌, length, take, drop, get_or, ◌⊎◌, refl, sym, ap, subst, ◌∙◌, Result, Ok, Err, Vec}
 use Rattle.std.specs.Prelude.{IfOk, IfErr}
 use Rattle.std.specs.Arc.{arc_value}
 use Rattle.std.specs.declared.sync.Arc.{Arc}
@@ -35,11 +35,6 @@ none_first frames m h = (h, tried h.scopes h.have) where
   tried : (scopes : List FrameScopes) → HaveScopes [] scopes → length (occurrences scopes) ≡ 0
   tried [] x = refl
   tried (s ∷ scopes) x = absurd x
-
-taken_size : (xs : List FrameBytes) (i : ℕ) → length (take i xs) ≤ i
-taken_size xs zero = omega arith
-taken_size [] (suc i) = omega arith
-taken_size (x ∷ xs) (suc i) = let rest = taken_size xs i in omega (arith, rest)
 
 -- one more of the frames was added
 pub one_more_first : (info : ThreadKey) (frames : List Held) (i : ℕ) (x : Held)

@@ -46,6 +46,7 @@ merged-reordered {xs = xs} {ys = ys} r =
 pub merged_at-reordered : {xs ys : List Occurrence} → Reordered xs ys → merged_at xs ≡ merged_at ys
 merged_at-reordered r = λ i path. merged-reordered (filter-reordered (λ o. is_path o.path path) r) i
 
+-- a path's row is the same in any order of occurrences, since its sums are
 row-reordered : (xs ys : List Occurrence) → IsPermutation xs ys → (frames : ℕ) (path : Path) (nodes : List Node)
     → IsRow xs frames path nodes → IsRow ys frames path nodes
 row-reordered xs ys p frames path nodes r =

@@ -105,17 +105,19 @@ starts-are : (frames : ℕ) (entries : List Entry)
 starts-are frames [] = refl
 starts-are frames (e ∷ entries) = ap (λ l. e.start ∷ l) (starts-are frames entries)
 
+-- the entries of one parent, as siblings: each has the path below the parent's, and that path's sums
 siblings-are : (at : Path → Merged) (path_of : ℕ → Path) (frames highest p : ℕ) (entries : List Entry)
     → Each (IsEntry at path_of highest) entries → Each (λ e. e.parent ≡ p) entries →
     map (λ n. sibling_of (at (below (path_of p) n.label)) frames) (map (node_of frames) entries)
     ≡ map (λ e. sibling_of e.merged frames) entries
 siblings-are at path_of frames highest p [] h k = refl
-siblings-are at path_of frames highest p (e ∷ entries) h k =
-    let here : path_of e.number ≡ below (path_of p) e.label = h.0.path ∙ ap (λ q. below (path_of q) e.label) k.0 in
-    let is : e.merged ≡ at (below (path_of p) e.label) = h.0.merged ∙ ap at here in
+siblings-are at path_of frames highest p (e ∷ entries) (is_entry, are_entries) (is_child, are_children) =
+    let here : path_of e.number ≡ below (path_of p) e.label =
+    is_entry.path ∙ ap (λ q. below (path_of q) e.label) is_child in
+    let is : e.merged ≡ at (below (path_of p) e.label) = is_entry.merged ∙ ap at here in
     let first : sibling_of (at (below (path_of p) e.label)) frames ≡ sibling_of e.merged frames =
     ap (λ m. sibling_of m frames) (sym is) in
-    let rest = siblings-are at path_of frames highest p entries h.1 k.1 in
+    let rest = siblings-are at path_of frames highest p entries are_entries are_children in
     λ i. first i ∷ rest i
 
 -- siblings in order, with each before all after it: so before the next
@@ -167,6 +169,8 @@ some-both : (P Q R : Entry → Type 0) (entries : List Entry) → ((e : Entry) �
 some-both P Q R [] f h k = k
 some-both P Q R (e ∷ entries) f h k = ⊎_elim (λ q. inl (f e h.0 q)) (λ q. inr (some-both P Q R entries f h.1 q)) k
 
+-- a label that occurs below a parent's path is that of one of the parent's children: the occurrence has an entry, whose parent
+-- has the same path, so is the same
 whole-row : (all : List Occurrence) (frames : ℕ) (path_of : ℕ → Path) (highest : ℕ) (entries : List Entry)
     → IsTable all frames path_of highest entries →
     (p : ℕ) → p ≤ highest → (o : Occurrence) (l : Label) → o.path ≡ below (path_of p) l
@@ -182,6 +186,7 @@ whole-row all frames path_of highest entries t p h o l is some =
           let parts = snoc-same (path_of e.parent) (path_of p) e.label l joined in
           (t.apart e.parent p (omega (arith, k)) h parts.0, parts.1)
 
+-- the entries of one parent make the row below the parent's path
 row-of : (all : List Occurrence) (frames : ℕ) (path_of : ℕ → Path) (highest : ℕ) (entries : List Entry)
     → IsTable all frames path_of highest entries →
     (p : ℕ) → p ≤ highest → IsRow all frames (path_of p) (map (node_of frames) (children_of p entries))
@@ -233,16 +238,19 @@ next-rest entries e rest lowest h r = record {
   whole = λ q above. sym (passed (e.parent == q) e q rest (Decides-no e.parent q above)) ∙ r.whole q (omega arith);
 }
 
+-- By recursion over the entries: the children of each entry are all behind it, so the forest made of what is behind an entry
+-- has its whole row.
 below-rows : (all : List Occurrence) (frames : ℕ) (path_of : ℕ → Path) (highest : ℕ) (entries : List Entry)
     → IsTable all frames path_of highest entries →
     (rest : List Entry) (lowest : ℕ) → IsRest entries rest lowest → Each (λ f. lowest ≤ f.parent) rest
     → Each (IsEntry (merged_at all) path_of highest) rest → InOrder (merged_at all) path_of rest →
     (p : ℕ) (path : Path) → path ≡ path_of p → HasRowsBelow all frames path (forest_below frames p rest)
 below-rows all frames path_of highest entries t [] lowest r low each order p path is = tt
-below-rows all frames path_of highest entries t (e ∷ rest) lowest r low each order p path is =
+below-rows all frames path_of highest entries t (e ∷ rest) lowest r (is_low, are_low) (first, others)
+    (before, in_order) p path is =
     by_case (e.parent == p) (Decides-same e.parent p) (λ q other same.
-    below-rows all frames path_of highest entries t rest e.parent (next-rest entries e rest lowest low.0 r)
-    (later-parents (merged_at all) path_of e rest order.0) each.1 order.1 q other same) where
+    below-rows all frames path_of highest entries t rest e.parent (next-rest entries e rest lowest is_low r)
+    (later-parents (merged_at all) path_of e rest before) others in_order q other same) where
       by_case : (b : Bool) → (b ≡ true → e.parent ≡ p) → ((q : ℕ) (other : Path) → other ≡ path_of q
           → HasRowsBelow all frames other (forest_below frames q rest)) →
           HasRowsBelow all frames path (cond b (merged (node_of frames e) (forest_below frames e.number rest)
@@ -250,13 +258,13 @@ below-rows all frames path_of highest entries t (e ∷ rest) lowest r low each o
       by_case false known later = later p path is
       by_case true known later =
           let here : below path e.label ≡ path_of e.number =
-          ap (λ q. below q e.label) (is ∙ ap path_of (sym (known refl))) ∙ sym each.0.path in
-          let next = next-rest entries e rest lowest low.0 r in
+          ap (λ q. below q e.label) (is ∙ ap path_of (sym (known refl))) ∙ sym first.path in
+          let next = next-rest entries e rest lowest is_low r in
           let mine : row (forest_below frames e.number rest) ≡ map (node_of frames) (children_of e.number entries) =
-          row-is frames e.number rest ∙ ap (map (node_of frames)) (next.whole e.number each.0.after_parent) in (
+          row-is frames e.number rest ∙ ap (map (node_of frames)) (next.whole e.number first.after_parent) in (
             subst (λ (q : Path). IsRow all frames q (row (forest_below frames e.number rest))) (sym here)
                 (subst (λ (ns : List Node). IsRow all frames (path_of e.number) ns) (sym mine)
-                (row-of all frames path_of highest entries t e.number each.0.number)),
+                (row-of all frames path_of highest entries t e.number first.number)),
             later e.number (below path e.label) here,
             later p path is,
           )

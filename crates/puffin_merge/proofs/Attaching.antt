@@ -116,6 +116,7 @@ both_fit : (b : Bool) (n : forests.Node) (under others : MergedForest) → FitsS
 both_fit true n under others h k l = (h, k, l)
 both_fit false n under others h k l = l
 
+-- if the ends of all placements fit, so do those of the forest
 forest_fits : (nodes : List Node) (frames : ℕ) (ordered_nodes : List OrderedNode) (before : Placement) (q : ℕ)
     → EachOf EndFits (placements_from nodes frames before ordered_nodes blank)
     → EndsFit (forest_below frames q (entries_from nodes frames before ordered_nodes blank))

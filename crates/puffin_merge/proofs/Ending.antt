@@ -39,6 +39,8 @@ first_fit : (b : Bool) (n : _) (below others : MergedForest) → b ≡ true
 first_fit true n below others e (ends, in_children, in_others) = (ends, in_children)
 first_fit false n below others e h = absurd (cc)
 
+-- By recursion: the first node stands in the forest below its parent, which is known; and its own children are in the forest
+-- below it, so its number becomes known.
 all_fit : (nodes : List Node) (frames : ℕ) (ordered_nodes : List OrderedNode) (before : Placement) (d : Node)
     (known : ℕ → Type 0) → ParentsKnown ordered_nodes known
     → ((q : ℕ) → known q → EndsFit (forest_below frames q (entries_from nodes frames before ordered_nodes d)))
@@ -87,6 +89,7 @@ not_after all t q (z ∷ ordered_nodes) table (of, others) (high, highs) (inl is
 not_after all t q (z ∷ ordered_nodes) table (of, others) (high, highs) (inr more) =
     not_after all t q ordered_nodes table others highs more
 
+-- in sorted nodes each parent stands before its children, since its number is lower
 parents_known : (all : List Occurrence) (t : Table) (ordered_nodes : List OrderedNode) (known : ℕ → Type 0)
     → IsTableOf all t → AllByRecursion (IsOrderedNodeOf t.nodes.items) ordered_nodes → InRow ordered_nodes → known 0
     → ((q : ℕ) → 0 < q → q ≤ length t.nodes.items → known q ⊎ SomeOf (λ z. z.number.number ≡ q) ordered_nodes)

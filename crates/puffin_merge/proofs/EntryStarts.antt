@@ -88,6 +88,8 @@ earliest_of_none : (frames parent : ℕ) (entries : List Entry) (a b : Placement
 earliest_of_none frames parent entries a b none h = ap starts_of none
     ∙ ap (λ (es : List Entry). earliest_starts (free_of parent b) (siblings_of frames es)) (sym none)
 
+-- A node that is no child of the parent: if the parent's children stood before, none come after; else nothing is placed for the
+-- parent yet.
 not_child : (nodes : List Node) (frames parent : ℕ) (p : OrderedNode) (ordered_nodes : List OrderedNode)
     (before : Placement) (d : Node) → EachOf (λ q. p.parent.number ≤ q.parent.number) ordered_nodes
     → before.parent ≤ p.parent.number → eqb p.parent.number parent ≡ false
@@ -117,6 +119,7 @@ not_child nodes frames parent p ordered_nodes before d later low e h =
       | inr other ↦ omega arith
     ]
 
+-- A child of the parent: it starts as early as what is free allows, and its end is free for the next one.
 is_child : (nodes : List Node) (frames parent : ℕ) (p : OrderedNode) (ordered_nodes : List OrderedNode)
     (before : Placement) (d : Node) → IsOrderedNodeOf nodes p → eqb p.parent.number parent ≡ true
     → Earliest frames parent (rest_of nodes frames before p ordered_nodes d) (next_placement nodes frames before p d)

@@ -53,6 +53,8 @@ together : (s t : MergeScope) (f g : MergedForest) → node_of s ≡ node_of t �
     → scope_then s f ≡ scope_then t g
 together s t f g n c o = seen_as s f ∙ (λ i. merged (n i) (c i) (o i)) ∙ sym (seen_as t g)
 
+-- the comparison of all fields decides whether the two nodes are the same, and that of the children whether the forests below
+-- are
 scopes_decided : (s t : MergeScope) (children : Bool) → Decides children (below s ≡ below t)
     → Decides (are_equal s t children) (forest_in (s ∷ []) ≡ forest_in (t ∷ []))
 scopes_decided s t children d =

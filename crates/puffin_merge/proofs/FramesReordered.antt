@@ -97,6 +97,8 @@ accepted-behind (o ∷ xs) r a = (
   accepted-behind xs (reordered-append (o ∷ []) r) a.2,
 )
 
+-- occurrences that are accepted are accepted in any order: two neighbours may change places, since the sums with both are the
+-- same
 accepted-reordered : {xs ys : List Occurrence} → Reordered xs ys → (done : List Occurrence) → AreAccepted done xs
     → AreAccepted done ys
 accepted-reordered none_left done a = a
@@ -119,6 +121,7 @@ accepted-reordered (goes_on r s) done a = accepted-reordered s done (accepted-re
 abbrev HaveAgain : List FrameScopes → List FrameBytes → Type 0
 HaveAgain scopes again = (others : List FrameScopes) × Reordered scopes others × HaveScopes again others
 
+-- reordered frames have the reordered scopes
 have-reordered : {frames again : List FrameBytes} → Reordered frames again → (scopes : List FrameScopes)
     → HaveScopes frames scopes → HaveAgain scopes again
 have-reordered none_left [] h = ([], none_left, tt)
@@ -135,6 +138,7 @@ have-reordered (goes_on a b) scopes h =
     let second = have-reordered b first.0 first.2 in
     (second.0, goes_on first.1 second.1, second.2)
 
+-- the other frames in another order have the same merge
 again_merged : (first : FrameBytes) (others again : List FrameBytes) (f : MergedForest) (scopes : List FrameScopes)
     → Reordered others again → HaveScopes (first ∷ others) scopes → AreAccepted [] (occurrences scopes)
     → IsMerge (occurrences scopes) (length (first ∷ others)) f → EndsFit f → AreMerged (first ∷ again) f

@@ -53,6 +53,7 @@ later_in cmp total x y l ys same less (inl e) =
     absurd (not_itself cmp total x (subst (λ (m : Label). cmp x m ≡ Less) (e ∙ sym same) less))
 later_in cmp total x y l ys same less (inr h) = h
 
+-- two rising lists with the same members are the same list
 one_rising : (cmp : Label → Label → Ordering) → IsTotalOrder cmp → (xs ys : List Label) → IsRising cmp xs
     → IsRising cmp ys → ((l : Label) → In l xs → In l ys) → ((l : Label) → In l ys → In l xs) → xs ≡ ys
 one_rising cmp total [] [] r s f g = refl
@@ -67,6 +68,7 @@ one_rising cmp total (x ∷ xs) (y ∷ ys) r s f g =
 
 -- ---- the labels of a row are those that occur
 
+-- a label below a path that has pieces is among the labels of the path's row
 has_label : (labels : List Label) (path : Path) (l : Label) (all : List Occurrence)
     → AllByRecursion (λ o. (m : Label) → o.path ≡ below path m → Contains labels m) all
     → 0 < length (pieces_at all (below path l)) → Contains labels l
@@ -134,6 +136,7 @@ one_node m frames n k a b label start =
       pieces = pieces i;
     }
 
+-- two lists of nodes with the same labels and starts are the same, since the sums belong to the labels
 one_list : (at : Path → Merged) (path : Path) (frames : ℕ) (xs ys : List Node)
     → AllByRecursion (λ n. HasSums (at (below path n.label)) frames n) xs
     → AllByRecursion (λ n. HasSums (at (below path n.label)) frames n) ys
@@ -151,6 +154,7 @@ one_list at path frames (x ∷ xs) (y ∷ ys) (sums, more_sums) (others, more_ot
     let rest = one_list at path frames xs ys more_sums more_others more_labels more_starts in
     λ i. first i ∷ rest i
 
+-- a path has at most one row: its labels are those that occur, in order; its starts are the least ones
 one_row : (all : List Occurrence) (frames : ℕ) (path : Path) (xs ys : List Node) → IsRow all frames path xs
     → IsRow all frames path ys → xs ≡ ys
 one_row all frames path xs ys r s =
@@ -167,6 +171,7 @@ one_row all frames path xs ys r s =
 
 -- ---- one forest
 
+-- by recursion over both forests: the same rows at each path make the same forest
 one_below : (f g : MergedForest) (all : List Occurrence) (frames : ℕ) (path : Path) → row f ≡ row g
     → HasRowsBelow all frames path f → HasRowsBelow all frames path g → f ≡ g
 one_below no_node no_node all frames path e a b = refl

@@ -55,6 +55,7 @@ record HasAt (frame : FrameBytes) (early scopes : List FrameScopes) : Type 0 whe
   has : HasScopes frame this
   are : scopes ≡ early ++ (this ∷ later)
 
+-- a frame's scopes stand at its place among all scopes, and those before it are the same
 has_at : Walks → (earlier later : List FrameBytes) (frame : FrameBytes) (early scopes : List FrameScopes)
     → HaveScopes earlier early → HaveScopes (earlier ++ (frame ∷ later)) scopes → HasAt frame early scopes
 has_at w [] later frame [] [] a b = absurd b
@@ -88,6 +89,7 @@ not_refused done more o refusal (shallow, fits, later) (inr (is_shallow, no_fit,
 
 -- ---- a frame whose scopes are accepted isn't refused
 
+-- a frame whose scopes are all accepted has no refusal: its bytes have no fault, and each of its scopes is accepted
 frame_fine : Walks → (frame : FrameBytes) (this : FrameScopes) (done more : List Occurrence)
     (origin : ℤ) (refusal : Error) (tries : ℕ)
     → HasScopes frame this → AreAccepted done (occurrences_in origin (nested_in [] this.forest) ++ more)
@@ -114,6 +116,7 @@ frame_fine w frame this done more origin refusal tries has a
 
 -- ---- the frames
 
+-- frames that have a merge have no refused frame
 not_in_frame : Walks → (frames earlier later : List FrameBytes) (frame : FrameBytes) (early : List FrameScopes)
     (f : MergedForest) (refusal : Error) (tries : ℕ) → frames ≡ earlier ++ (frame ∷ later) → HaveScopes earlier early
     → AreMerged frames f

@@ -28,6 +28,7 @@ use Rattle.puffin_merge.proofs.EntryStarts.{siblings_of, free_of, own_is, starts
 
 -- ---- each ordered node's entry
 
+-- an ordered node's entry has the path and the sums of the node that it was made from
 one_entry : (all : List Occurrence) (t : Table) (p : OrderedNode) (x : Placement) (d : Node)
     → IsTableOf all t → IsOrderedNodeOf t.nodes.items p
     → IsEntry (merged_at all) (path_at t.nodes.items) (vec_len t.nodes) (entry_of t.nodes.items p x d)
@@ -166,6 +167,7 @@ stands_before all t p q x y d table of og h other =
     nat_tied : (n : ℕ) → nat_cmp n n ≡ Equal
     nat_tied n = tied_itself nat_cmp_total n
 
+-- an entry stands before all those of the nodes behind its own
 before_rest : (all : List Occurrence) (t : Table) (frames : ℕ) (p : OrderedNode) (x : Placement)
     (ordered_nodes : List OrderedNode) (before : Placement) (d : Node) → IsTableOf all t
     → IsOrderedNodeOf t.nodes.items p → AllByRecursion (IsOrderedNodeOf t.nodes.items) ordered_nodes

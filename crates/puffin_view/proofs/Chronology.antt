@@ -48,6 +48,7 @@ keyed [] = none_keyed (fin.entries (frames_by_index [])) no_entries
 keyed (f ∷ fs) = subst AreKeyed (sym (fin.entries-insert nat_cmp_total (frames_by_index fs) (index_of f) f))
     (keyed-put f (fin.entries (frames_by_index fs)) (keyed fs))
 
+-- frames under the indices that pass a test are those frames whose index passes it
 values-where : (p : ℕ → Bool) (es : List (ℕ × Frame)) → AreKeyed es
     → map (λ e. e.1) (where_key nat_cmp p es) ≡ filter (λ f. p (index_of f)) (map (λ e. e.1) es)
 values-where p [] h = refl

@@ -28,6 +28,7 @@ with-more a b c f = λ i. record {
 abbrev pub with_lent : {A : Type 0} → FrameStats → Bor (Arc FrameData A) → FrameStats
 with_lent s a = with_frame s (shared_frame a.now)
 
+-- the fold from any numbers, each cut at the greatest `usize`
 from : {A : Type 0} (a b c : ℕ) (xs : List (Bor (Arc FrameData A))) → fold with_lent (cut_all a b c) xs
     ≡ cut_all (a + length (lent_frames xs)) (b + sum_by number (lent_frames xs)) (c + sum_by ram_of (lent_frames xs))
 from a b c [] = λ i.

@@ -94,6 +94,7 @@ end_found (a ∷ b ∷ d ∷ f ∷ xs) h = zeros_found a b d f xs h
 
 -- ---- from the format to the reading
 
+-- packets in the format are read as their frames, one after the other, up to the end
 packets_read : (read : PacketsRead) (k : ℕ) (frames : List Stored) (packets rest after : List ℕ)
     → IsBytes (packets ++ rest) → next_at rest ≡ Ok (None, after) → ArePackets packets frames
     → frames_at (suc k + length frames) (packets ++ rest)
@@ -183,6 +184,7 @@ abbrev FindsFrames : ℕ → Type 0
 FindsFrames n = (bytes : List ℕ) (frames : List Stored) (after : List ℕ) → IsBytes bytes
     → frames_at n bytes ≡ Ok (frames, after) → Found n bytes frames after
 
+-- one frame more that is read is one packet more in the format
 more_found : (read : PacketsRead) (n : ℕ) → FindsFrames n
     → (bytes : List ℕ) (next : Option Stored) (rest : List ℕ) (frames : List Stored) (after : List ℕ) → IsBytes bytes
     → next_at bytes ≡ Ok (next, rest)
@@ -208,6 +210,7 @@ frames_found read (suc n) bytes frames after is e =
 apart : false ≡ true → ⊥
 apart e = cc
 
+-- bytes that begin with the four letters are these letters and the rest
 letters_found : (bytes : List ℕ) → begins_file bytes ≡ true → bytes ≡ magic ++ drop 4 bytes
 letters_found [] h = absurd cc
 letters_found (a ∷ []) h = absurd (apart (second_so _ _ (first_so _ _ (first_so _ _ h))))

@@ -176,6 +176,7 @@ same_length (c ∷ cs) = ap suc (same_length cs)
 fewer : (cs whole lost : List PacketFields) (n : ℕ) → cs ≡ whole ++ lost → length cs < n → length (map packed whole) < n
 fewer cs whole lost n e lt = omega (arith, ap length e, length-append whole lost, same_length whole, lt)
 
+-- the whole packets are read as their frames, and what is left decides how reading ends
 packets_cut : (n : ℕ) (whole : List PacketFields) (left : List ℕ) → Again → AllByRecursion IsPacked whole
     → list_any lacks_ids whole ≡ false → next_at left ≡ last_of_cut (ltb (length left) 4)
     → length (map packed whole) < 2 ^ 64 - 1
@@ -245,6 +246,8 @@ one_walked c whole left s frames mid same w =
       rest = w.rest;
     }
 
+-- frames that were given one after the other from what is left of a file are the first whole ones, since each is read from its
+-- own packet
 walk : (whole : List PacketFields) (left : List ℕ) (short : Bool) (frames : List Stored) (b mid : List ℕ)
     → Again → AllByRecursion IsPacked whole → list_any lacks_ids whole ≡ false → frame_at left ≡ last_of_cut short
     → AreGiven b frames
@@ -277,6 +280,7 @@ known : (old : List ℕ) (new : Option (List ℕ)) (taken : List ℕ) → Consum
 known old None taken c = absurd c
 known old (Some rest) taken c = (rest, refl, c)
 
+-- the same for the whole file, with its letters
 walked : (cs : List PacketFields) (bytes : List ℕ) (whole : List PacketFields)
     (h : IsCut cs bytes whole) (mid : Option (List ℕ)) (frames : List Stored) → Again → AllByRecursion IsPacked cs
     → list_any lacks_ids cs ≡ false

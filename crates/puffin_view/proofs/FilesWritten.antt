@@ -243,6 +243,7 @@ end_again : (end : List ℕ) → is_end end ≡ true → next_at end ≡ Ok (Non
 unfolding next_at
 end_again end stops = rw stops refl
 
+-- written packets are read as their frames, one after the other, up to the end
 packets_again : (k : ℕ) (cs : List PacketFields) (end : List ℕ) → Again → AllByRecursion IsPacked cs → is_end end ≡ true
     → frames_at (suc k + length cs) (flat_map packet cs ++ end)
     ≡ unless_missing (list_any lacks_ids cs) (map packed cs) (drop 4 end)

@@ -62,6 +62,7 @@ up_to r s h = at (rank_cmp s r) refl where
 none_below : (k : ℕ) → k < 0 → ⊥
 none_below k h = omega arith
 
+-- inserting at the partition point is placing in order
 placed_at : (r : SlowRank) (xs : List SlowRank) (i : ℕ)
     → i ≤ length xs → ((k : ℕ) (d : SlowRank) → k < i → is_up_to r (get_or xs k d) ≡ true)
     → ((k : ℕ) (d : SlowRank) → i ≤ k → k < length xs → is_up_to r (get_or xs k d) ≡ false)

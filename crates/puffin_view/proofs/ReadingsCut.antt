@@ -60,6 +60,7 @@ either : {A : Type 0} (b : Bool) (f g : Reading A) → IsCuttable f → IsCuttab
 either true f g p q = p
 either false f g p q = q
 
+-- two readings, one after the other, that may both be cut
 both : {A B : Type 0} (read : Reading A) (next : A → Reading B) → IsCuttable read → ((a : A) → IsCuttable (next a))
     → IsCuttable (λ bytes. read bytes >>= λ p. next p.0 p.1)
 both {A = A} {B = B} read next first second front more x after is =
@@ -83,6 +84,7 @@ both {A = A} {B = B} read next first second front more x after is =
 
 -- ---- parts
 
+-- a part of a given length is read whole, or is `Truncated`
 part_cut : (n : ℕ) → IsCuttable (part_of n)
 part_cut n front more x after is = by_length (ltb (length front) n) refl
   where
@@ -102,6 +104,7 @@ part_cut n front more x after is = by_length (ltb (length front) n) refl
 first_cut : IsCuttable first_at
 first_cut = both (part_of 1) (λ one rest. Ok (slice_index one 0, rest)) (part_cut 1) (λ one. valued (slice_index one 0))
 
+-- so is the length of a part
 length_cut : IsCuttable part_length_at
 length_cut front more x after is = by_length (ltb (length front) 4) refl
   where

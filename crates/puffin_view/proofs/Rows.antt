@@ -165,6 +165,7 @@ module _ {X : Type 0} where
   all_further k j [] e h = tt
   all_further k j (f ∷ fs) e (first, rest) = (less_on k j f.0 e first, all_further k j fs e rest)
 
+  -- an insertion keeps the keys sorted
   sorted-insert : (k : ℕ) (a : X) (es : List (ℕ × X)) → IsStrictlySortedBy nat_cmp (keys_of es)
       → IsStrictlySortedBy nat_cmp (keys_of (insert_entry nat_cmp es k a))
   unfolding IsStrictlySortedBy

@@ -108,6 +108,7 @@ never_tied r x low e = absurd (not_equal (int_cmp x.duration_ns.0 r.duration_ns.
   not_equal Greater e = cc
   not_equal Equal e = let both : Greater ≡ Equal = sym above ∙ e in cc
 
+-- ranks stay sorted with one more whose index is above theirs, in its place
 in_order-place : (r : SlowRank) (rs : List SlowRank) → IsStrictlySortedBy rank_cmp rs
     → AllByRecursion (λ s. s.frame_index < r.frame_index) rs → IsStrictlySortedBy rank_cmp (place is_before r rs)
 unfolding IsStrictlySortedBy
@@ -135,6 +136,7 @@ ranks_low : (f : Frame) (fs : List Frame) → AllByRecursion (λ g. index_of g <
 ranks_low f [] h = tt
 ranks_low f (g ∷ fs) (low, lows) = (low, ranks_low f fs lows)
 
+-- an index that is missing with one frame more was missing before
 has_index-place : (q : ℕ) (f : Frame) (fs : List Frame) → has_index q (place is_slower_frame f fs) ≡ false
     → has_index q fs ≡ false
 has_index-place q f [] h = refl

@@ -12,6 +12,7 @@ use Rattle.puffin_view.specs.inner.Store.{AreHeld, has_index, AreStored}
 use Rattle.puffin_view.proofs.Keeping.{IsKept-packed, index_packed_at}
 use Rattle.puffin_view.proofs.Members.{has_index-append, equal_to, is_at, one_some, all_last}
 
+-- frames are held after the one with this index was put there packed, each packed if it has this index
 packed_held : (held : HeldFrames) (f : Frame) (fs : List Frame) → fin.get held (index_of f) ≡ Some f
     → AreHeld (fin.get held) fs
     → AreHeld (fin.get (fin.insert held (index_of f) (packed_alone f))) (map (packed_under (index_of f)) fs)

@@ -42,6 +42,8 @@ late_last f (x ∷ xs) h p =
     subst P (map-last_from fields_of x xs)
     (later_behind (fields_of f) (fields_of (last_from x xs)) p (before_last (index_of f) x xs h))
 
+-- The slow frames after one more, whether it enters or not, are the slowest of all: a frame that does not enter is behind the
+-- last, which has a lower index.
 slow_at : (v : View) (f : Frame) (ds : List PacketFields) (b : Bool) → enters v f ≡ b → AreBefore (index_of f) v.slow
     → map fields_of v.slow ≡ slowest v.max_slow ds
     → map fields_of (cond b (take v.max_slow (place is_slower_frame f v.slow)) v.slow)

@@ -181,6 +181,7 @@ pub said_again : (cs : List PacketFields) → map fields_of (map frame_stored (m
 said_again [] = refl
 said_again (c ∷ cs) = ap (λ (ds : List PacketFields). c ∷ ds) (said_again cs)
 
+-- a view of a written view's frames has these frames, which rise, as its recent ones
 view_by : (cs : List PacketFields) (frames : List Stored) (view : FrameView)
     → is_rising cs ≡ true → length cs < 2 ^ 64 - 1 → frames ≡ map packed cs → IsViewOf frames view
     → map fields_of (view_of view).recent ≡ cs

@@ -91,6 +91,8 @@ rising_with_frame : (k : List Frame) (f : Frame) → is_rising (map fields_of k)
 rising_with_frame k f rising p =
     ap is_rising (map-more fields_of k f) ∙ rising_with (map fields_of k) (fields_of f) rising (not_past k f p)
 
+-- a view that took a rising list and then these frames is one that took some rising list, no longer than both: a frame whose
+-- index doesn't rise begins anew
 since : (k fs : List Frame) → is_rising (map fields_of k) ≡ true
     → Rising (after_all (after_all read_view k) fs) (length k + length fs)
 since k [] rising = (k, refl, rising, omega arith)

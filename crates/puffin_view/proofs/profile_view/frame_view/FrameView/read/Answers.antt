@@ -13,7 +13,8 @@ use Rattle.puffin_view.proofs.profile_view.frame_view.FrameView.read.Goals as go
 
 pub packets-init : goal.packets-init
 packets-init g c =
-    let frames = ap view_of c.set_max_recent.ensures ∙ ap (λ (v : View). record v { max_recent = 2 ^ 64 - 1 }) c.new-view.ensures.frames in (
+    let frames = ap view_of c.set_max_recent.ensures
+    ∙ ap (λ (v : View). record v { max_recent = 2 ^ 64 - 1 }) c.new-view.ensures.frames in (
       [],
       c.in_ok-read_magic.ensures.begun,
       view_of_frames [] c.set_max_recent.new.self frames (ap collection_of
