@@ -41,7 +41,7 @@ impl ThreadTotals {
         }
     }
 
-    /// Adds the stream of one more frame.
+    /// Returns the totals with the stream of one more frame.
     fn with(self, info: &StreamInfo) -> ThreadTotals
         ensures { result ≡ totals_with self (facts_of info.now) }
     {

@@ -139,7 +139,7 @@ fn place_nodes(
 }
 
 /// Makes the merged scope of a node with these children and its own copy of the text. Fails only with `Memory`.
-fn scope_at<'s>(
+fn make_scope<'s>(
     alloc: Global,
     ordered: &OrderedNode,
     sums: &PieceTotals,
@@ -202,7 +202,7 @@ pub(crate) fn tree_of<'s>(
         let node = &table.nodes[ordered.number.number - 1];
         let mut children = mem::replace(&mut rows[ordered.number.number], Vec::new(alloc));
         children.reverse();
-        let scope = scope_at(alloc, ordered, &node.sums, &placements[i], frames, children)?;
+        let scope = make_scope(alloc, ordered, &node.sums, &placements[i], frames, children)?;
         rows[ordered.parent.number].push(scope)?;
     }
     let mut top = mem::replace(&mut rows[0], Vec::new(alloc));

@@ -39,8 +39,8 @@ abbrev pub older_rank : Rank → Rank → Bool
 older_rank rank other = is_lt (older_cmp rank other)
 
 -- a `ByIndex` of the code, as a rank
-abbrev pub old_place : ByIndex → Rank
-old_place at = record { duration = at.duration_ns; index = at.frame_index; place = at.place }
+abbrev pub rank_by_index : ByIndex → Rank
+rank_by_index at = record { duration = at.duration_ns; index = at.frame_index; place = at.place }
 
 -- `out` is the first `max` frames by duration, longest first, then by index, then by place; they are sorted by index, then by
 -- place

@@ -3,5 +3,5 @@ use Rattle.puffin_view.specs.declared.profile_view.select.ByDuration.{ByDuration
 use Rattle.puffin_view.specs.View.Selection.{Rank}
 
 -- a `ByDuration` of the code, as a rank
-abbrev pub slow_place : ByDuration → Rank
-slow_place at = record { duration = at.duration_ns.0; index = at.frame_index; place = at.place }
+abbrev pub rank_by_duration : ByDuration → Rank
+rank_by_duration at = record { duration = at.duration_ns.0; index = at.frame_index; place = at.place }

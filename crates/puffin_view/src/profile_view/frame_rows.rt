@@ -163,11 +163,11 @@ fn place_in(row: &VecDeque<Arc<FrameData>>, index: FrameIndex) -> Option<usize>
     // Indices strictly increase along the row, so the frame is at most as many places behind the first as its index is above.
     if let Some(first) = row.front() {
         let at = index.saturating_sub(first.frame_index()) as usize;
-        if is_of(row.get(at), index) {
+        if is_frame_with(row.get(at), index) {
             return Some(at);
         }
     }
-    if is_of(row.back(), index) {
+    if is_frame_with(row.back(), index) {
         return Some(row.len() - 1);
     }
     match row.binary_search_by_key(&index, |frame| frame.frame_index()) {
@@ -177,7 +177,7 @@ fn place_in(row: &VecDeque<Arc<FrameData>>, index: FrameIndex) -> Option<usize>
 }
 
 /// Returns whether there is a frame and it has this index.
-fn is_of(frame: Option<&Arc<FrameData>>, index: FrameIndex) -> bool
+fn is_frame_with(frame: Option<&Arc<FrameData>>, index: FrameIndex) -> bool
     ensures { result
         ≡ option_map_or (λ arc. nat_eq (index_of (shared_frame arc.now)) index) frame.entry false }
 {

@@ -13,7 +13,7 @@ ghost use Rattle.puffin_view.specs.View.Ranking.{AreFirst};
 ghost use Rattle.puffin_view.specs.View.ViewedFrames.{Frame, fields_of, duration, frame_index, by_duration, is_slower, slowest, rising_end};
 ghost use Rattle.puffin_view.specs.View.FrameRanks.{rank_of, rank_cmp};
 ghost use Rattle.puffin_view.specs.declared.profile_view.select.ByIndex.{ByIndex};
-ghost use Rattle.puffin_view.specs.View.Selection.{Rank, older_cmp, old_place};
+ghost use Rattle.puffin_view.specs.View.Selection.{Rank, older_cmp, rank_by_index};
 ghost use Rattle.puffin_data.specs.declared.error.Error.{Error};
 ghost use Rattle.puffin_data.specs.declared.file_error.FileError.{FileError};
 ghost use Rattle.puffin_data.specs.Device.{IsOutside};
@@ -64,11 +64,11 @@ pub fn order_by_index()
         older_cmp rank other ≡ Less }
     ensures total { IsTotalOrder older_cmp }
     ensures order { (place other : ByIndex) → ⟦<ByIndex as Ord>⟧.cmp place other
-        ≡ older_cmp (old_place place) (old_place other) }
+        ≡ older_cmp (rank_by_index place) (rank_by_index other) }
     ensures equality { (place other : ByIndex) → ⟦<ByIndex as PartialEq>⟧.eq place other
-        ≡ eq_by_cmp older_cmp (old_place place) (old_place other) }
+        ≡ eq_by_cmp older_cmp (rank_by_index place) (rank_by_index other) }
     ensures one { (place other : ByIndex) →
-        older_cmp (old_place place) (old_place other) ≡ Equal → place ≡ other }
+        older_cmp (rank_by_index place) (rank_by_index other) ≡ Equal → place ≡ other }
 {}
 
 /// A view compares frames by their ranks. A rank is a frame's duration and index. Ranks are ordered as [`order_by_duration`]

@@ -66,22 +66,22 @@ index_mut-requires-in-nodes c = let u =
       c.args.table.now.nodes.ok.0,
     )
 
-pub scope_at-requires-clause-id : goal.scope_at-requires-clause-id
-scope_at-requires-clause-id c = let u =
+pub make_scope-requires-clause-id : goal.make_scope-requires-clause-id
+make_scope-requires-clause-id c = let u =
     usable c.args.table.now c.in_ok-ordered_nodes.ordered_nodes.items (c.nodes.i - 1) c.index-ordered.result.now _
     c.index-node.result.now _ c.requires.table c.in_ok-ordered_nodes.ensures.ordered_nodes
     (omega (arith, c.in_ok-ordered_nodes.ordered_nodes.ok.0, c.len-i.ensures)) c.index-ordered.ensures
     c.index-node.ensures in u.id
 
-pub scope_at-requires-clause-small : goal.scope_at-requires-clause-small
-scope_at-requires-clause-small c = let u =
+pub make_scope-requires-clause-small : goal.make_scope-requires-clause-small
+make_scope-requires-clause-small c = let u =
     usable c.args.table.now c.in_ok-ordered_nodes.ordered_nodes.items (c.nodes.i - 1) c.index-ordered.result.now _
     c.index-node.result.now _ c.requires.table c.in_ok-ordered_nodes.ensures.ordered_nodes
     (omega (arith, c.in_ok-ordered_nodes.ordered_nodes.ok.0, c.len-i.ensures)) c.index-ordered.ensures
     c.index-node.ensures in u.small
 
-pub scope_at-requires-clause-greatest : goal.scope_at-requires-clause-greatest
-scope_at-requires-clause-greatest c = let u =
+pub make_scope-requires-clause-greatest : goal.make_scope-requires-clause-greatest
+make_scope-requires-clause-greatest c = let u =
     usable c.args.table.now c.in_ok-ordered_nodes.ordered_nodes.items (c.nodes.i - 1) c.index-ordered.result.now
     _ c.index-node.result.now _ c.requires.table c.in_ok-ordered_nodes.ensures.ordered_nodes
     (omega (arith, c.in_ok-ordered_nodes.ordered_nodes.ok.0, c.len-i.ensures)) c.index-ordered.ensures

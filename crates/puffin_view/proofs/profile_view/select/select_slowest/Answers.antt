@@ -11,8 +11,8 @@ use Rattle.std.proofs.lemmas.Iterator.Adapters.{YieldsList-from_vec}
 use Rattle.std.proofs.lemmas.List.Sorted.{IsPermutation-map}
 use Rattle.itertools.proofs.SortedLemmas.{IsPermutation-sorted}
 use Rattle.puffin_view.specs.View.Selection.{Rank, slower_rank, older_rank}
-use Rattle.puffin_view.specs.inner.Selections.{slow_place}
-use Rattle.puffin_view.specs.View.Selection.{old_place}
+use Rattle.puffin_view.specs.inner.Selections.{rank_by_duration}
+use Rattle.puffin_view.specs.View.Selection.{rank_by_index}
 use Rattle.puffin_view.proofs.Orders.{map-take}
 use Rattle.puffin_view.proofs.Selecting.{map_sorted}
 use Rattle.puffin_view.proofs.profile_view.select.select_slowest.Goals as goal
@@ -39,22 +39,22 @@ returns-clause-ok c =
     items_from_collect {E = Unit {0}} (Ok c.in_ok-ranked.ranked) c.in_ok-ranked.ensures.ran
     (YieldsList-from_take c.args.max left c.take.ensures.count) in
     let all : chosen ≡ sorted_old = search rules in
-    let P : List Rank → Type 0 = λ l. IsPermutation l (map slow_place sorted) in
-    let Q : List Rank → Type 0 = λ l. IsPermutation l (map old_place sorted_old) in
-    let cut : map old_place old ≡ take c.args.max (map slow_place sorted) =
-    c.in_ok-old.ensures.ok ∙ ap (map slow_place) (c.deref.ensures.value ∙ first)
-    ∙ map-take slow_place c.args.max sorted in
+    let P : List Rank → Type 0 = λ l. IsPermutation l (map rank_by_duration sorted) in
+    let Q : List Rank → Type 0 = λ l. IsPermutation l (map rank_by_index sorted_old) in
+    let cut : map rank_by_index old ≡ take c.args.max (map rank_by_duration sorted) =
+    c.in_ok-old.ensures.ok ∙ ap (map rank_by_duration) (c.deref.ensures.value ∙ first)
+    ∙ map-take rank_by_duration c.args.max sorted in
     IfOk-weaker c.frames_at.result _ _ (λ v h. record {
-      ranked = map slow_place sorted;
-      ranks = subst P c.in_ok-places.ensures.ok (IsPermutation-map slow_place places sorted permuted);
-      slowest_first = map_sorted slow_place
+      ranked = map rank_by_duration sorted;
+      ranks = subst P c.in_ok-places.ensures.ok (IsPermutation-map rank_by_duration places sorted permuted);
+      slowest_first = map_sorted rank_by_duration
           (λ (r : Rank). record { duration_ns = record { 0 = r.duration }; frame_index = r.index; place = r.place })
           (λ r. refl) slower_rank sorted s.3.1;
-      chosen = map old_place sorted_old;
-      chooses = subst Q cut (IsPermutation-map old_place old sorted_old permuted_old);
-      oldest_first = map_sorted old_place
+      chosen = map rank_by_index sorted_old;
+      chooses = subst Q cut (IsPermutation-map rank_by_index old sorted_old permuted_old);
+      oldest_first = map_sorted rank_by_index
           (λ (r : Rank). record { frame_index = r.index; place = r.place; duration_ns = r.duration }) (λ r. refl)
           older_rank sorted_old t.3.1;
-      is = h ∙ ap (λ l. filter_map (λ r. slice_get (frames_of c.args.frames.now) r.place) (map old_place l))
+      is = h ∙ ap (λ l. filter_map (λ r. slice_get (frames_of c.args.frames.now) r.place) (map rank_by_index l))
           (c.deref-2.ensures.value ∙ all);
     }) c.frames_at.ensures.ok

@@ -4,7 +4,7 @@ use Rattle.std.proofs.lemmas.Int.{to_z_pos, to_z-of_z, ints}
 use Rattle.puffin_merge.specs.Merge.Tree.{merged}
 use Rattle.puffin_merge.specs.Merge.Scopes.{forest_in}
 use Rattle.puffin_merge.proofs.Attaching.{made_then, held_is}
-use Rattle.puffin_merge.proofs.merge.tree.scope_at.Goals as goal
+use Rattle.puffin_merge.proofs.merge.tree.make_scope.Goals as goal
 
 pub returns-clause-ok : goal.returns-clause-ok
 returns-clause-ok c =
