@@ -70,7 +70,7 @@ below-reordered xs ys p frames path (merged n children others) h = (
   below-reordered xs ys p frames path others h.2,
 )
 
--- so the merge is
+-- occurrences have the same merge in any order
 pub merge-reordered : (xs ys : List Occurrence) → IsPermutation xs ys → (frames : ℕ) (f : MergedForest)
     → IsMerge xs frames f → IsMerge ys frames f
 merge-reordered xs ys p frames f m = record {

@@ -72,7 +72,7 @@ number_by t bytes = lookup (is_at (λ (k : String Global). slice_cmp nat_cmp byt
 
 -- ---- keys with their text
 
--- keys are the same either way round
+-- `IsSameKey` is symmetric
 pub turned_keys : (a b : Key) → IsSameKey a b → IsSameKey b a
 turned_keys a b x = record { parent = sym x.parent; label = sym x.label }
 

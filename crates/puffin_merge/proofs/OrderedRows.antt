@@ -33,7 +33,7 @@ after_next : (p q : OrderedNode) (ordered_nodes : List OrderedNode)
 after_next p q [] h k = tt
 after_next p q (z ∷ ordered_nodes) h k = (upto ordered_node_cmp_total p q z h k.0, after_next p q ordered_nodes h k.1)
 
--- so in sorted nodes none comes before an earlier one, however far behind it is
+-- in sorted nodes none comes before an earlier one, however far behind it is
 pub in_row : (ordered_nodes : List OrderedNode) → IsSorted ordered_node_cmp ordered_nodes → InRow ordered_nodes
 in_row [] h = tt
 in_row (p ∷ []) h = (tt, tt)
@@ -59,7 +59,7 @@ parents_rise p q h = by_order p.parent.number q.parent.number _ (cases_lt q.pare
     clash Equal s e h = cc
     clash Greater s e h = cc
 
--- and no parent's number is below an earlier one
+-- no parent's number is below that of an earlier node's parent
 pub each_at_least : (p : OrderedNode) (ordered_nodes : List OrderedNode)
     → EachOf (λ q. is_gt (ordered_node_cmp p q) ≡ false) ordered_nodes
     → EachOf (λ q. p.parent.number ≤ q.parent.number) ordered_nodes

@@ -34,15 +34,15 @@ pub label_cmp_total : IsTotalOrder label_cmp
 label_cmp_total =
     then_total (on_total (λ (l : Label). l.id) nat_cmp_total) (on_total (λ (l : Label). l.text) nat_list_cmp_total)
 
--- `is_path` tells whether two paths are the same
+-- paths for which `is_path` holds are the same
 pub one_path : (p q : Path) → is_path p q ≡ true → p ≡ q
 one_path p q e = slice_cmp-IsAntisymmetric label_cmp-one p q ((Equal-is (slice_cmp label_cmp p q)).0 e)
 
--- the same path passes the test
+-- `is_path` holds for the same path
 pub same_path : (p q : Path) → p ≡ q → is_path p q ≡ true
 same_path p q e = subst (λ (x : Path). is_path p x ≡ true) e ((eq_by_cmp_equiv (lists_total label_cmp_total)).refl p)
 
--- another path fails the test
+-- `is_path` fails for another path
 pub other_path : (p q : Path) → (p ≡ q → ⊥) → is_path p q ≡ false
 other_path p q apart = by_test (is_path p q) refl where
   by_test : (b : Bool) → is_path p q ≡ b → is_path p q ≡ false

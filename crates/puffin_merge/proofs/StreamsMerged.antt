@@ -121,7 +121,7 @@ taken_of_frame form own t a b bytes read w made (Ok x) ef ea eb h =
     ef (subst (λ (o : ℤ). TakesAll form TakesScopes (at_origin t o) w read made) ea
     (subst (λ (xs : List ℕ). TakesAll form TakesScopes (at_origin t a) w xs made) eb h))
 
--- so is the walk's refusal
+-- the walk's refusal is told of the frame's form, bytes and origin
 pub refused_of_frame : (form own : Form) (t : Table) (a b : ℤ) (bytes read : List ℕ) (w : Merging) (made : ℕ)
     (r : Result (Unit {0}) Error) → form ≡ own → a ≡ b → bytes ≡ read
     → IfErr r (λ e. (e ≡ Memory) ⊎ StopsEarly form TakesScopes RefusesScope (at_origin t a) w bytes made e)

@@ -148,7 +148,7 @@ grown_each all t u i k o d n table h lt path is items fits =
           })
     ]
 
--- the same for the table
+-- the table with one piece more at one of its nodes has the sums of one more occurrence
 pub grown : (all : List Occurrence) (t u : Table) (i : ℕ) (o : Occurrence) (d n : Node) → IsTableOf all t
     → i < vec_len t.nodes → o.path ≡ path_at t.nodes.items (i + 1)
     → n ≡ node_with_piece (get_or t.nodes.items i d) o.own_start o.duration → u.nodes.items ≡ set t.nodes.items i n

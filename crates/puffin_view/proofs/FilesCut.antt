@@ -280,7 +280,7 @@ known : (old : List ℕ) (new : Option (List ℕ)) (taken : List ℕ) → Consum
 known old None taken c = absurd c
 known old (Some rest) taken c = (rest, refl, c)
 
--- the same for the whole file, with its letters
+-- frames that a reader gave from what is left of a file are the first whole ones
 walked : (cs : List PacketFields) (bytes : List ℕ) (whole : List PacketFields)
     (h : IsCut cs bytes whole) (mid : Option (List ℕ)) (frames : List Stored) → Again → AllByRecursion IsPacked cs
     → list_any lacks_ids cs ≡ false

@@ -174,7 +174,7 @@ module _ {A : Type 0} where
   pub ram_small : (a : Arc FrameData A) → ram_taken a ≤ 2 ^ 64 - 1
   ram_small a = omega arith
 
-  -- so the running sum of unpacked frames has not wrapped around
+  -- the sum of unpacked frames stays below the point where it wraps around
   pub numbers_below : (es : List (ℕ × Arc FrameData A)) → length es < 2 ^ 64
       → sum_by unpacked_number (values_of es) < 2 ^ 64
   numbers_below es few =
@@ -182,7 +182,7 @@ module _ {A : Type 0} where
       let s = sum_by-below unpacked_number 1 number_small (values_of es) in
       omega arith
 
-  -- nor has that of the bytes
+  -- the sum of the bytes stays below the point where it wraps around
   pub ram_below : (es : List (ℕ × Arc FrameData A)) → length es < 2 ^ 64
       → sum_by ram_taken (values_of es) < 2 ^ 128 - 2 ^ 64
   ram_below es few =

@@ -29,7 +29,7 @@ pub known_as : (v w : KnownView) (frames made : View) → v ≡ w → frames ≡
     → record v { frames = frames } ≡ with_frames w made
 known_as v w frames made same is = λ j. record { frames = is j; scope_collection = (same j).scope_collection }
 
--- the same indices, in other words
+-- what is let go depends on the indices alone
 pub lets_as : (old new : HeldFrames) (a b c d : List ℕ) → a ≡ b → c ≡ d → LetsGo old a c new → LetsGo old b d new
 lets_as old new a b c d e p h =
     let P : List ℕ → Type 0 = λ is. LetsGo old is d new in

@@ -31,7 +31,7 @@ has-append q (x ∷ xs) ys = at (nat_eq q x) (has-append q xs ys) where
   at true e = refl
   at false e = e
 
--- the same for the indices of frames
+-- an index is among frames in two parts if it is in one of them
 pub has_index-append : (q : ℕ) (fs gs : List Frame) → has_index q (fs ++ gs) ≡ (has_index q fs || has_index q gs)
 has_index-append q [] gs = refl
 has_index-append q (f ∷ fs) gs = at (nat_eq q (index_of f)) (has_index-append q fs gs) where
@@ -60,15 +60,15 @@ has_all P (f ∷ fs) h = (
   later true b e = refl
   later false b e = e
 
--- `nat_eq` tells whether two numbers are the same
+-- numbers for which `nat_eq` holds are the same
 pub equal_to : (a b : ℕ) → nat_eq a b ≡ true → a ≡ b
 equal_to a b e = grind arith
 
--- the same number passes the test
+-- `nat_eq` holds for the same number
 pub equals : (a b : ℕ) → a ≡ b → nat_eq a b ≡ true
 equals a b e = grind arith
 
--- another number fails the test
+-- `nat_eq` fails for another number
 pub apart_to : (a b : ℕ) → a ≢ b → nat_eq a b ≡ false
 apart_to a b h = grind arith
 
@@ -84,7 +84,7 @@ pub all_map : (P Q : Frame → Type 0) → ((f : Frame) → P f → Q f) → (fs
 all_map P Q k [] h = tt
 all_map P Q k (f ∷ fs) (first, others) = (k f first, all_map P Q k fs others)
 
--- the same from two facts
+-- what follows for one frame from two facts follows for all
 pub all_both : (P Q R : Frame → Type 0) → ((f : Frame) → P f → Q f → R f) → (fs : List Frame) → AllByRecursion P fs
     → AllByRecursion Q fs → AllByRecursion R fs
 all_both P Q R k [] h m = tt
@@ -96,30 +96,30 @@ pub all_first : {A : Type 0} (P : A → Type 0) (xs ys : List A) → AllByRecurs
 all_first P [] ys h = tt
 all_first P (x ∷ xs) ys (first, others) = (first, all_first P xs ys others)
 
--- and for the rest
+-- what holds for all holds for the second part
 pub all_rest : {A : Type 0} (P : A → Type 0) (xs ys : List A) → AllByRecursion P (xs ++ ys) → AllByRecursion P ys
 all_rest P [] ys h = h
 all_rest P (x ∷ xs) ys (first, others) = all_rest P xs ys others
 
--- and for the first ones
+-- what holds for all holds for the first ones
 pub all_take : (P : Frame → Type 0) (k : ℕ) (xs : List Frame) → AllByRecursion P xs → AllByRecursion P (take k xs)
 all_take P zero xs h = tt
 all_take P (suc k) [] h = tt
 all_take P (suc k) (x ∷ xs) (first, others) = (first, all_take P k xs others)
 
--- and for all but the first ones
+-- what holds for all holds for those behind the first ones
 pub all_drop : (P : Frame → Type 0) (k : ℕ) (xs : List Frame) → AllByRecursion P xs → AllByRecursion P (drop k xs)
 all_drop P zero xs h = h
 all_drop P (suc k) [] h = tt
 all_drop P (suc k) (x ∷ xs) (first, others) = all_drop P k xs others
 
--- and with one more behind
+-- what holds for all and for one more holds with that one behind them
 pub all_more : (P : Frame → Type 0) (xs : List Frame) (f : Frame) → AllByRecursion P xs → P f
     → AllByRecursion P (xs ++ f ∷ [])
 all_more P [] f h p = (p, tt)
 all_more P (x ∷ xs) f (first, others) p = (first, all_more P xs f others p)
 
--- and with one more in its place among the slow ones
+-- what holds for all and for one more holds with that one in its place among the slow ones
 pub all_place : (P : Frame → Type 0) (f : Frame) (fs : List Frame) → P f → AllByRecursion P fs
     → AllByRecursion P (place is_slower_frame f fs)
 all_place P f [] p h = (p, tt)

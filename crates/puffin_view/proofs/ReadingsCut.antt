@@ -104,7 +104,7 @@ part_cut n front more x after is = by_length (ltb (length front) n) refl
 first_cut : IsCuttable first_at
 first_cut = both (part_of 1) (λ one rest. Ok (slice_index one 0, rest)) (part_cut 1) (λ one. valued (slice_index one 0))
 
--- so is the length of a part
+-- the length of a part is read whole, or is `Truncated`
 length_cut : IsCuttable part_length_at
 length_cut front more x after is = by_length (ltb (length front) 4) refl
   where

@@ -72,20 +72,20 @@ module _ {X : Type 0} where
 
   -- ---- at a key that stands between
 
-  -- a key is found behind lower ones
+  -- a value is found under its key, behind lower keys
   pub lookup-between : (k : ℕ) (x : X) (es ms : List (ℕ × X)) → AreBelow k es
       → lookup (at k) (es ++ (k, x) ∷ ms) ≡ Some x
   lookup-between k x es ms h =
       lookup-past k es ((k, x) ∷ ms) h ∙ ap (λ o. cond (is_eq o) (Some x) (lookup (at k) ms)) (itself k)
 
-  -- and replaced there
+  -- a value is replaced under its key, behind lower keys
   pub insert-between : (k : ℕ) (x a : X) (es ms : List (ℕ × X)) → AreBelow k es
       → insert_entry nat_cmp (es ++ (k, x) ∷ ms) k a ≡ es ++ (k, a) ∷ ms
   insert-between k x a es ms h =
       insert-past k a es ((k, x) ∷ ms) h ∙ ap (λ l. es ++ l) (ap (λ o. match_ordering o ((k, a) ∷ (k, x) ∷ ms)
       ((k, a) ∷ ms) ((k, x) ∷ insert_entry nat_cmp ms k a)) (itself k))
 
-  -- and removed there
+  -- an entry is removed under its key, behind lower keys
   pub remove-between : (k : ℕ) (x : X) (es ms : List (ℕ × X)) → AreBelow k es
       → remove_entry (at k) (es ++ (k, x) ∷ ms) ≡ es ++ ms
   remove-between k x es ms h =
@@ -107,7 +107,7 @@ module _ {X : Type 0} where
     by true n later = cc
     by false n later = ap (λ l. m ∷ l) (later n)
 
-  -- and removed there
+  -- an entry that is not in the second part is removed from the first
   pub remove-first : (t : ℕ → Bool) (es ms : List (ℕ × X)) → lookup t ms ≡ None
       → remove_entry t (es ++ ms) ≡ remove_entry t es ++ ms
   remove-first t [] ms n = remove-none t ms n
@@ -117,7 +117,7 @@ module _ {X : Type 0} where
     by true later = refl
     by false later = ap (λ l. e ∷ l) later
 
-  -- and replaced there, if it is there
+  -- a value that is in the first part is replaced there
   pub insert-first : (k : ℕ) (a : X) (es ms : List (ℕ × X)) → IsSome (lookup (at k) es)
       → insert_entry nat_cmp (es ++ ms) k a ≡ insert_entry nat_cmp es k a ++ ms
   insert-first k a [] ms h = let none : Option X = None in absurd (no_some none refl h)
@@ -183,7 +183,7 @@ module _ {X : Type 0} where
       → IsStrictlySortedBy nat_cmp (keys_of es) → IsStrictlySortedBy nat_cmp (keys_of fs)
   sorted-inserted k a es fs e s = subst (λ l. IsStrictlySortedBy nat_cmp (keys_of l)) (sym e) (sorted-insert k a es s)
 
-  -- also at the end
+  -- a sorted list stays sorted with a key above all others at the end
   pub sorted-last : (k : ℕ) (a : X) (es : List (ℕ × X)) → AreBelow k es → IsStrictlySortedBy nat_cmp (keys_of es)
       → IsStrictlySortedBy nat_cmp (keys_of (es ++ (k, a) ∷ []))
   sorted-last k a es low s =
@@ -208,7 +208,7 @@ module _ {X : Type 0} where
     by true later = rest
     by false later = (all_removed (λ y. nat_cmp e.0 y ≡ Less) t es first, later)
 
-  -- and with one key less
+  -- a sorted list stays sorted with one key less
   pub sorted-removed : (t : ℕ → Bool) (es fs : List (ℕ × X)) → fs ≡ remove_entry t es
       → IsStrictlySortedBy nat_cmp (keys_of es) → IsStrictlySortedBy nat_cmp (keys_of fs)
   sorted-removed t es fs e s = subst (λ l. IsStrictlySortedBy nat_cmp (keys_of l)) (sym e) (sorted-remove t es s)

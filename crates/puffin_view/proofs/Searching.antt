@@ -90,7 +90,7 @@ pub searched_index : (is : List ℕ) (i n : ℕ) (r : Result ℕ ℕ) → n ≡ 
 searched_index is i n r as_many sorted range found =
     searched nat_cmp nat_cmp_total is i r sorted (subst (IsSearchInRange r) as_many range) found ∙ any_number i is
 
--- the same for sorted ranks
+-- a binary search of sorted ranks finds one exactly if it is there
 pub searched_rank : (slow : List SlowRank) (x : SlowRank) (n : ℕ) (r : Result ℕ ℕ) → n ≡ length slow
     → IsStrictlySortedBy rank_cmp slow → IsSearchInRange r n → IsBinarySearchResult (λ y. rank_cmp y x) slow r
     → is_ok r ≡ list_any (λ y. is_eq (rank_cmp y x)) slow

@@ -152,7 +152,7 @@ has_index-place q f (g ∷ fs) h = at (is_slower_frame f g) h (has_index-place q
 pub first_false : {a b : Bool} → a ≡ false → b ≡ false → (a || b) ≡ false
 first_false {a} {b} e p = rw (e, p) refl
 
--- with the slow ones as they were
+-- one more frame is stored among the recent ones, and the slow ones are as they were
 pub stored-added : (held : HeldFrames) (recent : List ℕ) (slow : List SlowRank) (last : Option ℕ) (f : Frame)
     (R S : List Frame) → AreStored held recent slow last R S
     → AllByRecursion (λ g. index_of g < index_of f) R → AllByRecursion (λ g. index_of g < index_of f) S → AreStored
@@ -180,7 +180,7 @@ stored-added held recent slow last f R S h before slow_before = record {
       → AllByRecursion (λ g. index_of g ≤ index_of f) fs
   below fs low = all_map (λ g. index_of g < index_of f) (λ g. index_of g ≤ index_of f) (λ g k. omega arith) fs low
 
--- and with it among the slow ones
+-- a recent frame is stored among the slow ones too
 pub stored-placed : (held : HeldFrames) (recent : List ℕ) (slow : List SlowRank) (f : Frame) (R S : List Frame)
     → AreStored held recent slow (Some (index_of f)) R S → fin.get held (index_of f) ≡ Some f
     → AllByRecursion (λ g. index_of g < index_of f) S
@@ -242,7 +242,7 @@ pub slow_back : (held : HeldFrames) (recent : List ℕ) (slow : List SlowRank) (
 slow_back held recent slow last R S h = ap (λ rs. frames_under held (map rank_index rs)) h.slow_at
     ∙ ap (frames_under held) (index-rank_of S) ∙ held_back (fin.get held) S h.slow_held
 
--- so the fields store the frames that are found under them
+-- fields that store some frames store those that are found under their indices
 pub stored_as : (held : HeldFrames) (recent : List ℕ) (slow : List SlowRank) (last : Option ℕ) (R S : List Frame)
     → AreStored held recent slow last R S
     → AreStored held recent slow last (frames_under held recent) (frames_under held (map rank_index slow))
@@ -251,7 +251,7 @@ stored_as held recent slow last R S h =
     let Q : List Frame → Type 0 = λ fs. AreStored held recent slow last R fs in
     subst P (sym (recent_back held recent slow last R S h)) (subst Q (sym (slow_back held recent slow last R S h)) h)
 
--- and the view that they stand for is the one with these frames
+-- the view that the fields stand for is the one with the frames that they store
 pub view_as : (held : HeldFrames) (recent : List ℕ) (slow : List SlowRank) (last : Option ℕ) (max_recent max_slow : ℕ)
     (packs : Bool) (v : View) → AreStored held recent slow last v.recent v.slow → last ≡ v.last
     → max_recent ≡ v.max_recent → max_slow ≡ v.max_slow → packs ≡ v.packs
@@ -308,7 +308,7 @@ newest_held held recent slow last R S i h newest =
     ap (fin.get held) (sym found.2)
     ∙ all_last (λ f. fin.get held (index_of f) ≡ Some f) R found.0 h.recent_held found.1 ∙ sym found.1
 
--- so something is held under it
+-- something is held under the newest frame's index
 pub newest_there : (held : HeldFrames) (recent : List ℕ) (slow : List SlowRank) (last : Option ℕ)
     (R S : List Frame) (f : Frame) (i : ℕ) → AreStored held recent slow last R S → last_in R ≡ Some f → i ≡ index_of f
     → IsSome (fin.get held i)

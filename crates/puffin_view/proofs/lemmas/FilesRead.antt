@@ -294,7 +294,7 @@ room_left n lt = subst (λ (m : ℕ). n < m) (sym most_is) lt
 pub none_left : (n k : ℕ) → n ≡ k → 2 ^ 64 - 1 ≤ k → k ≤ 2 ^ 64 - 1 → n ≡ most_packets
 none_left n k e low high = subst (λ (m : ℕ). n ≡ m) (sym most_is) (omega (arith, e, low, high))
 
--- so many frames are the greatest number of packets
+-- `2 ^ 64 - 1` is the greatest number of packets
 pub most_frames : (n : ℕ) → n ≡ 2 ^ 64 - 1 → n ≡ most_packets
 most_frames n e = subst (λ (m : ℕ). n ≡ m) (sym most_is) e
 

@@ -10,6 +10,6 @@ use Rattle.puffin_view.specs.contracts.profile_view.slow_rank.SlowRank as Rank
 pub rank_send : IsSend Rank.the_row
 rank_send = search (maps.crosses, crosses, sendable) depth 60 fits 100000
 
--- so may frames that are held
+-- frames that are held may be sent to another thread
 pub held_send : IsSend Held.the_row
 held_send = search (frame_send, frame_sync, maps.crosses, crosses, sendable) depth 60 fits 100000
