@@ -9,8 +9,8 @@ use Rattle.puffin_merge.specs.Merge.Pieces.{Merged, merged_at}
 use Rattle.puffin_merge.specs.Merge.Starts.{earliest_starts}
 use Rattle.puffin_merge.specs.Merge.Tree.{Node, MergedForest, no_node, merged}
 use Rattle.puffin_merge.specs.Merge.{below, sibling_cmp, sibling_of}
-use Rattle.puffin_merge.specs.inner.Tables.{merged_in}
-use Rattle.puffin_merge.specs.inner.Places.{placement_after}
+use Rattle.puffin_merge.specs.inner.Tables.{merged_of_sums}
+use Rattle.puffin_merge.specs.inner.Places.{node_label, next_placement}
 
 -- a node of the table, named by its number; its parent's number is 0 at the top
 pub record Entry : Type 0 where
@@ -20,6 +20,7 @@ pub record Entry : Type 0 where
   pub merged : Merged
   pub start : ℤ
 
+-- the merged node of an entry, merged over this number of frames
 abbrev pub node_of : ℕ → Entry → Node
 node_of frames e = record {
   label = e.label;
@@ -30,6 +31,7 @@ node_of frames e = record {
   pieces = e.merged.number;
 }
 
+-- the entries whose parent has this number
 abbrev pub children_of : ℕ → List Entry → List Entry
 children_of p entries = filter (λ e. e.parent == p) entries
 
@@ -42,11 +44,12 @@ forest_below frames p (e ∷ entries) =
     forest_below frames p entries))
     (forest_below frames p entries)
 
--- by recursion
+-- the property holds for each entry, by recursion
 abbrev pub Each : (Entry → Type 0) → List Entry → Type 0
 Each P [] = Unit {0}
 Each P (e ∷ entries) = P e × Each P entries
 
+-- the property holds for some entry, by recursion
 abbrev pub Some_of : (Entry → Type 0) → List Entry → Type 0
 Some_of P [] = ⊥
 Some_of P (e ∷ entries) = P e ⊎ Some_of P entries
@@ -56,6 +59,7 @@ pub record StandsBefore (at : Path → Merged) (path_of : ℕ → Path) (e f : E
   pub parent : e.parent ≤ f.parent
   pub sibling : e.parent ≡ f.parent → sibling_cmp at (path_of e.parent) e.label f.label ≡ Less
 
+-- each entry stands before all behind it
 abbrev pub InOrder : (Path → Merged) → (ℕ → Path) → List Entry → Type 0
 InOrder at path_of [] = Unit {0}
 InOrder at path_of (e ∷ entries) =
@@ -90,16 +94,14 @@ abbrev pub entry_of : List table.Node → OrderedNode → Placement → table.No
 entry_of nodes p placements d = record {
   parent = p.parent.number;
   number = p.number.number;
-  label = record { id = p.id; text = p.text.now };
-  merged = merged_in (slice_index_or nodes (p.number.number - 1) d).sums;
+  label = node_label p;
+  merged = merged_of_sums (slice_index_or nodes (p.number.number - 1) d).sums;
   start = placements.start;
 }
 
+-- the entries of these ordered nodes, each placed after the one before it
 abbrev pub entries_from : List table.Node → ℕ → Placement → List OrderedNode → table.Node → List Entry
 entries_from nodes frames before [] d = []
 entries_from nodes frames before (p ∷ ordered_nodes) d =
-    entry_of nodes p
-    (placement_after frames (slice_index_or nodes (p.number.number - 1) d).sums p before) d
-    ∷ entries_from nodes frames
-    (placement_after frames (slice_index_or nodes (p.number.number - 1) d).sums p before) ordered_nodes
-    d
+    let placement = next_placement nodes frames before p d in
+    entry_of nodes p placement d ∷ entries_from nodes frames placement ordered_nodes d

@@ -9,15 +9,16 @@ use Rattle.puffin_data.specs.declared.error.Error.TheVariants.{Memory, TooLarge}
 use Rattle.puffin_data.specs.Forest.{Span}
 use Rattle.puffin_data.specs.Walk.Visitor.{Entering, Refusing}
 use Rattle.puffin_merge.specs.declared.merge.table.Table.{Table}
-use Rattle.puffin_merge.specs.declared.merge.table.Asked.{Asked}
+use Rattle.puffin_merge.specs.declared.merge.table.KeyRef.{KeyRef}
 use Rattle.puffin_merge.specs.declared.merge.table.NodeNumber.{NodeNumber}
 use Rattle.puffin_merge.specs.declared.merge.stream.Merging.{Merging}
-use Rattle.puffin_merge.specs.declared.merge.stream.Open.{Open}
+use Rattle.puffin_merge.specs.declared.merge.stream.OpenScope.{OpenScope}
 use Rattle.puffin_merge.specs.Merge.Occurrences.{Occurrence, Path, label_of, path_of, origin_in, occurrence_of}
 use Rattle.puffin_merge.specs.inner.Origins.{IsOrigin, fits_i64}
 use Rattle.puffin_merge.specs.Merge.{below}
 use Rattle.puffin_merge.specs.Merge.Refusals.{SumsFit, Fits}
-use Rattle.puffin_merge.specs.inner.Tables.{asked_for, path_at, IsTableOf, occurrence_at, AddsAt}
+use Rattle.puffin_merge.specs.inner.Found.{ref_label}
+use Rattle.puffin_merge.specs.inner.Tables.{path_at, IsTableOf, occurrence_of_key, AddsAt}
 use Rattle.puffin_merge.specs.inner.Merging.{TakesScopes, RefusesScope, StandsFor}
 
 fits_test : (t : ℤ) → FitsSigned w64 t → fits_i64 t ≡ true
@@ -29,28 +30,30 @@ test_fits t h = grind (arith, ints)
 path_size : (around : List Span) (s : Span) → length (path_of around ++ (label_of s ∷ [])) ≡ length around + 1
 path_size around s = length_push (path_of around) (label_of s) ∙ ap (λ (n : ℕ). n + 1) (length-map around label_of)
 
-shallow : (v : Merging) (w : Open) (around : List Span) (s : Span) → w.depth < 1024 → StandsFor v w around → length (path_of around ++ (label_of s ∷ [])) ≤ 1024
+shallow : (v : Merging) (w : OpenScope) (around : List Span) (s : Span) → w.depth < 1024 → StandsFor v w around
+    → length (path_of around ++ (label_of s ∷ [])) ≤ 1024
 shallow v w around s low stands = let depth = stands.depth in omega (arith, path_size around s)
 
 -- the answer of a start that is counted from an origin
-abbrev pub Counted : ℤ → Type 0
-Counted t = Result ℤ Error
-
 abbrev pub counted_start : ℤ → Result ℤ Error
 counted_start t = cond (fits_i64 t) (Ok t) (Err TooLarge)
 
+-- a start that is returned is the counted one, and fits
 pub ok_start : (t own : ℤ) → ◌≡◌ {A = Result ℤ Error} (Ok own) (counted_start t) → (own ≡ t) × FitsSigned w64 t
 ok_start t own e = by_test (fits_i64 t) refl e where
-  by_test : (b : Bool) → fits_i64 t ≡ b → ◌≡◌ {A = Result ℤ Error} (Ok own) (cond b (Ok t) (Err TooLarge)) → (own ≡ t) × FitsSigned w64 t
+  by_test : (b : Bool) → fits_i64 t ≡ b → ◌≡◌ {A = Result ℤ Error} (Ok own) (cond b (Ok t) (Err TooLarge))
+      → (own ≡ t) × FitsSigned w64 t
   by_test true at e = (cc, test_fits t at)
   by_test false at e = absurd (cc)
 
-err_start : (t : ℤ) (fault : Error) → ◌≡◌ {A = Result ℤ Error} (Err fault) (counted_start t) → (FitsSigned w64 t → ⊥) × (fault ≡ TooLarge)
+err_start : (t : ℤ) (fault : Error) → ◌≡◌ {A = Result ℤ Error} (Err fault) (counted_start t)
+    → (FitsSigned w64 t → ⊥) × (fault ≡ TooLarge)
 err_start t fault e = by_test (fits_i64 t) refl e where
   clash : fits_i64 t ≡ false → fits_i64 t ≡ true → ⊥
   clash a b = cc
 
-  by_test : (b : Bool) → fits_i64 t ≡ b → ◌≡◌ {A = Result ℤ Error} (Err fault) (cond b (Ok t) (Err TooLarge)) → (FitsSigned w64 t → ⊥) × (fault ≡ TooLarge)
+  by_test : (b : Bool) → fits_i64 t ≡ b → ◌≡◌ {A = Result ℤ Error} (Err fault) (cond b (Ok t) (Err TooLarge))
+      → (FitsSigned w64 t → ⊥) × (fault ≡ TooLarge)
   by_test true at e = absurd (cc)
   by_test false at e = (λ fits. clash at (fits_test t fits), cc)
 
@@ -58,6 +61,7 @@ err_start t fault e = by_test (fits_i64 t) refl e where
 pub origin_fits : (t : ℤ) → IsOrigin t → FitsSigned w128 t
 origin_fits t h = let low = h.low in let high = h.high in omega (arith, ints)
 
+-- a time fits `i128`
 pub time_fits : (t : ℤ) → FitsSigned w64 t → FitsSigned w128 t
 time_fits t h = omega (arith, ints)
 
@@ -65,32 +69,58 @@ time_fits t h = omega (arith, ints)
 pub passed_64 : (t : ℤ) → FitsSigned w64 t → to_z w64 (of_z w64 t) ≡ t
 passed_64 t h = to_z-of_z w64 t h
 
+-- a number that fits stays the same when it is passed on as bits
 pub passed_128 : (t : ℤ) → FitsSigned w128 t → to_z w128 (of_z w128 t) ≡ t
 passed_128 t h = to_z-of_z w128 t h
 
-pub start_refused : (v : Merging) (w : Open) (s : Span) (t : ℤ) (fault : Error) → w.depth < 1024 → t ≡ s.start -ℤ w.origin → ◌≡◌ {A = Result ℤ Error} (Err fault) (counted_start t) → Refusing RefusesScope StandsFor v w s fault
+-- a scope whose own start doesn't fit is refused
+pub start_refused : (v : Merging) (w : OpenScope) (s : Span) (t : ℤ) (fault : Error)
+    → w.depth < 1024 → t ≡ s.start -ℤ w.origin → ◌≡◌ {A = Result ℤ Error} (Err fault) (counted_start t)
+    → Refusing RefusesScope StandsFor v w s fault
 start_refused v w s t fault low is e =
     let no = err_start t fault e in
     λ around stands. λ all table.
-    inr (shallow v w around s low stands, λ fits. no.0 (subst (FitsSigned w64) (sym (is ∙ ap (λ (o : ℤ). s.start -ℤ o) stands.origin)) fits.own_start), no.1)
-
--- what the table is given is the scope's occurrence
-given : (v : Merging) (w : Open) (around : List Span) (s : Span) (key : Asked) (own : ℤ) (duration : ℕ) → StandsFor v w around → key.parent.number ≡ w.node.number → asked_for key ≡ label_of s → own ≡ s.start -ℤ w.origin → duration ≡ nat_abs (s.stop -ℤ s.start)
-    → occurrence_at v.table key.parent.number (asked_for key) own duration ≡ occurrence_of v.origin (record { around = around; span = s })
-given v w around s key own duration stands parent label start lasts =
-    let path : below (path_at v.table.nodes.items key.parent.number) (asked_for key) ≡ path_of around ++ (label_of s ∷ []) =
-    ap (λ (n : ℕ). below (path_at v.table.nodes.items n) (asked_for key)) parent ∙ ap (λ (p : Path). below p (asked_for key)) stands.path ∙ ap (below (path_of around)) label in
-    let own-is : own ≡ s.start -ℤ origin_in v.origin around = start ∙ ap (λ (o : ℤ). s.start -ℤ o) stands.origin in
-    λ i. record { path = path i; own_start = own-is i; duration = lasts i }
-
-pub sums_refused : (v : Merging) (w : Open) (s : Span) (key : Asked) (own : ℤ) (duration : ℕ) (fault : Error) → w.depth < 1024 → key.parent.number ≡ w.node.number → asked_for key ≡ label_of s → own ≡ s.start -ℤ w.origin → duration ≡ nat_abs (s.stop -ℤ s.start)
-    → (fault ≡ Memory) ⊎ ((fault ≡ TooLarge) × ((all : List Occurrence) → IsTableOf all v.table → SumsFit all (occurrence_at v.table key.parent.number (asked_for key) own duration) → ⊥)) → (fault ≡ Memory) ⊎ Refusing RefusesScope StandsFor v w s fault
-sums_refused v w s key own duration fault low parent label start lasts (inl memory) = inl memory
-sums_refused v w s key own duration fault low parent label start lasts (inr sums) =
-    inr (λ around stands. λ all table. inr (
+    inr (
       shallow v w around s low stands,
-      λ fits. sums.1 all table (subst (λ (o : Occurrence). SumsFit all o) (sym (given v w around s key own duration stands parent label start lasts)) fits.sums),
-      sums.0,
+      λ fits. no.0
+          (subst (FitsSigned w64) (sym (is ∙ ap (λ (o : ℤ). s.start -ℤ o) stands.origin)) fits.own_start),
+      no.1,
+    )
+
+-- what the table is given for a scope below an open scope: the parent's number, the scope's label, its own start and its
+-- duration
+pub record IsGiven (w : OpenScope) (s : Span) (key : KeyRef) (own : ℤ) (duration : ℕ) : Type 0 where
+  pub low : w.depth < 1024
+  pub parent : key.parent.number ≡ w.node.number
+  pub label : ref_label key ≡ label_of s
+  pub start : own ≡ s.start -ℤ w.origin
+  pub lasts : duration ≡ nat_abs (s.stop -ℤ s.start)
+
+-- this is the scope's occurrence
+given : (v : Merging) (w : OpenScope) (around : List Span) (s : Span) (key : KeyRef) (own : ℤ) (duration : ℕ)
+    → StandsFor v w around → IsGiven w s key own duration
+    → occurrence_of_key v.table key own duration ≡ occurrence_of v.origin (record { around = around; span = s })
+given v w around s key own duration stands is =
+    let path : below (path_at v.table.nodes.items key.parent.number) (ref_label key)
+    ≡ path_of around ++ (label_of s ∷ []) =
+    ap (λ (n : ℕ). below (path_at v.table.nodes.items n) (ref_label key)) is.parent
+    ∙ ap (λ (p : Path). below p (ref_label key)) stands.path ∙ ap (below (path_of around)) is.label in
+    let own-is : own ≡ s.start -ℤ origin_in v.origin around = is.start ∙ ap (λ (o : ℤ). s.start -ℤ o) stands.origin in
+    λ i. record { path = path i; own_start = own-is i; duration = is.lasts i }
+
+-- a scope whose path's sums don't fit is refused, or memory ran out
+pub sums_refused : (v : Merging) (w : OpenScope) (s : Span) (key : KeyRef) (own : ℤ) (duration : ℕ) (fault : Error)
+    → IsGiven w s key own duration
+    → (fault ≡ Memory) ⊎ ((fault ≡ TooLarge) × ((all : List Occurrence)
+    → IsTableOf all v.table → SumsFit all (occurrence_of_key v.table key own duration) → ⊥))
+    → (fault ≡ Memory) ⊎ Refusing RefusesScope StandsFor v w s fault
+sums_refused v w s key own duration fault is (inl memory) = inl memory
+sums_refused v w s key own duration fault is (inr (too_large, no_fit)) =
+    inr (λ around stands. λ all table. inr (
+      shallow v w around s is.low stands,
+      λ fits. no_fit all table
+          (subst (λ (o : Occurrence). SumsFit all o) (sym (given v w around s key own duration stands is)) fits.sums),
+      too_large,
     ))
 
 origin_last : (origin : ℤ) (around : List Span) (s : Span) → origin_in origin (around ++ (s ∷ [])) ≡ s.start
@@ -100,12 +130,18 @@ origin_last origin (x ∷ around) s = origin_last x.start around s
 time_is_origin : (t : ℤ) → FitsSigned w64 t → IsOrigin t
 time_is_origin t h = record { low = omega (arith, ints); high = omega (arith, ints) }
 
-pub scope_taken : (v : Merging) (w : Open) (s : Span) (u : Table) (key : Asked) (own : ℤ) (duration : ℕ) (at : NodeNumber) (origin : ℤ) → w.depth < 1024 → key.parent.number ≡ w.node.number → asked_for key ≡ label_of s → own ≡ s.start -ℤ w.origin → FitsSigned w64 own
-    → duration ≡ nat_abs (s.stop -ℤ s.start) → origin ≡ s.start → FitsSigned w64 s.start → AddsAt v.table key.parent.number (asked_for key) own duration at.number u
-    → Entering TakesScopes StandsFor v w s (record { node = at; depth = w.depth + 1; origin = origin }) (record { table = u; origin = v.origin })
-scope_taken v w s u key own duration at origin low parent label start own_fits lasts origin_is fits adds around stands =
-    let o = given v w around s key own duration stands parent label start lasts in
+-- the table takes the scope's occurrence, and what the walk then keeps stands for the scope
+pub scope_taken : (v : Merging) (w : OpenScope) (s : Span) (u : Table) (key : KeyRef) (own : ℤ) (duration : ℕ)
+    (at : NodeNumber) (origin : ℤ) → IsGiven w s key own duration → FitsSigned w64 own → origin ≡ s.start
+    → FitsSigned w64 s.start
+    → AddsAt v.table (occurrence_of_key v.table key own duration) at.number u
+    → Entering TakesScopes StandsFor v w s (record { node = at; depth = w.depth + 1; origin = origin })
+    (record { table = u; origin = v.origin })
+scope_taken v w s u key own duration at origin is own_fits origin_is fits adds around stands =
+    let o = given v w around s key own duration stands is in
+    let low = is.low in
     let depth = stands.depth in
+    let (all_so_far, is_table) = stands.table in
     let path = adds.path in (
       record {
         origin = refl;
@@ -118,7 +154,7 @@ scope_taken v w s u key own duration at origin low parent label start own_fits l
         table = λ all table. subst (λ (x : Occurrence). IsTableOf (all ++ (x ∷ [])) u) o (adds.table all table);
       },
       record {
-        table = (stands.table.0 ++ (occurrence_at v.table key.parent.number (asked_for key) own duration ∷ []), adds.table stands.table.0 stands.table.1);
+        table = (all_so_far ++ (occurrence_of_key v.table key own duration ∷ []), adds.table all_so_far is_table);
         node = adds.number;
         path = path ∙ ap (λ (x : Occurrence). x.path) o ∙ sym (map-append label_of around (s ∷ []));
         depth = ap (λ (n : ℕ). n + 1) depth ∙ sym (length_push around s);

@@ -17,6 +17,8 @@ mod Adding
 mod AllAdded
 mod NodePlaces
 mod Drawing
+mod EntryStarts
+mod OrderedRows
 mod PlaceEntries
 mod Ending
 mod Attaching

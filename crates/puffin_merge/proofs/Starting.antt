@@ -29,27 +29,36 @@ earliest-free free (s ∷ siblings) = free_below free s
 earliest-feasible : (free : ℤ) (siblings : List Sibling) → IsFeasible siblings (earliest_starts free siblings)
 earliest-feasible free [] = tt
 earliest-feasible free (s ∷ siblings) =
-    let t : ℤ = earliest_start free s in
-    (own_below free s, zero_below free s, earliest-free (end_from t s) siblings, earliest-feasible (end_from t s) siblings)
+    let t : ℤ = earliest_start free s in (
+      own_below free s,
+      zero_below free s,
+      earliest-free (end_from t s) siblings,
+      earliest-feasible (end_from t s) siblings,
+    )
 
 free-below : (low high : ℤ) → low ≤ℤ high → (starts : List ℤ) → IsFree high starts → IsFree low starts
 free-below low high h [] k = tt
 free-below low high h (t ∷ starts) k = le-trans low high t h k
 
-earliest-least : (siblings : List Sibling) (others : List ℤ) (free : ℤ) → IsFree free others → IsFeasible siblings others → IsNowhereAbove (earliest_starts free siblings) others
+earliest-least : (siblings : List Sibling) (others : List ℤ) (free : ℤ) → IsFree free others
+    → IsFeasible siblings others → IsNowhereAbove (earliest_starts free siblings) others
 earliest-least [] [] free h k = tt
 earliest-least [] (u ∷ others) free h k = k
 earliest-least (s ∷ siblings) [] free h k = k
-earliest-least (s ∷ siblings) (u ∷ others) free h k =
-    let first : earliest_start free s ≤ℤ u = above free u s k.0 k.1 h in
-    (first, earliest-least siblings others (end_from (earliest_start free s) s) (free-below _ _ (ends_above _ u s first) others k.2) k.3)
+earliest-least (s ∷ siblings) (u ∷ others) free h (own, nonnegative, later, rest) =
+    let first : earliest_start free s ≤ℤ u = above free u s own nonnegative h in (
+      first,
+      earliest-least siblings others (end_from (earliest_start free s) s)
+          (free-below _ _ (ends_above _ u s first) others later) rest,
+    )
 
 feasible-free : (siblings : List Sibling) (others : List ℤ) → IsFeasible siblings others → IsFree (pos 0) others
 feasible-free [] [] k = tt
 feasible-free [] (u ∷ others) k = absurd k
 feasible-free (s ∷ siblings) [] k = tt
-feasible-free (s ∷ siblings) (u ∷ others) k = k.1
+feasible-free (s ∷ siblings) (u ∷ others) (own, nonnegative, later, rest) = nonnegative
 
+-- the earliest starts are the least feasible ones
 pub earliest-is_least : (siblings : List Sibling) → IsLeastFeasible siblings (earliest_starts (pos 0) siblings)
 earliest-is_least siblings = record {
   feasible = earliest-feasible (pos 0) siblings;

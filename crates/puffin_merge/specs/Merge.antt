@@ -1,4 +1,4 @@
--- The result of merging: a row of nodes below each path.
+-- The result of merging: a row of siblings below each path.
 pub mod Occurrences
 pub mod Pieces
 pub mod Starts
@@ -21,47 +21,52 @@ abbrev pub below : Path → Label → Path
 below path label = path ++ (label ∷ [])
 
 -- A node has the sums of its pieces, of which there is at least one. The duration per frame is rounded down.
-pub record TellsOf (m : Merged) (frames : ℕ) (n : Node) : Type 0 where
-  pub any : 0 < m.number
-  pub pieces : n.pieces ≡ m.number
-  pub total : n.total ≡ pos m.total
-  pub per_frame : n.per_frame ≡ pos (m.total / frames)
-  pub greatest : n.greatest ≡ pos m.greatest
+pub record HasSums (sums : Merged) (frames : ℕ) (node : Node) : Type 0 where
+  pub any : 0 < sums.number
+  pub pieces : node.pieces ≡ sums.number
+  pub total : node.total ≡ pos sums.total
+  pub per_frame : node.per_frame ≡ pos (sums.total / frames)
+  pub greatest : node.greatest ≡ pos sums.greatest
 
--- by least own start, then id, then the text's bytes
+-- The order of the siblings below a path, whose sums are given by path: by least own start, then id, then the text's bytes.
 abbrev pub sibling_cmp : (Path → Merged) → Path → Label → Label → Ordering
-sibling_cmp at path = then_cmp (on (λ l. (at (below path l)).own_start) int_cmp) label_cmp
+sibling_cmp sums_at path =
+    then_cmp (on (λ label. (sums_at (below path label)).own_start) int_cmp) label_cmp
 
--- each comes before the next
+-- each label comes before the next
 abbrev pub IsRising : (Label → Label → Ordering) → List Label → Type 0
 IsRising cmp [] = Unit {0}
-IsRising cmp (l ∷ []) = Unit {0}
-IsRising cmp (l ∷ m ∷ labels) = (cmp l m ≡ Less) × IsRising cmp (m ∷ labels)
+IsRising cmp (label ∷ []) = Unit {0}
+IsRising cmp (label ∷ next ∷ labels) = (cmp label next ≡ Less) × IsRising cmp (next ∷ labels)
 
+-- a merged scope among its siblings: its least own start, and its duration per frame
 abbrev pub sibling_of : Merged → ℕ → Sibling
-sibling_of m frames = record { own_start = m.own_start; duration = m.total / frames }
+sibling_of sums frames = record { own_start = sums.own_start; duration = sums.total / frames }
 
--- The merged scopes directly below a path. Each has the sums of its occurrences, and each label that occurs there is among
--- them. They are in order (so each is there once), and their starts are the least feasible ones.
+-- The merged scopes directly below a path, of all occurrences in this number of frames.
 pub record IsRow (all : List Occurrence) (frames : ℕ) (path : Path) (nodes : List Node) :
     Type 0 where
-  pub tell : All (λ n. TellsOf (merged_at all (below path n.label)) frames n) nodes
-  pub whole : All (λ o. (l : Label) → o.path ≡ below path l → Contains (map (λ n. n.label) nodes) l)
-      all
-  pub order : IsRising (sibling_cmp (merged_at all) path) (map (λ n. n.label) nodes)
+  -- each has the sums of its occurrences
+  pub sums : All (λ node. HasSums (merged_at all (below path node.label)) frames node) nodes
+  -- each label that occurs below the path is among them
+  pub whole : All (λ occurrence. (label : Label) → occurrence.path ≡ below path label →
+      Contains (map (λ node. node.label) nodes) label) all
+  -- they are in order, so each label is there once
+  pub order : IsRising (sibling_cmp (merged_at all) path) (map (λ node. node.label) nodes)
+  -- their starts are the least feasible ones
   pub starts : IsLeastFeasible
-      (map (λ n. sibling_of (merged_at all (below path n.label)) frames) nodes)
-      (map (λ n. n.start) nodes)
+      (map (λ node. sibling_of (merged_at all (below path node.label)) frames) nodes)
+      (map (λ node. node.start) nodes)
 
--- the children of each node are such a row below the node's path
-abbrev pub AreBelow : List Occurrence → ℕ → Path → MergedForest → Type 0
-AreBelow all frames path no_node = Unit {0}
-AreBelow all frames path (merged n children others) =
-    IsRow all frames (below path n.label) (row children)
-    × AreBelow all frames (below path n.label) children
-    × AreBelow all frames path others
+-- In a forest whose top level is below this path, the children of each node are the row below that node's path.
+abbrev pub HasRowsBelow : List Occurrence → ℕ → Path → MergedForest → Type 0
+HasRowsBelow all frames path no_node = Unit {0}
+HasRowsBelow all frames path (merged node children others) =
+    IsRow all frames (below path node.label) (row children)
+    × HasRowsBelow all frames (below path node.label) children
+    × HasRowsBelow all frames path others
 
--- what the occurrences in this number of frames are merged into
-pub record IsMerge (all : List Occurrence) (frames : ℕ) (f : MergedForest) : Type 0 where
-  pub top : IsRow all frames [] (row f)
-  pub deeper : AreBelow all frames [] f
+-- The occurrences in this number of frames are merged into this forest.
+pub record IsMerge (all : List Occurrence) (frames : ℕ) (forest : MergedForest) : Type 0 where
+  pub top : IsRow all frames [] (row forest)
+  pub deeper : HasRowsBelow all frames [] forest

@@ -70,8 +70,8 @@ pub fn merge_scopes_counted<'s>(
 ) -> Result<Vec<MergeScope<'s>>>
     // What it returns is the frames' merge, with one try for each scope.
     ensures merged { IfOk result (λ merged.
-        (m : AreMerged (frames_bytes (key_of info.now) frames.now) (forest_in merged.items))
-        × (tries.new ≡ length (occurrences m.scopes))) }
+        (merge : AreMerged (frames_bytes (key_of info.now) frames.now) (forest_in merged.items))
+        × (tries.new ≡ length (occurrences merge.scopes))) }
     // Unless memory runs out, its error is the frames' refusal, after exactly these tries.
     ensures refused { IfErr result (λ e. (e ≡ Error.Memory)
         ⊎ IsRefusalAfter (frames_bytes (key_of info.now) frames.now) tries.new e) }
@@ -83,6 +83,7 @@ pub fn merge_scopes_counted<'s>(
     let mut merger = Merger::new(alloc, info);
     for frame in frames {
         let mut made = 0;
+        // The tries count also if the frame is refused, so they are added before the error is returned.
         let added = merger.add_counted(frame, &mut made);
         *tries += made as u128;
         added?;

@@ -10,6 +10,7 @@ mod Placing
 mod Members
 mod Cutting
 mod Storing
+mod StoringPacked
 mod LettingGo
 mod JoiningPending
 mod Listing

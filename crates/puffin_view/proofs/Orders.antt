@@ -14,13 +14,15 @@ pub by_duration_total : IsTotalOrder by_duration
 by_duration_total = then_total (on_total duration (back_total int_cmp_total)) (on_total frame_index nat_cmp_total)
 
 pub older_total : IsTotalOrder older_cmp
-older_total = then_total (on_total (λ (r : Rank). r.index) nat_cmp_total) (then_total (on_total (λ (r : Rank). r.place) nat_cmp_total) (on_total (λ (r : Rank). r.duration) int_cmp_total))
+older_total = then_total (on_total (λ (r : Rank). r.index) nat_cmp_total)
+    (then_total (on_total (λ (r : Rank). r.place) nat_cmp_total) (on_total (λ (r : Rank). r.duration) int_cmp_total))
 
 pub slower_order : IsStrictWeakOrder is_slower
 slower_order = ranks_by by_duration_total (λ (c : PacketFields). c)
 
 -- a frame no longer than another, with an index above it, doesn't come before it
-pub later_behind : (c d : PacketFields) → int_lt (duration d) (duration c) ≡ false → frame_index d < frame_index c → is_slower c d ≡ false
+pub later_behind : (c d : PacketFields) → int_lt (duration d) (duration c) ≡ false → frame_index d < frame_index c
+    → is_slower c d ≡ false
 later_behind c d short late = grind arith
 
 -- what ties by duration
@@ -33,12 +35,15 @@ same_index c d e = grind (arith, ints)
 tied : (c d : PacketFields) → duration c ≡ duration d → frame_index c ≡ frame_index d → by_duration c d ≡ Equal
 tied c d long at = grind (arith, ints)
 
-pub by_duration_ties : (c d : PacketFields) → by_duration c d ≡ Equal ↔ ((duration c ≡ duration d) × (frame_index c ≡ frame_index d))
+pub by_duration_ties : (c d : PacketFields)
+    → by_duration c d ≡ Equal ↔ ((duration c ≡ duration d) × (frame_index c ≡ frame_index d))
 by_duration_ties c d = (λ e. (same_duration c d e, same_index c d e), λ h. tied c d h.0 h.1)
 
 module _ {F G : Type 0} (g : F → G) (before : G → G → Bool) where
-  map-place_at : (f x : F) (xs : List F) (b : Bool) → map g (place (λ y z. before (g y) (g z)) f xs) ≡ place before (g f) (map g xs)
-      → map g (cond b (f ∷ (x ∷ xs)) (x ∷ place (λ y z. before (g y) (g z)) f xs)) ≡ cond b (g f ∷ (g x ∷ map g xs)) (g x ∷ place before (g f) (map g xs))
+  map-place_at : (f x : F) (xs : List F) (b : Bool)
+      → map g (place (λ y z. before (g y) (g z)) f xs) ≡ place before (g f) (map g xs)
+      → map g (cond b (f ∷ (x ∷ xs)) (x ∷ place (λ y z. before (g y) (g z)) f xs))
+      ≡ cond b (g f ∷ (g x ∷ map g xs)) (g x ∷ place before (g f) (map g xs))
   map-place_at f x xs true ih = refl
   map-place_at f x xs false ih = ap (λ ys. g x ∷ ys) ih
 

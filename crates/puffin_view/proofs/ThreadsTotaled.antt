@@ -24,12 +24,16 @@ same_option None = refl
 same_option (Some x) = refl
 
 -- what a map of threads has under a thread
-pub got : {X : Type 0} (es : List (ThreadInfo × X)) (thread : ThreadInfo) (o : Option X) → o ≡ lookup (is_at (thread_cmp thread)) es → tree.get (by_key es) (key_of thread) ≡ o
+pub got : {X : Type 0} (es : List (ThreadInfo × X)) (thread : ThreadInfo) (o : Option X)
+    → o ≡ lookup (is_at (thread_cmp thread)) es → tree.get (by_key es) (key_of thread) ≡ o
 got es thread o is = get-seen key_of (λ x. x) key_cmp key_cmp_total es (key_of thread) ∙ same_option _ ∙ sym is
 
 -- one stream more
-pub stream_added : (old new : List (ThreadInfo × ThreadTotals)) (copy thread : ThreadInfo) (before after : ThreadTotals) (r : StreamFacts) → new ≡ insert_entry thread_cmp old copy after → key_of copy ≡ key_of thread
-    → before ≡ unwrap_or (tree.get (by_key old) (key_of thread)) no_totals → after ≡ totals_with before r → by_key new ≡ with_stream (by_key old) (key_of thread, r)
+pub stream_added : (old new : List (ThreadInfo × ThreadTotals)) (copy thread : ThreadInfo)
+    (before after : ThreadTotals) (r : StreamFacts) → new ≡ insert_entry thread_cmp old copy after
+    → key_of copy ≡ key_of thread
+    → before ≡ unwrap_or (tree.get (by_key old) (key_of thread)) no_totals → after ≡ totals_with before r
+    → by_key new ≡ with_stream (by_key old) (key_of thread, r)
 stream_added old new copy thread before after r is same had with =
     ap by_key is ∙ by_key-insert old copy after ∙ (λ i. tree.insert (by_key old) (same i) (with i))
     ∙ ap (λ (t : ThreadTotals). tree.insert (by_key old) (key_of thread) (totals_with t r)) had
@@ -40,21 +44,30 @@ pub record Added (old : Totals) (all left : List Held) (new : Totals) : Type 0 w
   pub whole : all ≡ before ++ left
   pub totals : new ≡ fold with_stream old (map entry_of before)
 
-pub one_added : (old mid new : Totals) (all left rest : List Held) (e : Held) → left ≡ e ∷ rest → new ≡ with_stream mid (entry_of e) → Added old all left mid → Added old all rest new
+-- one more stream was added
+pub one_added : (old mid new : Totals) (all left rest : List Held) (e : Held) → left ≡ e ∷ rest
+    → new ≡ with_stream mid (entry_of e) → Added old all left mid → Added old all rest new
 one_added old mid new all left rest e is step added = record {
   before = added.before ++ e ∷ [];
   whole = added.whole ∙ ap (λ (es : List Held). added.before ++ es) is ∙ sym (append_assoc added.before (e ∷ []) rest);
   totals = step
       ∙ ap (λ (m : Totals). with_stream m (entry_of e)) added.totals
-      ∙ sym (ap (fold with_stream old) (map-append entry_of added.before (e ∷ [])) ∙ fold_push with_stream old (map entry_of added.before) (entry_of e));
+      ∙ sym (ap (fold with_stream old) (map-append entry_of added.before (e ∷ []))
+      ∙ fold_push with_stream old (map entry_of added.before) (entry_of e));
 }
 
-pub all_added : (old new : Totals) (all left : List Held) → left ≡ [] → Added old all left new → IsStrictlySortedBy thread_cmp (keys_of all) → new ≡ fold with_stream old (tree.entries (shared_streams all))
+-- all streams of the frame were added
+pub all_added : (old new : Totals) (all left : List Held) → left ≡ [] → Added old all left new
+    → IsStrictlySortedBy thread_cmp (keys_of all) → new ≡ fold with_stream old (tree.entries (shared_streams all))
 all_added old new all left none added sorted =
-    let whole : all ≡ added.before = added.whole ∙ ap (λ (es : List Held). added.before ++ es) none ∙ append-nil added.before in
-    added.totals ∙ ap (λ (es : List Held). fold with_stream old (map entry_of es)) (sym whole) ∙ ap (fold with_stream old) (sym (entries_held all sorted))
+    let whole : all ≡ added.before =
+    added.whole ∙ ap (λ (es : List Held). added.before ++ es) none ∙ append-nil added.before in
+    added.totals ∙ ap (λ (es : List Held). fold with_stream old (map entry_of es)) (sym whole)
+    ∙ ap (fold with_stream old) (sym (entries_held all sorted))
 
-pub some_added : (old new : Totals) (all left : List Held) → Added old all left new → IsStrictlySortedBy thread_cmp (keys_of all) → HasSome old (shared_streams all) new
+-- the streams so far were added, and the others not
+pub some_added : (old new : Totals) (all left : List Held) → Added old all left new
+    → IsStrictlySortedBy thread_cmp (keys_of all) → HasSome old (shared_streams all) new
 some_added old new all left added sorted = (
   map entry_of added.before,
   map entry_of left,

@@ -19,20 +19,25 @@ no_totals = record {
 
 -- with the thread's stream of one more frame
 abbrev pub totals_with : ThreadTotals → StreamFacts → ThreadTotals
-totals_with t r = record {
-  frames = cut (t.frames + 1);
-  scopes = cut (t.scopes + r.num_scopes);
-  bytes = cut (t.bytes + length r.bytes);
-  range_ns = (int_min t.range_ns.0 r.range_ns.0, int_max t.range_ns.1 r.range_ns.1);
+totals_with totals stream = record {
+  frames = cut (totals.frames + 1);
+  scopes = cut (totals.scopes + stream.num_scopes);
+  bytes = cut (totals.bytes + length stream.bytes);
+  range_ns = (
+    int_min totals.range_ns.0 stream.range_ns.0,
+    int_max totals.range_ns.1 stream.range_ns.1,
+  );
 }
 
 -- the totals of each thread
 abbrev pub Totals : Type 0
 Totals = map.FinMap key_cmp ThreadTotals
 
+-- with one stream of one more frame, given with its thread's key
 abbrev pub with_stream : Totals → ThreadKey × StreamFacts → Totals
-with_stream totals e =
-    map.insert totals e.0 (totals_with (unwrap_or (map.get totals e.0) no_totals) e.1)
+with_stream totals entry =
+    map.insert totals entry.0 (
+    totals_with (unwrap_or (map.get totals entry.0) no_totals) entry.1)
 
 -- with all streams of one more frame
 abbrev pub with_frame : Totals → Streams → Totals
@@ -45,5 +50,6 @@ HasSome old streams new =
     × (map.entries streams ≡ some ++ others)
     × (new ≡ fold with_stream old some)
 
+-- the totals of these frames
 abbrev pub totals_of : List Streams → Totals
 totals_of frames = fold with_frame map.empty frames

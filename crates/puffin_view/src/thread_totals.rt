@@ -41,7 +41,7 @@ impl ThreadTotals {
         }
     }
 
-    /// Adds the stream of one more frame.
+    /// Returns the totals with the stream of one more frame.
     fn with(self, info: &StreamInfo) -> ThreadTotals
         ensures { result ≡ totals_with self (facts_of info.now) }
     {
@@ -104,8 +104,8 @@ impl AllTotals {
         Ok(())
     }
 
-    /// Adds the streams of one more frame to the totals of their threads, thread after thread. A frame that is added twice counts
-    /// twice.
+    /// Adds the streams of one more frame to the totals of their threads, thread after thread. A frame that is added twice
+    /// counts twice.
     ///
     /// Fails only with `Memory`. Then the streams of the frame's first threads are added, and those of the others aren't.
     pub fn add(&mut self, frame: &UnpackedFrameData) -> Result<()>

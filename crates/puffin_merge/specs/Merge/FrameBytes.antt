@@ -20,6 +20,7 @@ pub record FrameBytes : Type 0 where
 abbrev pub no_stream : StreamBytes
 no_stream = record { form = Short; bytes = [] }
 
+-- the frame's stream, or no bytes if it has none
 abbrev pub stream_of : FrameBytes → StreamBytes
 stream_of frame = unwrap_or frame.stream no_stream
 
@@ -29,6 +30,7 @@ form_of frame = (stream_of frame).form
 abbrev pub bytes_of : FrameBytes → List ℕ
 bytes_of frame = (stream_of frame).bytes
 
+-- the start of the first frame's range; 0 if there are no frames
 abbrev pub start_of : List FrameBytes → ℤ
 start_of [] = pos 0
 start_of (frame ∷ frames) = frame.start
@@ -39,7 +41,7 @@ pub record HasScopes (frame : FrameBytes) (scopes : FrameScopes) : Type 0 where
   pub spells : Spells (form_of frame) (bytes_of frame) scopes.forest
   pub short : length (bytes_of frame) < 2 ^ 63
 
--- the same for each frame
+-- each frame has the scopes at its place in the other list
 abbrev pub HaveScopes : List FrameBytes → List FrameScopes → Type 0
 HaveScopes [] [] = Unit {0}
 HaveScopes [] (scopes ∷ more) = ⊥
@@ -53,5 +55,6 @@ most_tries_of frame = elim (frame.stream) as (λ _. ℕ) [
   | Some stream ↦ most_tries_in stream.bytes
 ]
 
+-- the most tries of the walks over all frames
 abbrev pub most_tries : List FrameBytes → ℕ
 most_tries frames = sum_by most_tries_of frames

@@ -11,25 +11,26 @@ use Rattle.puffin_merge.specs.inner.Tables.{IsTableOf}
 
 -- the info of the thread whose scopes are merged, as the merger borrows it
 abbrev pub lent_info : Merger → Bor ThreadInfo
-lent_info m = m.info
+lent_info merger = merger.info
 
 -- the key of that thread
 abbrev pub merged_info : Merger → ThreadKey
-merged_info m = key_of (lent_info m).now
+merged_info merger = key_of (lent_info merger).now
 
 -- These frames were added, in order; their scopes were accepted and are in the table.
-pub record HasAdded (added : List FrameBytes) (m : Merger) : Type 0 where
+pub record HasAdded (added : List FrameBytes) (merger : Merger) : Type 0 where
   pub scopes : List FrameScopes
   pub have : HaveScopes added scopes
   pub accepted : AreAccepted [] (occurrences scopes)
-  pub table : IsTableOf (occurrences scopes) m.merging.table
-  pub number : m.frames ≡ length added
-  pub first : 0 < length added → m.first ≡ start_of added
+  pub table : IsTableOf (occurrences scopes) merger.merging.table
+  pub number : merger.frames ≡ length added
+  pub first : 0 < length added → merger.first ≡ start_of added
 
--- one try for each scope
-abbrev pub tries_for : {added : List FrameBytes} → {m : Merger} → HasAdded added m → ℕ
-tries_for h = length (occurrences h.scopes)
+-- one try for each scope of the added frames
+abbrev pub tries_for : {added : List FrameBytes} → {merger : Merger} → HasAdded added merger → ℕ
+tries_for has_added = length (occurrences has_added.scopes)
 
--- some frames were added, and the count of one more fits
+-- some frames were added, and the count of one more fits `usize`
 abbrev pub CanAdd : Merger → Type 0
-CanAdd m = ((added : List FrameBytes) × HasAdded added m) × (m.frames < 2 ^ 64 - 1)
+CanAdd merger =
+    ((added : List FrameBytes) × HasAdded added merger) × (merger.frames < 2 ^ 64 - 1)

@@ -14,18 +14,22 @@ pub record Label : Type 0 where
 
 -- by id, then by the text's bytes
 abbrev pub label_cmp : Label → Label → Ordering
-label_cmp = then_cmp (on (λ l. l.id) nat_cmp) (on (λ l. l.text) (slice_cmp nat_cmp))
+label_cmp =
+    then_cmp (on (λ label. label.id) nat_cmp) (on (λ label. label.text) (slice_cmp nat_cmp))
 
 -- the labels from the top level down to a scope, its own last
 abbrev pub Path : Type 0
 Path = List Label
 
+-- whether two paths are the same
 abbrev pub is_path : Path → Path → Bool
 is_path = eq_by_cmp (slice_cmp label_cmp)
 
+-- a scope's label, with the longest prefix of its text's bytes that is UTF-8
 abbrev pub label_of : Span → Label
-label_of s = record { id = s.id; text = text_in s.text }
+label_of span = record { id = span.id; text = text_in span.text }
 
+-- the path of the innermost of these scopes, each within the one before
 abbrev pub path_of : List Span → Path
 path_of spans = map label_of spans
 
@@ -39,7 +43,7 @@ pub record Occurrence : Type 0 where
 -- the start of the innermost of these scopes, or the origin if there are none
 abbrev pub origin_in : ℤ → List Span → ℤ
 origin_in origin [] = origin
-origin_in origin (s ∷ around) = origin_in s.start around
+origin_in origin (span ∷ around) = origin_in span.start around
 
 -- the occurrence of a scope of a forest; starts of top-level scopes are measured from the origin
 abbrev pub occurrence_of : ℤ → ScopeInContext → Occurrence
@@ -49,6 +53,7 @@ occurrence_of origin scope = record {
   duration = nat_abs (scope.span.stop -ℤ scope.span.start);
 }
 
+-- the occurrences of these scopes, with the same origin
 abbrev pub occurrences_in : ℤ → List ScopeInContext → List Occurrence
 occurrences_in origin scopes = map (occurrence_of origin) scopes
 
@@ -61,9 +66,11 @@ pub record FrameScopes : Type 0 where
 abbrev pub occurrences_of : ℤ → FrameScopes → List Occurrence
 occurrences_of first frame = occurrences_in (frame.start -ℤ first) (nested_in [] frame.forest)
 
+-- all scopes of these frames, where the first frame's range starts at this time
 abbrev pub occurrences_from : ℤ → List FrameScopes → List Occurrence
 occurrences_from first frames = flat_map (occurrences_of first) frames
 
+-- the start of the first frame's range; 0 if there are no frames
 abbrev pub first_start : List FrameScopes → ℤ
 first_start [] = pos 0
 first_start (frame ∷ frames) = frame.start

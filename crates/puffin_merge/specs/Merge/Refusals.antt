@@ -18,27 +18,29 @@ greatest_depth = 1024
 
 -- a scope that isn't nested more deeply
 abbrev pub IsShallow : Occurrence → Type 0
-IsShallow o = length o.path ≤ greatest_depth
+IsShallow next = length next.path ≤ greatest_depth
 
--- with one more occurrence, the number of its path fits usize, and the total fits i64
-pub record SumsFit (done : List Occurrence) (o : Occurrence) : Type 0 where
-  pub number : (merged_at (done ++ (o ∷ [])) o.path).number < 2 ^ 64
-  pub total : (merged_at (done ++ (o ∷ [])) o.path).total < 2 ^ 63
+-- After these occurrences and the next one, the number of the next one's path fits `usize`, and the total fits `i64`.
+pub record SumsFit (done : List Occurrence) (next : Occurrence) : Type 0 where
+  pub number : (merged_at (done ++ (next ∷ [])) next.path).number < 2 ^ 64
+  pub total : (merged_at (done ++ (next ∷ [])) next.path).total < 2 ^ 63
 
--- the same, and its own start fits an i64
-pub record Fits (done : List Occurrence) (o : Occurrence) : Type 0 where
-  pub own_start : FitsSigned w64 o.own_start
-  pub sums : SumsFit done o
+-- the same, and the next one's own start fits `i64`
+pub record Fits (done : List Occurrence) (next : Occurrence) : Type 0 where
+  pub own_start : FitsSigned w64 next.own_start
+  pub sums : SumsFit done next
 
--- one more occurrence is refused: it is nested too deeply, or its start or its sums don't fit
+-- The next occurrence is refused with this error: it is nested too deeply, or its start or its sums don't fit.
 abbrev pub IsRefusedFor : List Occurrence → Occurrence → Error → Type 0
-IsRefusedFor done o e =
-    ((length o.path ≡ greatest_depth + 1) × (e ≡ TooDeep)) ⊎ (IsShallow o × (Fits done o → ⊥) × (e ≡ TooLarge))
+IsRefusedFor done next cause =
+    ((length next.path ≡ greatest_depth + 1) × (cause ≡ TooDeep))
+    ⊎ (IsShallow next × (Fits done next → ⊥) × (cause ≡ TooLarge))
 
 -- each of these is accepted in turn, after those that were accepted before
 abbrev pub AreAccepted : List Occurrence → List Occurrence → Type 0
 AreAccepted done [] = Unit {0}
-AreAccepted done (o ∷ more) = IsShallow o × Fits done o × AreAccepted (done ++ (o ∷ [])) more
+AreAccepted done (next ∷ more) =
+    IsShallow next × Fits done next × AreAccepted (done ++ (next ∷ [])) more
 
 -- The refusal of a frame whose stream has this form, after this many tries, and after the occurrences `done` of the frames
 -- before. Starts of its top-level scopes are measured from `origin`.
@@ -58,21 +60,22 @@ pub data IsFrameRefusal (done : List Occurrence) (origin : ℤ) (form : Form) (b
       AreAccepted done (occurrences_in origin (scopes_of earlier)) →
       IsRefusedFor (done ++ occurrences_in origin (scopes_of earlier))
       (occurrence_of origin s.scope) refusal →
-      ((p e : ℕ) (fault : Error) → Reaches form bytes 0 (length bytes) p e →
-      IsFaultAt form bytes p e fault →
-      s.place ≤ p) →
+      ((place end : ℕ) (fault : Error) → Reaches form bytes 0 (length bytes) place end →
+      IsFaultAt form bytes place end fault →
+      s.place ≤ place) →
       IsFrameRefusal done origin form bytes (length earlier + 1) refusal
 
--- the end of each node fits
+-- the end of each node, which is its start plus its duration per frame, fits `i64`
 abbrev pub EndsFit : MergedForest → Type 0
 EndsFit no_node = Unit {0}
-EndsFit (merged n children others) =
-    FitsSigned w64 (n.start +ℤ n.per_frame) × EndsFit children × EndsFit others
+EndsFit (merged node children others) =
+    FitsSigned w64 (node.start +ℤ node.per_frame) × EndsFit children × EndsFit others
 
 -- The refusal of a merge after this many tries. It is that of the first refused frame, after one try for each scope of the
 -- frames before it and the tries of the frame itself. If no frame is refused, it is that of an end that doesn't fit, after one
 -- try for each scope.
 pub data IsRefusalAfter (frames : List FrameBytes) : ℕ → Error → Type 0 where
+  -- `earlier` are the accepted frames before the refused one
   in_frame : (earlier later : List FrameBytes) (frame : FrameBytes) (scopes : List FrameScopes)
       {tries : ℕ} {refusal : Error} →
       frames ≡ earlier ++ (frame ∷ later) → HaveScopes earlier scopes →
@@ -88,7 +91,7 @@ pub data IsRefusalAfter (frames : List FrameBytes) : ℕ → Error → Type 0 wh
 abbrev pub IsMergeRefusal : List FrameBytes → Error → Type 0
 IsMergeRefusal frames refusal = (tries : ℕ) × IsRefusalAfter frames tries refusal
 
--- The frames are merged: each stream spells scopes, and the forest is their merge.
+-- The frames are merged: each stream spells scopes, which are accepted, and the forest is their merge, whose ends fit.
 pub record AreMerged (frames : List FrameBytes) (f : MergedForest) : Type 0 where
   pub scopes : List FrameScopes
   pub have : HaveScopes frames scopes

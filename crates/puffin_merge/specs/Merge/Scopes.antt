@@ -14,7 +14,7 @@ use Rattle.puffin_merge.specs.Merge.FrameBytes.{StreamBytes, FrameBytes}
 use Rattle.puffin_merge.specs.Merge.Tree.{MergedForest, no_node, merged}
 
 abbrev pub stream_in : StreamFacts → StreamBytes
-stream_in r = record { form = r.form; bytes = r.bytes }
+stream_in facts = record { form = facts.form; bytes = facts.bytes }
 
 -- the start of a frame's range, and its stream for a thread
 abbrev pub frame_bytes : ThreadKey → UnpackedFrameData → FrameBytes
@@ -23,10 +23,11 @@ frame_bytes info frame = record {
   stream = option_map stream_in (tree.get (streams_held frame) info);
 }
 
+-- the same of each frame
 abbrev pub frames_bytes : ThreadKey → List (Arc UnpackedFrameData Global) → List FrameBytes
 frames_bytes info frames = map (λ held. frame_bytes info (arc_value held)) frames
 
--- merged scopes as a forest
+-- a merged scope and its siblings after it, as a forest
 abbrev mutual
   pub scope_then : MergeScope → MergedForest → MergedForest
   scope_then (MergeScope' start total per_frame greatest pieces id text shape children) others =
@@ -41,10 +42,11 @@ abbrev mutual
       })
       (children_in children) others
 
-  pub children_in : {m : _} → Row_of-MergeScope m → MergedForest
+  pub children_in : {size : _} → Row_of-MergeScope size → MergedForest
   children_in end_of-MergeScope = no_node
   children_in (more_of-MergeScope scope rest) = scope_then scope (children_in rest)
 
+-- merged scopes as a forest
 abbrev pub forest_in : List MergeScope → MergedForest
 forest_in [] = no_node
 forest_in (scope ∷ scopes) = scope_then scope (forest_in scopes)

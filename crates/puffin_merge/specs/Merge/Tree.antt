@@ -2,7 +2,8 @@
 use Rattle.std.specs.Prelude.{ℕ, ℤ, List, [], ◌∷◌}
 use Rattle.puffin_merge.specs.Merge.Occurrences.{Label}
 
--- one merged scope without its children
+-- one merged scope without its children: its label, its start, its pieces' total duration, that divided by the number of
+-- frames, the duration of its longest piece, and the number of its pieces
 pub record Node : Type 0 where
   pub label : Label
   pub start : ℤ
@@ -19,4 +20,4 @@ pub data MergedForest : Type 0 where
 -- the nodes of the top level
 abbrev pub row : MergedForest → List Node
 row no_node = []
-row (merged n children others) = n ∷ row others
+row (merged first children others) = first ∷ row others

@@ -9,48 +9,59 @@ use Rattle.puffin_merge.specs.declared.merge.table.Node.{Node}
 use Rattle.puffin_merge.specs.declared.merge.tree.OrderedNode.{OrderedNode}
 use Rattle.puffin_merge.specs.declared.merge.tree.Placement.{Placement}
 use Rattle.puffin_merge.specs.declared.merge.table.PieceTotals.{PieceTotals}
+use Rattle.puffin_merge.specs.Merge.Occurrences.{Label}
 use Rattle.puffin_merge.specs.Merge.Starts.{earliest_start}
 use Rattle.puffin_merge.specs.Merge.Tree as forests
 
--- the ordered node made from the node at k
-pub record IsOrderedNodeAt (nodes : List Node) (k : ℕ) (p : OrderedNode) : Type 0 where
-  pub number : p.number.number ≡ k + 1
-  pub parent : (d : Node) → p.parent.number ≡ (slice_index_or nodes k d).key.parent.number
-  pub own_start : (d : Node) → p.own_start ≡ (slice_index_or nodes k d).sums.own_start
-  pub id : (d : Node) → p.id ≡ (slice_index_or nodes k d).key.id
-  pub text : (d : Node) → p.text.now ≡ string_bytes (slice_index_or nodes k d).key.text
+-- the ordered node made from the node at place k
+pub record IsOrderedNodeAt (nodes : List Node) (k : ℕ) (ordered : OrderedNode) : Type 0 where
+  pub number : ordered.number.number ≡ k + 1
+  pub parent : (default : Node) →
+      ordered.parent.number ≡ (slice_index_or nodes k default).key.parent.number
+  pub own_start : (default : Node) →
+      ordered.own_start ≡ (slice_index_or nodes k default).sums.own_start
+  pub id : (default : Node) → ordered.id ≡ (slice_index_or nodes k default).key.id
+  pub text : (default : Node) →
+      ordered.text.now ≡ string_bytes (slice_index_or nodes k default).key.text
 
+-- an ordered node made from one of the nodes
 abbrev pub IsOrderedNodeOf : List Node → OrderedNode → Type 0
-IsOrderedNodeOf nodes p = (k : ℕ) × (k < length nodes) × IsOrderedNodeAt nodes k p
+IsOrderedNodeOf nodes ordered = (k : ℕ) × (k < length nodes) × IsOrderedNodeAt nodes k ordered
+
+abbrev pub node_label : OrderedNode → Label
+node_label ordered = record { id = ordered.id; text = ordered.text.now }
 
 -- the property holds for some element, by recursion
 abbrev pub SomeOf : {A : Type 0} → (A → Type 0) → List A → Type 0
 SomeOf P [] = ⊥
-SomeOf P (x ∷ xs) = P x ⊎ SomeOf P xs
+SomeOf P (first ∷ others) = P first ⊎ SomeOf P others
 
 -- the property holds for each element, by recursion
 abbrev pub EachOf : {A : Type 0} → (A → Type 0) → List A → Type 0
 EachOf P [] = Unit {0}
-EachOf P (x ∷ xs) = P x × EachOf P xs
+EachOf P (first ∷ others) = P first × EachOf P others
 
 -- no two ordered nodes have the same number
 abbrev pub AreApart : List OrderedNode → Type 0
 AreApart [] = Unit {0}
-AreApart (p ∷ ps) = EachOf (λ q. p.number.number ≡ q.number.number → ⊥) ps × AreApart ps
+AreApart (first ∷ others) =
+    EachOf (λ other. first.number.number ≡ other.number.number → ⊥) others × AreApart others
 
 -- by parent's number, then as siblings, and then by number
 abbrev pub ordered_node_cmp : OrderedNode → OrderedNode → Ordering
 ordered_node_cmp =
-    then_cmp (on (λ p. p.parent.number) nat_cmp) (
-    then_cmp (on (λ p. p.own_start) int_cmp) (
-    then_cmp (on (λ p. p.id) nat_cmp) (
-    then_cmp (on (λ p. p.text.now) (slice_cmp nat_cmp)) (
-    on (λ p. p.number.number) nat_cmp))))
+    then_cmp (on (λ node. node.parent.number) nat_cmp) (
+    then_cmp (on (λ node. node.own_start) int_cmp) (
+    then_cmp (on (λ node. node.id) nat_cmp) (
+    then_cmp (on (λ node. node.text.now) (slice_cmp nat_cmp)) (
+    on (λ node. node.number.number) nat_cmp))))
 
+-- one ordered node for each of the nodes, sorted
 pub record AreOrderedNodesOf (nodes : List Node) (ordered_nodes : List OrderedNode) : Type 0 where
   pub size : length ordered_nodes ≡ length nodes
   pub each : All (IsOrderedNodeOf nodes) ordered_nodes
-  pub whole : (k : ℕ) → k < length nodes → SomeOf (λ p. p.number.number ≡ k + 1) ordered_nodes
+  pub whole : (k : ℕ) → k < length nodes →
+      SomeOf (λ ordered. ordered.number.number ≡ k + 1) ordered_nodes
   pub apart : AreApart ordered_nodes
   pub sorted : IsSorted ordered_node_cmp ordered_nodes
 
@@ -58,29 +69,34 @@ pub record AreOrderedNodesOf (nodes : List Node) (ordered_nodes : List OrderedNo
 abbrev pub above_all : Placement
 above_all = record { parent = 0; start = pos 0; end = pos 0 }
 
--- the next node, placed as early as possible: after its sibling's end, or from 0 if the node before it isn't a sibling
+-- The place of the next node, with these sums, after that of the node before it. It starts as early as possible: not before the
+-- end of the node before it, if that is a sibling, and not before 0.
 abbrev pub placement_after : ℕ → PieceTotals → OrderedNode → Placement → Placement
-placement_after frames sums p before =
+placement_after frames sums next before =
     let start = earliest_start
-    (if p.parent.number == before.parent then before.end else pos 0)
-    (record { own_start = p.own_start; duration = sums.total / frames }) in
-    record { parent = p.parent.number; start = start; end = start +ℤ pos (sums.total / frames) }
+    (if next.parent.number == before.parent then before.end else pos 0)
+    (record { own_start = next.own_start; duration = sums.total / frames }) in
+    record { parent = next.parent.number; start = start; end = start +ℤ pos (sums.total / frames) }
 
+-- the same, with the sums of the node that the ordered node was made from
+abbrev pub next_placement : List Node → ℕ → Placement → OrderedNode → Node → Placement
+next_placement nodes frames before next default =
+    placement_after frames (slice_index_or nodes (next.number.number - 1) default).sums next before
+
+-- the places of these ordered nodes, one after the other
 abbrev pub placements_from : List Node → ℕ → Placement → List OrderedNode → Node → List Placement
-placements_from nodes frames before [] d = []
-placements_from nodes frames before (p ∷ ps) d =
-    placement_after frames (slice_index_or nodes (p.number.number - 1) d).sums p before
-    ∷ placements_from nodes frames
-    (placement_after frames (slice_index_or nodes (p.number.number - 1) d).sums p before) ps
-    d
+placements_from nodes frames before [] default = []
+placements_from nodes frames before (next ∷ others) default =
+    let placement = next_placement nodes frames before next default in
+    placement ∷ placements_from nodes frames placement others default
 
 abbrev pub EndFits : Placement → Type 0
 EndFits placement = FitsSigned w64 placement.end
 
--- the merged node of an ordered node
+-- the merged node of an ordered node, with these sums, at this place
 abbrev pub placed_node : ℕ → PieceTotals → OrderedNode → Placement → forests.Node
-placed_node frames sums p placement = record {
-  label = record { id = p.id; text = p.text.now };
+placed_node frames sums ordered placement = record {
+  label = node_label ordered;
   start = placement.start;
   total = pos sums.total;
   per_frame = pos (sums.total / frames);

@@ -4,93 +4,107 @@ use Rattle.std.specs.Int.{int_min}
 use Rattle.puffin_merge.specs.declared.merge.table.Table.{Table}
 use Rattle.puffin_merge.specs.declared.merge.table.Node.{Node}
 use Rattle.puffin_merge.specs.declared.merge.table.Key.{Key}
-use Rattle.puffin_merge.specs.declared.merge.table.Asked.{Asked}
+use Rattle.puffin_merge.specs.declared.merge.table.KeyRef.{KeyRef}
 use Rattle.puffin_merge.specs.declared.merge.table.PieceTotals.{PieceTotals}
-use Rattle.puffin_merge.specs.inner.Found.{label_in}
+use Rattle.puffin_merge.specs.inner.Found.{key_label, ref_label}
 use Rattle.puffin_merge.specs.Merge.Occurrences.{Label, Path, Occurrence}
 use Rattle.puffin_merge.specs.Merge.Pieces.{Merged, merged_at}
 use Rattle.puffin_merge.specs.Merge.{below}
 use Rattle.puffin_merge.specs.Merge.Refusals.{SumsFit}
 
-abbrev pub asked_for : Asked → Label
-asked_for key = record { id = key.id; text = key.text.now }
-
-abbrev pub merged_in : PieceTotals → Merged
-merged_in sums = record {
+-- a node's sums, as those of a path
+abbrev pub merged_of_sums : PieceTotals → Merged
+merged_of_sums sums = record {
   number = sums.number;
   total = sums.total;
   greatest = sums.greatest;
   own_start = sums.own_start;
 }
 
--- The paths by node number: 0 has the empty path, and a node's path is its label below its parent's path.
+-- ---- paths
+
+-- one path more: that of a node with this key, whose parent's path is among these
 abbrev pub with_path : List Path → Key → List Path
 with_path paths key =
-    paths ++ (below (slice_index_or paths key.parent.number []) (label_in key) ∷ [])
+    paths ++ (below (slice_index_or paths key.parent.number []) (key_label key) ∷ [])
 
+-- The paths by node number: 0 has the empty path, and a node's path is its label below its parent's path.
 abbrev pub paths_of : List Key → List Path
 paths_of keys = fold with_path ([] ∷ []) keys
 
 abbrev pub keys_in : List Node → List Key
-keys_in nodes = map (λ n. n.key) nodes
+keys_in nodes = map (λ node. node.key) nodes
 
+-- the path of the node with this number
 abbrev pub path_at : List Node → ℕ → Path
 path_at nodes number = slice_index_or (paths_of (keys_in nodes)) number []
 
-abbrev pub made_node : Key → ℤ → ℕ → Node
-made_node key own_start duration = record {
+-- ---- a table of occurrences
+
+-- The node at place k, whose number is k + 1, has the sums of its path's occurrences.
+pub record IsNodeOf (all : List Occurrence) (nodes : List Node) (k : ℕ) (node : Node) : Type 0 where
+  pub id : 0 < node.key.id
+  -- a parent is before its children
+  pub earlier : node.key.parent.number ≤ k
+  pub path : path_at nodes (k + 1)
+      ≡ below (path_at nodes node.key.parent.number) (key_label node.key)
+  pub sums : merged_of_sums node.sums ≡ merged_at all (path_at nodes (k + 1))
+  pub some : 0 < node.sums.number
+  pub small : node.sums.total < 2 ^ 63
+  pub greatest : node.sums.greatest ≤ node.sums.total
+
+-- The table has one node for each path of these occurrences, with the path's sums, and no other nodes.
+pub record IsTableOf (all : List Occurrence) (t : Table) : Type 0 where
+  pub each : (k : ℕ) (default : Node) → k < vec_len t.nodes →
+      IsNodeOf all t.nodes.items k (slice_index_or t.nodes.items k default)
+  -- no two numbers have the same path
+  pub apart : (number other : ℕ) → number ≤ vec_len t.nodes → other ≤ vec_len t.nodes →
+      path_at t.nodes.items number ≡ path_at t.nodes.items other → number ≡ other
+  -- each occurrence has a node
+  pub whole : All (λ occurrence. (k : ℕ) × (k < vec_len t.nodes)
+      × (path_at t.nodes.items (k + 1) ≡ occurrence.path)) all
+
+-- ---- one piece more
+
+-- a node of one piece
+abbrev pub new_node : Key → ℤ → ℕ → Node
+new_node key own_start duration = record {
   key = key;
   sums = record { number = 1; total = duration; greatest = duration; own_start = own_start };
 }
 
-abbrev pub grown_node : Node → ℤ → ℕ → Node
-grown_node n own_start duration = record {
-  key = n.key;
+-- the node, with one more piece
+abbrev pub node_with_piece : Node → ℤ → ℕ → Node
+node_with_piece node own_start duration = record {
+  key = node.key;
   sums = record {
-    number = n.sums.number + 1;
-    total = n.sums.total + duration;
-    greatest = max n.sums.greatest duration;
-    own_start = int_min n.sums.own_start own_start;
+    number = node.sums.number + 1;
+    total = node.sums.total + duration;
+    greatest = max node.sums.greatest duration;
+    own_start = int_min node.sums.own_start own_start;
   };
 }
 
--- the sums of the node at k fit with one more piece
+-- the number and the total of the node at place k fit with one more piece of this duration
 abbrev pub FitsOneMore : List Node → ℕ → ℕ → Type 0
 FitsOneMore nodes k duration =
-    (d : Node) →
-    ((slice_index_or nodes k d).sums.number + 1 < 2 ^ 64)
-    × ((slice_index_or nodes k d).sums.total + duration < 2 ^ 63)
+    (default : Node) →
+    ((slice_index_or nodes k default).sums.number + 1 < 2 ^ 64)
+    × ((slice_index_or nodes k default).sums.total + duration < 2 ^ 63)
 
--- one piece was added to the node at k, whose sums fit, and nothing else changed
-abbrev pub GrowsAt : Table → ℕ → ℤ → ℕ → Table → Type 0
-GrowsAt t k own_start duration u =
-    (u.texts ≡ t.texts)
-    × (u.numbers ≡ t.numbers)
-    × ((d : Node) → u.nodes.items
-    ≡ slice_set t.nodes.items k (
-    grown_node (slice_index_or t.nodes.items k d) own_start duration))
-    × FitsOneMore t.nodes.items k duration
+-- one piece was added to the node at place k, whose sums fit, and nothing else changed
+abbrev pub AddsPieceAt : Table → ℕ → ℤ → ℕ → Table → Type 0
+AddsPieceAt before k own_start duration after =
+    (after.texts ≡ before.texts)
+    × (after.numbers ≡ before.numbers)
+    × ((default : Node) → after.nodes.items
+    ≡ slice_set before.nodes.items k (
+    node_with_piece (slice_index_or before.nodes.items k default) own_start duration))
+    × FitsOneMore before.nodes.items k duration
 
--- a node has the sums of its path
-pub record IsNodeOf (all : List Occurrence) (nodes : List Node) (k : ℕ) (n : Node) : Type 0 where
-  pub id : 0 < n.key.id
-  pub earlier : n.key.parent.number ≤ k
-  pub path : path_at nodes (k + 1) ≡ below (path_at nodes n.key.parent.number) (label_in n.key)
-  pub sums : merged_in n.sums ≡ merged_at all (path_at nodes (k + 1))
-  pub some : 0 < n.sums.number
-  pub small : n.sums.total < 2 ^ 63
-  pub greatest : n.sums.greatest ≤ n.sums.total
+-- ---- one occurrence more
 
--- the nodes of all occurrences
-pub record IsTableOf (all : List Occurrence) (t : Table) : Type 0 where
-  pub each : (k : ℕ) (d : Node) → k < vec_len t.nodes →
-      IsNodeOf all t.nodes.items k (slice_index_or t.nodes.items k d)
-  pub apart : (p q : ℕ) → p ≤ vec_len t.nodes → q ≤ vec_len t.nodes →
-      path_at t.nodes.items p ≡ path_at t.nodes.items q → p ≡ q
-  pub whole : All (λ o. (k : ℕ) × (k < vec_len t.nodes) × (path_at t.nodes.items (k + 1) ≡ o.path))
-      all
-
--- an occurrence with this label below a node
+-- an occurrence with this label directly below the node with this number
 abbrev pub occurrence_at : Table → ℕ → Label → ℤ → ℕ → Occurrence
 occurrence_at t parent label own_start duration = record {
   path = below (path_at t.nodes.items parent) label;
@@ -98,18 +112,22 @@ occurrence_at t parent label own_start duration = record {
   duration = duration;
 }
 
--- the nodes of a table keep their numbers and their paths
-pub record Extends (t u : Table) : Type 0 where
-  pub longer : vec_len t.nodes ≤ vec_len u.nodes
-  pub kept : (k : ℕ) → k ≤ vec_len t.nodes → path_at u.nodes.items k ≡ path_at t.nodes.items k
+-- an occurrence with this key
+abbrev pub occurrence_of_key : Table → KeyRef → ℤ → ℕ → Occurrence
+occurrence_of_key t key own_start duration =
+    occurrence_at t key.parent.number (ref_label key) own_start duration
 
--- one occurrence with this label below a node was added, to the node with this number
-pub record AddsAt (t : Table) (parent : ℕ) (label : Label) (own_start : ℤ) (duration at : ℕ)
-    (u : Table) : Type 0 where
-  pub number : at ≤ vec_len u.nodes
-  pub path : path_at u.nodes.items at ≡ below (path_at t.nodes.items parent) label
-  pub extends : Extends t u
-  pub fits : (all : List Occurrence) → IsTableOf all t →
-      SumsFit all (occurrence_at t parent label own_start duration)
-  pub table : (all : List Occurrence) → IsTableOf all t →
-      IsTableOf (all ++ (occurrence_at t parent label own_start duration ∷ [])) u
+-- the nodes of a table keep their numbers and their paths
+pub record Extends (before after : Table) : Type 0 where
+  pub longer : vec_len before.nodes ≤ vec_len after.nodes
+  pub kept : (number : ℕ) → number ≤ vec_len before.nodes →
+      path_at after.nodes.items number ≡ path_at before.nodes.items number
+
+-- The occurrence, whose sums fit, was added to the node with this number.
+pub record AddsAt (before : Table) (added : Occurrence) (at : ℕ) (after : Table) : Type 0 where
+  pub number : at ≤ vec_len after.nodes
+  pub path : path_at after.nodes.items at ≡ added.path
+  pub extends : Extends before after
+  pub fits : (all : List Occurrence) → IsTableOf all before → SumsFit all added
+  pub table : (all : List Occurrence) → IsTableOf all before →
+      IsTableOf (all ++ (added ∷ [])) after

@@ -30,20 +30,20 @@ pub fn earliest_starts()
 pub fn frames_in_any_order()
     ensures frames { (info : ThreadKey) (first : Arc UnpackedFrameData Global)
         (others again : List (Arc UnpackedFrameData Global)) → IsPermutation others again →
-        (f : MergedForest) → AreMerged (frames_bytes info (first ∷ others)) f
-        → AreMerged (frames_bytes info (first ∷ again)) f }
+        (forest : MergedForest) → AreMerged (frames_bytes info (first ∷ others)) forest
+        → AreMerged (frames_bytes info (first ∷ again)) forest }
     ensures scopes { (first : FrameScopes) (others again : List FrameScopes) →
-        IsPermutation others again → (frames : ℕ) (f : MergedForest) →
-        IsMerge (occurrences (first ∷ others)) frames f →
-        IsMerge (occurrences (first ∷ again)) frames f }
+        IsPermutation others again → (frames : ℕ) (forest : MergedForest) →
+        IsMerge (occurrences (first ∷ others)) frames forest →
+        IsMerge (occurrences (first ∷ again)) frames forest }
 {}
 
 /// Frames have at most one merge, and frames that have one have no refusal.
 pub fn one_outcome()
-    ensures merged { (frames : List FrameBytes) (f g : MergedForest) → AreMerged frames f →
-        AreMerged frames g → f ≡ g }
-    ensures refused { (frames : List FrameBytes) (f : MergedForest) (refusal : Error) →
-        AreMerged frames f → IsMergeRefusal frames refusal → ⊥ }
+    ensures merged { (frames : List FrameBytes) (forest other : MergedForest) →
+        AreMerged frames forest → AreMerged frames other → forest ≡ other }
+    ensures refused { (frames : List FrameBytes) (forest : MergedForest) (refusal : Error) →
+        AreMerged frames forest → IsMergeRefusal frames refusal → ⊥ }
 {
     // This law follows from these laws of spellings and walks.
     puffin_data::laws::one_forest();
@@ -53,15 +53,15 @@ pub fn one_outcome()
 
 /// If a merged scope in a list is replaced by one that contracts see as the same, contracts see the list as the same too.
 pub fn same_scopes()
-    ensures { (before after : List MergeScope) (s t : MergeScope) →
-        forest_in (s ∷ []) ≡ forest_in (t ∷ []) →
-        forest_in (before ++ (s ∷ after)) ≡ forest_in (before ++ (t ∷ after)) }
+    ensures { (before after : List MergeScope) (scope other : MergeScope) →
+        forest_in (scope ∷ []) ≡ forest_in (other ∷ []) →
+        forest_in (before ++ (scope ∷ after)) ≡ forest_in (before ++ (other ∷ after)) }
 {}
 
 /// Merged scopes are equal exactly when contracts see them as the same, with all their children. Whether their texts are
 /// borrowed or owned makes no difference.
 pub fn equal_scopes<'s>()
-    ensures { (s t : MergeScope) →
-        IsTrue (⟦<MergeScope<'s> as PartialEq>⟧.eq s t)
-        ↔ (forest_in (s ∷ []) ≡ forest_in (t ∷ [])) }
+    ensures { (scope other : MergeScope) →
+        IsTrue (⟦<MergeScope<'s> as PartialEq>⟧.eq scope other)
+        ↔ (forest_in (scope ∷ []) ≡ forest_in (other ∷ [])) }
 {}

@@ -32,6 +32,7 @@ pub struct Merger<'i> {
     alloc: Global,
     info: &'i ThreadInfo,
     merging: Merging,
+    /// The start of the first frame's range; 0 before a frame is added.
     first: NanoSecond,
     frames: usize,
 }
@@ -82,18 +83,18 @@ impl<'i> Merger<'i> {
         ensures info { lent_info self.new ≡ lent_info self.old }
         ensures added { OnOk result ((added : List FrameBytes) →
             (before : HasAdded added self.old) →
-            (h : HasAdded (added ++ (frame_bytes (merged_info self.old) frame.now ∷ []))
+            (after : HasAdded (added ++ (frame_bytes (merged_info self.old) frame.now ∷ []))
             self.new)
-            × (tries_for h ≡ tries_for before + tries.new)) }
+            × (tries_for after ≡ tries_for before + tries.new)) }
         ensures refused { IfErr result (λ e. (added later : List FrameBytes) →
-            (h : HasAdded added self.old) →
+            (before : HasAdded added self.old) →
             (e ≡ Error.Memory) ⊎ IsRefusalAfter
             (added ++ (frame_bytes (merged_info self.old) frame.now ∷ later))
-            (tries_for h + tries.new) e) }
+            (tries_for before + tries.new) e) }
         ensures few { tries.new
             ≤ most_tries_of (frame_bytes (merged_info self.old) frame.now) }
     {
-        let first = self.first_with(frame);
+        let first = self.start_of_first(frame);
         read_frame(
             self.alloc,
             &mut self.merging,
@@ -107,8 +108,8 @@ impl<'i> Merger<'i> {
         Ok(())
     }
 
-    /// Returns the start of the first frame's range, if this frame is added next.
-    fn first_with(&self, frame: &UnpackedFrameData) -> NanoSecond
+    /// Returns the start of the first frame's range: that of `frame` if no frame was added before it.
+    fn start_of_first(&self, frame: &UnpackedFrameData) -> NanoSecond
         ensures none { self.now.frames ≡ 0 → result ≡ frame.now.meta.range_ns.0 }
         ensures some { 0 < self.now.frames → result ≡ self.now.first }
     {
@@ -127,12 +128,12 @@ impl<'i> Merger<'i> {
     pub fn finish<'s>(self) -> Result<Vec<MergeScope<'s>>>
         requires { (added : List FrameBytes) × HasAdded added self }
         ensures merged { IfOk result (λ merged. (added : List FrameBytes) →
-            (h : HasAdded added self.entry) →
-            (m : AreMerged added (forest_in merged.items))
-            × (tries_for h ≡ length (occurrences m.scopes))) }
+            (before : HasAdded added self.entry) →
+            (merge : AreMerged added (forest_in merged.items))
+            × (tries_for before ≡ length (occurrences merge.scopes))) }
         ensures refused { IfErr result (λ e. (added : List FrameBytes) →
-            (h : HasAdded added self.entry) →
-            (e ≡ Error.Memory) ⊎ IsRefusalAfter added (tries_for h) e) }
+            (before : HasAdded added self.entry) →
+            (e ≡ Error.Memory) ⊎ IsRefusalAfter added (tries_for before) e) }
     {
         if self.frames == 0 {
             return Ok(Vec::new(self.alloc));

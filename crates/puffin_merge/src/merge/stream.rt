@@ -1,4 +1,4 @@
-//! Adds the scopes of a stream to the table.
+//! Adds the scopes of a stream to the table, as a visitor of the stream's walk.
 
 ghost use Rattle.std.specs.Prelude.{◌≡◌, ◌<◌, ◌≤◌, ◌^◌, ◌⊎◌, ◌-ℤ◌, List, [], length, if◌then◌else◌, Ok, Err, IfOk, IfErr};
 ghost use Rattle.puffin_data.specs.Walk.Visitor.{TakesAll, StopsEarly};
@@ -10,19 +10,19 @@ ghost use Rattle.puffin_merge.specs.inner.Merging.{TakesScopes, RefusesScope};
 ghost use Rattle.puffin_merge.specs.inner.Tables.{IsTableOf};
 ghost use Rattle.puffin_merge.specs.inner.Origins.{IsOrigin, fits_i64};
 
-use crate::merge::table::{Asked, NodeNumber, Table};
+use crate::merge::table::{KeyRef, NodeNumber, Table};
 use puffin_data::data::{RawScope, Visitor, text_of, walk_with};
 use puffin_data::{Error, NanoSecond, Result};
 use puffin_frames::frame_data::UnpackedFrameData;
 use puffin_threads::thread_profiler::ThreadInfo;
 use std::alloc::Global;
 
-/// The greatest nesting depth.
+/// The greatest nesting depth that is merged.
 const GREATEST_DEPTH: usize = 1024;
 
 /// What the walk keeps for an open scope.
 #[derive(Clone, Copy, Debug)]
-pub(crate) struct Open {
+pub(crate) struct OpenScope {
     /// The scope's node.
     pub node: NodeNumber,
     /// The scope's nesting depth; 1 for a top-level scope.
@@ -31,12 +31,12 @@ pub(crate) struct Open {
     pub origin: i128,
 }
 
-impl Open {
-    /// Makes the parent of the top-level scopes, which isn't itself a scope.
-    pub(crate) fn outside(origin: i128) -> Open
+impl OpenScope {
+    /// Makes what the walk keeps outside all scopes: the root as their parent, at depth 0.
+    pub(crate) fn outside(origin: i128) -> OpenScope
         ensures { result ≡ record { node = record { number = 0 }; depth = 0; origin = origin } }
     {
-        Open {
+        OpenScope {
             node: NodeNumber { number: 0 },
             depth: 0,
             origin,
@@ -44,15 +44,16 @@ impl Open {
     }
 }
 
-/// The table, and the time from which the starts of top-level scopes in the current stream are measured.
+/// The visitor that adds each scope of a stream to the table.
 #[derive(Drop)]
 pub(crate) struct Merging {
     pub table: Table,
+    /// The time from which the starts of top-level scopes in the current stream are measured.
     pub origin: i128,
 }
 
 impl Merging {
-    /// Makes an empty table.
+    /// Makes a visitor with an empty table.
     pub(crate) fn new(alloc: Global) -> Merging
         ensures { IsTableOf [] result.table }
     {
@@ -79,7 +80,7 @@ impl<'s> Visitor<'s> for Merging {
     ghost use Rattle.puffin_merge.specs.inner.Merging.{TakesScopes, RefusesScope, StandsFor};
     ghost use Rattle.puffin_merge.specs.inner.Merging as steps;
 
-    type Within = Open;
+    type Within = OpenScope;
 
     ghost takes = { TakesScopes };
 
@@ -93,13 +94,14 @@ impl<'s> Visitor<'s> for Merging {
 
     ghost still_stands = { steps.still_stands };
 
-    fn enter(&mut self, within: Open, scope: &RawScope<'s>) -> Result<Open> {
+    /// Adds the scope to its node below the parent's, and returns what the walk keeps for it.
+    fn enter(&mut self, within: OpenScope, scope: &RawScope<'s>) -> Result<OpenScope> {
         if within.depth >= GREATEST_DEPTH {
             return Err(Error::TooDeep);
         }
         let alloc = *self.table.nodes.allocator();
         let own_start = own_start(scope.start, within.origin)?;
-        let key = Asked {
+        let key = KeyRef {
             parent: within.node,
             id: scope.id,
             text: text_of(scope.text),
@@ -107,7 +109,7 @@ impl<'s> Visitor<'s> for Merging {
         let node = self
             .table
             .add(alloc, key, own_start, scope.stop.abs_diff(scope.start))?;
-        Ok(Open {
+        Ok(OpenScope {
             node,
             depth: within.depth + 1,
             origin: scope.start as i128,
@@ -124,7 +126,8 @@ fn origin_of(frame: &UnpackedFrameData, first: NanoSecond) -> i128
     frame.meta.range_ns.0 as i128 - first as i128
 }
 
-/// Adds the scopes of a frame's stream to the table, if the frame has a stream for this thread.
+/// Adds the scopes of a frame's stream to the table, if the frame has a stream for this thread. Top-level starts are measured
+/// as if the frame's range began at `first`. Sets `tries` to the number of bytes `(` at which the walk tried to read a scope.
 pub(crate) fn read_frame(
     alloc: Global,
     merging: &mut Merging,
@@ -149,7 +152,7 @@ pub(crate) fn read_frame(
 {
     *tries = 0;
     merging.origin = origin_of(frame, first);
-    let outside = Open::outside(merging.origin);
+    let outside = OpenScope::outside(merging.origin);
     match frame.thread_streams.get(info) {
         None => Ok(()),
         Some(times) => walk_with(

@@ -1,4 +1,5 @@
-//! The nodes of a merge, in one list.
+//! The table of a merge: one node for each path of ids and texts, with the sums of its pieces. All nodes are in one list, and
+//! each names its parent by number.
 
 ghost use Rattle.std.specs.Prelude.{◌≡◌, ◌<◌, ◌≤◌, ◌+◌, ◌^◌, ◌⊎◌, max, IfSome, IfNone};
 ghost use Rattle.std.specs.Int.{int_min};
@@ -15,16 +16,16 @@ pub(crate) struct NodeNumber {
     pub number: usize,
 }
 
-/// Identifies a node to look up: its parent, its id and its text.
+/// The key of a node to look up. It borrows the text.
 #[derive(Clone, Copy, Debug)]
-pub(crate) struct Asked<'k> {
+pub(crate) struct KeyRef<'k> {
     pub parent: NodeNumber,
     /// Not 0.
     pub id: u32,
     pub text: &'k str,
 }
 
-/// Identifies a node: its parent, its id and its text.
+/// Identifies a node: its parent's number, and its scope's id and text.
 #[derive(Debug, Drop)]
 pub(crate) struct Key {
     pub parent: NodeNumber,
@@ -39,9 +40,9 @@ pub(crate) struct TextNumber {
     pub number: usize,
 }
 
-/// A key with the number of its text in place of the text.
+/// A key with the number of its text in place of the text, so that the map of nodes keeps no second copy of a text.
 #[derive(Clone, Copy, Debug, PartialEq, Eq, PartialOrd, Ord)]
-pub(crate) struct Spot {
+pub(crate) struct NumberedKey {
     pub parent: NodeNumber,
     pub id: u32,
     pub text: TextNumber,
@@ -50,9 +51,13 @@ pub(crate) struct Spot {
 /// The sums of a node's pieces.
 #[derive(Clone, Copy, Debug)]
 pub(crate) struct PieceTotals {
+    /// The number of pieces.
     pub number: usize,
+    /// The sum of their durations.
     pub total: u64,
+    /// The duration of the longest.
     pub greatest: u64,
+    /// The least of their starts, each measured from its parent's start.
     pub own_start: NanoSecond,
 }
 
@@ -70,8 +75,8 @@ impl PieceTotals {
         }
     }
 
-    /// Adds one piece. Returns `None` if the number or the total doesn't fit.
-    pub(crate) fn more(self, own_start: NanoSecond, duration: u64) -> Option<PieceTotals>
+    /// Returns the sums with one more piece, or `None` if the number doesn't fit `usize` or the total doesn't fit `i64`.
+    pub(crate) fn with_piece(self, own_start: NanoSecond, duration: u64) -> Option<PieceTotals>
         ensures some { IfSome result (λ sums.
             sums ≡ record {
               number = self.number + 1;
@@ -108,9 +113,12 @@ pub(crate) struct Node {
 /// The nodes, and maps to look them up.
 #[derive(Drop)]
 pub(crate) struct Table {
+    /// The nodes by number. A parent is before its children.
     pub nodes: Vec<Node>,
+    /// The number of each text.
     texts: BTreeMap<String, TextNumber>,
-    numbers: BTreeMap<Spot, NodeNumber>,
+    /// The number of each node.
+    numbers: BTreeMap<NumberedKey, NodeNumber>,
     /// For each node, by its place, the place of the node that was looked up right after it the last time. Since frames are
     /// much alike, that node often comes next again.
     guesses: Vec<usize>,
@@ -125,8 +133,8 @@ impl Table {
     ghost use Rattle.std.specs.BTreeMap.{is_at};
     ghost use Rattle.puffin_merge.specs.Merge.Occurrences.{Occurrence};
     ghost use Rattle.puffin_merge.specs.Merge.Refusals.{SumsFit};
-    ghost use Rattle.puffin_merge.specs.inner.Found.{HasKey, HasLabel};
-    ghost use Rattle.puffin_merge.specs.inner.Tables.{IsTableOf, asked_for, made_node, occurrence_at, FitsOneMore, GrowsAt, AddsAt};
+    ghost use Rattle.puffin_merge.specs.inner.Found.{IsNodeOfKey, HasNoNode, IsNewKey};
+    ghost use Rattle.puffin_merge.specs.inner.Tables.{IsTableOf, new_node, occurrence_of_key, FitsOneMore, AddsPieceAt, AddsAt};
 
     /// Makes an empty table.
     pub(crate) fn new(alloc: Global) -> Table
@@ -141,13 +149,9 @@ impl Table {
         }
     }
 
-    /// Returns the node that came next the last time, if it is the one looked up now.
-    fn guessed(&self, key: &Asked) -> Option<NodeNumber>
-        ensures some { IfSome result (λ x.
-            (0 < x.number)
-            × (x.number ≤ vec_len self.now.nodes)
-            × HasLabel self.now.nodes.items (x.number - 1) key.now.parent.number
-            (asked_for key.now)) }
+    /// Returns the node that was looked up next the last time, if it has this key.
+    fn check_guess(&self, key: &KeyRef) -> Option<NodeNumber>
+        ensures some { IfSome result (IsNodeOfKey self.now.nodes key.now) }
     {
         let place = *self.guesses.get(self.last)?;
         let node = self.nodes.get(place)?;
@@ -161,8 +165,8 @@ impl Table {
         }
     }
 
-    /// Records which node was looked up next.
-    fn follow(&mut self, place: usize)
+    /// Records that the node at `place` was looked up after the last one, as the guess for the next time.
+    fn record_lookup(&mut self, place: usize)
         ensures nodes { self.new.nodes ≡ self.old.nodes }
         ensures texts { self.new.texts ≡ self.old.texts }
         ensures numbers { self.new.numbers ≡ self.old.numbers }
@@ -173,22 +177,16 @@ impl Table {
         self.last = place;
     }
 
-    /// Looks a node up by the number of its text.
-    fn look_up(&self, key: &Asked) -> Option<NodeNumber>
-        ensures some { IfSome result (λ x.
-            (0 < x.number)
-            × (x.number ≤ vec_len self.now.nodes)
-            × HasLabel self.now.nodes.items (x.number - 1) key.now.parent.number
-            (asked_for key.now)) }
-        ensures none { IfNone result (
-            (k : ℕ) → k < vec_len self.now.nodes →
-            HasLabel self.now.nodes.items k key.now.parent.number (asked_for key.now) → ⊥) }
+    /// Looks a node up in the maps: its text's number first, then the node's own.
+    fn look_up(&self, key: &KeyRef) -> Option<NodeNumber>
+        ensures some { IfSome result (IsNodeOfKey self.now.nodes key.now) }
+        ensures none { IfNone result (HasNoNode self.now.nodes key.now) }
     {
         match self.texts.get_key_value(key.text) {
             None => None,
             Some((_text, number)) => self
                 .numbers
-                .get(&Spot {
+                .get(&NumberedKey {
                     parent: key.parent,
                     id: key.id,
                     text: *number,
@@ -197,25 +195,19 @@ impl Table {
         }
     }
 
-    /// Finds a node: by the guess if it is right, otherwise by its text.
-    fn find(&self, key: &Asked) -> Option<NodeNumber>
-        ensures some { IfSome result (λ x.
-            (0 < x.number)
-            × (x.number ≤ vec_len self.now.nodes)
-            × HasLabel self.now.nodes.items (x.number - 1) key.now.parent.number
-            (asked_for key.now)) }
-        ensures none { IfNone result (
-            (k : ℕ) → k < vec_len self.now.nodes →
-            HasLabel self.now.nodes.items k key.now.parent.number (asked_for key.now) → ⊥) }
+    /// Finds the node with this key: by the guess if it is right, otherwise in the maps.
+    fn find(&self, key: &KeyRef) -> Option<NodeNumber>
+        ensures some { IfSome result (IsNodeOfKey self.now.nodes key.now) }
+        ensures none { IfNone result (HasNoNode self.now.nodes key.now) }
     {
-        match self.guessed(key) {
+        match self.check_guess(key) {
             Some(number) => Some(number),
             None => self.look_up(key),
         }
     }
 
     /// Returns the number of a text. Adds the text if it is new.
-    fn number_of(&mut self, text: &String) -> Result<TextNumber>
+    fn intern_text(&mut self, text: &String) -> Result<TextNumber>
         ensures ok { IfOk result (λ x.
             lookup (is_at (string_cmp text.now)) self.new.texts.entries ≡ Some x) }
         ensures nodes { OnOk result (self.new.nodes ≡ self.old.nodes) }
@@ -233,18 +225,18 @@ impl Table {
         Ok(number)
     }
 
-    /// Adds one piece to a node.
-    fn grow(&mut self, number: NodeNumber, own_start: NanoSecond, duration: u64) -> Result<()>
+    /// Adds one piece to the node with this number. Fails with `TooLarge` if its sums don't fit; the node then stays as it was.
+    fn add_piece(&mut self, number: NodeNumber, own_start: NanoSecond, duration: u64) -> Result<()>
         requires { (0 < number.number) × (number.number ≤ vec_len self.old.nodes) }
         ensures ok { OnOk result (
-            GrowsAt self.old (number.number - 1) own_start duration self.new) }
+            AddsPieceAt self.old (number.number - 1) own_start duration self.new) }
         ensures err { IfErr result (λ e.
             (e ≡ Error.TooLarge)
             × (FitsOneMore self.old.nodes.items (number.number - 1) duration → ⊥)) }
     {
-        self.follow(number.number - 1);
+        self.record_lookup(number.number - 1);
         let node = &mut self.nodes[number.number - 1];
-        match node.sums.more(own_start, duration) {
+        match node.sums.with_piece(own_start, duration) {
             None => Err(Error::TooLarge),
             Some(sums) => {
                 node.sums = sums;
@@ -253,28 +245,28 @@ impl Table {
         }
     }
 
-    /// Adds a node of one piece.
-    fn start(&mut self, key: Key, own_start: NanoSecond, duration: u64) -> Result<NodeNumber>
-        requires { (k : ℕ) → k < vec_len self.old.nodes →
-            HasKey self.old.nodes.items k key → ⊥ }
+    /// Adds a node of one piece, and returns its number. Fails only with `Memory`.
+    fn add_node(&mut self, key: Key, own_start: NanoSecond, duration: u64) -> Result<NodeNumber>
+        requires { IsNewKey self.old.nodes key }
         ensures number { IfOk result (λ x. x.number ≡ vec_len self.old.nodes + 1) }
         ensures nodes { OnOk result (
             self.new.nodes.items
-            ≡ self.old.nodes.items ++ (made_node key own_start duration ∷ [])) }
+            ≡ self.old.nodes.items ++ (new_node key own_start duration ∷ [])) }
         ensures err { IsOkUnless result Error.Memory }
     {
+        // Each step that can fail comes before the node is added, so that the maps find exactly the nodes also after an error.
         self.guesses.push(0)?;
         let place = self.nodes.len();
-        self.follow(place);
-        let text = self.number_of(&key.text)?;
-        let spot = Spot {
+        self.record_lookup(place);
+        let text = self.intern_text(&key.text)?;
+        let numbered = NumberedKey {
             parent: key.parent,
             id: key.id,
             text,
         };
         self.nodes.reserve(1)?;
         let number = NodeNumber { number: place + 1 };
-        let _none = self.numbers.insert(spot, number)?;
+        let _none = self.numbers.insert(numbered, number)?;
         self.nodes.push_reserved(Node {
             key,
             sums: PieceTotals::one(own_start, duration),
@@ -282,11 +274,12 @@ impl Table {
         Ok(number)
     }
 
-    /// Adds one piece to its node. If there is none, adds the node, with its own copy of the text.
+    /// Adds one piece to the node with this key, and returns the node's number. If there is no such node, adds it, with its own
+    /// copy of the text. Fails with `TooLarge` if the node's sums don't fit, and with `Memory`.
     pub(crate) fn add(
         &mut self,
         alloc: Global,
-        key: Asked,
+        key: KeyRef,
         own_start: NanoSecond,
         duration: u64,
     ) -> Result<NodeNumber>
@@ -295,20 +288,18 @@ impl Table {
         requires id { 0 < key.id }
         requires parent { key.parent.number ≤ vec_len self.old.nodes }
         ensures ok { IfOk result (λ x.
-            AddsAt self.old key.entry.parent.number (asked_for key.entry) own_start duration
+            AddsAt self.old (occurrence_of_key self.old key.entry own_start duration)
             x.number self.new) }
         ensures err { IfErr result (λ e.
             (e ≡ Error.Memory)
             ⊎ ((e ≡ Error.TooLarge)
             × ((all : List Occurrence) → IsTableOf all self.old →
-            SumsFit all (
-            occurrence_at self.old key.entry.parent.number (asked_for key.entry) own_start duration)
-            → ⊥))) }
+            SumsFit all (occurrence_of_key self.old key.entry own_start duration) → ⊥))) }
     {
         let found = self.find(&key);
         match found {
             Some(number) => {
-                self.grow(number, own_start, duration)?;
+                self.add_piece(number, own_start, duration)?;
                 Ok(number)
             }
             None => {
@@ -318,7 +309,7 @@ impl Table {
                     id: key.id,
                     text,
                 };
-                self.start(own, own_start, duration)
+                self.add_node(own, own_start, duration)
             }
         }
     }

@@ -1,4 +1,4 @@
-//! Makes the merged scopes of a table.
+//! Makes the merged scopes of a table: sorts its nodes, computes their starts and ends, and builds the tree from its leaves up.
 
 ghost use Rattle.std.specs.Prelude.{◌≡◌, ℕ, ◌<◌, ◌≤◌, ◌^◌, ◌/◌, ◌⊎◌, pos, FitsSigned, List, IfOk, IfErr, IsOkUnless};
 ghost use Rattle.std.specs.Int.{w64};
@@ -30,7 +30,8 @@ struct OrderedNode<'t> {
     number: NodeNumber,
 }
 
-/// Returns all nodes, sorted by parent and then in the order of siblings.
+/// Returns all nodes, sorted by parent and then in the order of siblings. So siblings are next to each other. Fails only with
+/// `Memory`.
 fn ordered_nodes(alloc: Global, table: &Table) -> Result<Vec<OrderedNode<'_>>>
     ensures ordered_nodes { IfOk result (λ ordered_nodes.
         AreOrderedNodesOf table.now.nodes.items ordered_nodes.items) }
@@ -60,7 +61,7 @@ fn per_frame(sums: &PieceTotals, frames: usize) -> NanoSecond
     (sums.total / frames as u64) as i64
 }
 
-/// The parent, the start and the end of a node.
+/// The place of a node among its siblings: its parent's number, its start and its end.
 #[derive(Clone, Copy, Debug)]
 struct Placement {
     parent: usize,
@@ -99,7 +100,8 @@ fn place_node(
     })
 }
 
-/// Computes the start and the end of each node.
+/// Computes the start and the end of each node, in the given order. Fails with `TooLarge` if an end doesn't fit, and with
+/// `Memory`.
 fn place_nodes(
     alloc: Global,
     table: &Table,
@@ -137,7 +139,7 @@ fn place_nodes(
 }
 
 /// Makes the merged scope of a node with these children and its own copy of the text. Fails only with `Memory`.
-fn scope_at<'s>(
+fn make_scope<'s>(
     alloc: Global,
     ordered: &OrderedNode,
     sums: &PieceTotals,
@@ -168,7 +170,8 @@ fn scope_at<'s>(
     })
 }
 
-/// Makes the merged scopes of a table. Fails with `TooLarge` if an end doesn't fit, and with `Memory`.
+/// Makes the merged scopes of a table, and returns those of the top level. Fails with `TooLarge` if an end doesn't fit, and
+/// with `Memory`.
 pub(crate) fn tree_of<'s>(
     alloc: Global,
     table: &Table,
@@ -193,12 +196,13 @@ pub(crate) fn tree_of<'s>(
     'empty: for _made in 0..size {
         rows.push(Vec::new(alloc))?;
     }
+    // Children come after their parents, so backwards each node's row of children is whole before the node itself comes.
     'nodes: for i in (0..ordered_nodes.len()).rev() {
         let ordered = &ordered_nodes[i];
         let node = &table.nodes[ordered.number.number - 1];
         let mut children = mem::replace(&mut rows[ordered.number.number], Vec::new(alloc));
         children.reverse();
-        let scope = scope_at(alloc, ordered, &node.sums, &placements[i], frames, children)?;
+        let scope = make_scope(alloc, ordered, &node.sums, &placements[i], frames, children)?;
         rows[ordered.parent.number].push(scope)?;
     }
     let mut top = mem::replace(&mut rows[0], Vec::new(alloc));

@@ -10,10 +10,12 @@ use Rattle.puffin_view.specs.View.Known.{KnownView, view_of, collection_of, lack
 -- If the view held the last and the slowest of some frames, it now holds the last and the slowest of those frames and this one.
 pub record HoldsAlso (frame : Frame) (old new : View) : Type 0 where
   -- for the frames that it took
-  pub took : (cs : List PacketFields) → Took cs old → Took (cs ++ fields_of frame ∷ []) new
+  pub took : (taken : List PacketFields) → Took taken old →
+      Took (taken ++ fields_of frame ∷ []) new
   -- for any two lists of frames, each extended by this one
-  pub more : (cs ds : List PacketFields) → is_past old (index_of frame) ≡ false → Holds cs ds old →
-      Holds (cs ++ fields_of frame ∷ []) (ds ++ fields_of frame ∷ []) new
+  pub more : (for_recent for_slow : List PacketFields) → is_past old (index_of frame) ≡ false →
+      Holds for_recent for_slow old →
+      Holds (for_recent ++ fields_of frame ∷ []) (for_slow ++ fields_of frame ∷ []) new
   -- for this frame alone, after a reset
   pub anew : is_past old (index_of frame) ≡ true →
       Holds (fields_of frame ∷ []) (fields_of frame ∷ []) new

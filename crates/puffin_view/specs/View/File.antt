@@ -29,36 +29,38 @@ magic = 80 ∷ 85 ∷ 70 ∷ 48 ∷ []
 
 -- the letters, and then a packet for each frame
 abbrev pub file_of : List PacketFields → List ℕ
-file_of cs = magic ++ flat_map packet cs
+file_of frames = magic ++ flat_map packet frames
 
 -- the contents of the frames in both lists of a view
 abbrev pub fields_held : View → List PacketFields
-fields_held v = map fields_of (v.recent ++ v.slow)
+fields_held view = map fields_of (view.recent ++ view.slow)
 
 -- the contents of a view's frames, each once, in ascending order of index
 abbrev pub fields_in : View → List PacketFields
-fields_in v = map fields_of (all_uniq v)
+fields_in view = map fields_of (all_uniq view)
 
 -- frames' contents, where the first has the details of a collection in place of its own, if one is given
 abbrev pub first_with : Option Collection → List PacketFields → List PacketFields
 first_with scopes [] = []
-first_with scopes (c ∷ cs) = record c { details = details_or c.details scopes } ∷ cs
+first_with scopes (first ∷ others) =
+    record first { details = details_or first.details scopes } ∷ others
 
 -- what a packet has but for its details
 abbrev pub without_details : PacketFields → PacketFields
-without_details c = record c { details = [] }
+without_details fields = record fields { details = [] }
 
--- The promise of a call that writes the file of these frames to a device. What is written can be read again; a refusal leaves a
--- prefix of it.
+-- The promise of a call that writes the file of these frames to a device, which is `old` before the call and `new` after it.
+-- What is written can be read again; a refusal leaves a prefix of it. The first three arguments belong to the kind of device:
+-- what it holds, how many of its writes failed, and what a single write does.
 pub record WritesFile {D : Type 0} (contents : D → Option (List ℕ)) (failures : D → ℕ)
-    (takes : D → List ℕ → ℕ → D → Type 0) (old new : D) (cs : List PacketFields)
+    (takes : D → List ℕ → ℕ → D → Type 0) (old new : D) (frames : List PacketFields)
     (result : Result (Unit {0}) FileError) : Type 0 where
-  pub ok : OnOk result (Appends (contents old) (contents new) (file_of cs))
-  pub packed : OnOk result (AllByRecursion IsPacked cs)
-  pub begun : IfErr result (λ e. WritesBeginning (contents old) (contents new) (file_of cs))
+  pub ok : OnOk result (Appends (contents old) (contents new) (file_of frames))
+  pub packed : OnOk result (AllByRecursion IsPacked frames)
+  pub begun : IfErr result (λ e. WritesBeginning (contents old) (contents new) (file_of frames))
   pub io : IfErr result (λ e.
       e ≡ file.Io → (failures new ≡ failures old + 1) ⊎ TookNothing takes new)
-  pub too_long : IfErr result (λ e. e ≡ file.PartTooLong → Any HasLongPart cs)
+  pub too_long : IfErr result (λ e. e ≡ file.PartTooLong → Any HasLongPart frames)
   pub cause : IfErr result (λ e. (e ≡ file.PartTooLong) ⊎ (e ≡ file.Memory) ⊎ (e ≡ file.Io))
   pub none_failed : OnOk result (failures new ≡ failures old)
 
@@ -66,48 +68,50 @@ pub record WritesFile {D : Type 0} (contents : D → Option (List ℕ)) (failure
 
 -- the contents of a legacy frame, which has no details
 abbrev pub legacy_fields : Legacy → PacketFields
-legacy_fields l = record {
-  meta = l.meta;
-  form = form_of_all l.streams;
+legacy_fields frame = record {
+  meta = frame.meta;
+  form = form_of_all frame.streams;
   kind = Uncompressed;
-  streams = streams_layout (form_of_all l.streams) l.streams;
+  streams = streams_layout (form_of_all frame.streams) frame.streams;
   details = [];
 }
 
 -- a frame that was read, as a view sees it
 abbrev pub frame_stored : Stored → Frame
-frame_stored (packed p) = record { fields = p; is_unpacked = false; is_packed = true }
-frame_stored (legacy l) =
-    record { fields = legacy_fields l; is_unpacked = true; is_packed = false }
+frame_stored (packed fields) = record { fields = fields; is_unpacked = false; is_packed = true }
+frame_stored (legacy frame) =
+    record { fields = legacy_fields frame; is_unpacked = true; is_packed = false }
 
 -- the details of a frame that was read
 abbrev pub details_stored : Stored → List Details
-details_stored s = details_of_frame (frame_stored s)
+details_stored frame = details_of_frame (frame_stored frame)
 
 -- the frame, or a refusal if some of its details have no id
 abbrev pub with_ids : Stored → Result Stored FileError
-with_ids s = if lacks_ids (fields_of (frame_stored s)) then Err (file.Refused MissingId) else Ok s
+with_ids frame =
+    if lacks_ids (fields_of (frame_stored frame)) then Err (file.Refused MissingId) else Ok frame
 
--- this frame, if there is one, and those that are read after it
+-- this frame, if there is one, and those that `read` reads after it from the remaining bytes
 abbrev pub frames_from : (List ℕ → Result (List Stored × List ℕ) FileError) → Option Stored →
     List ℕ → Result (List Stored × List ℕ) FileError
 frames_from read None rest = Ok ([], rest)
-frames_from read (Some s) rest = do
-  frame ← with_ids s
+frames_from read (Some next) rest = do
+  frame ← with_ids next
   others ← read rest
   Ok (frame ∷ others.0, others.1)
 
 -- all frames up to the end, if they are fewer than this limit, and the bytes after the end; or the first fault
 abbrev pub frames_at : ℕ → List ℕ → Result (List Stored × List ℕ) FileError
 frames_at zero bytes = Err file.Truncated
-frames_at (suc n) bytes = do
+frames_at (suc limit) bytes = do
   next ← next_at bytes
-  frames_from (frames_at n) next.0 next.1
+  frames_from (frames_at limit) next.0 next.1
 
 -- a file with this many packets or more is refused
 unfoldable pub most_packets : ℕ
 most_packets = 2 ^ 64 - 1
 
+-- whether the first four bytes are `PUF0`
 abbrev pub begins_file : List ℕ → Bool
 begins_file bytes =
     (slice_index bytes 0 == 80) && (slice_index bytes 1 == 85) && (slice_index bytes 2 == 70) &&
@@ -153,10 +157,10 @@ abbrev pub read_view : View
 read_view = record empty_view { max_recent = 2 ^ 64 - 1 }
 
 -- The view took exactly these frames, in order, and its collection has their details.
-pub record IsViewOf (stored : List Stored) (v : FrameView) : Type 0 where
-  pub took : Took (map fields_of (map frame_stored stored)) (view_of v)
-  pub frames : view_of v ≡ after_all read_view (map frame_stored stored)
-  pub details : collection_of v ≡ with_all_details no_details (flat_map details_stored stored)
+pub record IsViewOf (stored : List Stored) (view : FrameView) : Type 0 where
+  pub took : Took (map fields_of (map frame_stored stored)) (view_of view)
+  pub frames : view_of view ≡ after_all read_view (map frame_stored stored)
+  pub details : collection_of view ≡ with_all_details no_details (flat_map details_stored stored)
 
 -- A call read a view from a device: the view of the frames whose bytes it took.
 abbrev pub ReadsView : FramesReading → Option (List ℕ) → Option (List ℕ) →

@@ -1,4 +1,4 @@
--- What a reader of frames reads from and how many frames it has returned, what a writer of frames writes to and with which details, and whether the reader is done or the writer broken.
+-- What contracts see of a reader of frames, as its source, and of a writer of frames, as its drain and its details.
 use Rattle.std.specs.Prelude.{◌≡◌, ℕ, ◌+◌, ◌-◌, ◌^◌, Bool, true, false, [], Option, Some, None, Result, Ok, Err, min}
 use Rattle.puffin_data.specs.declared.file_error.FileError.{FileError}
 use Rattle.puffin_view.specs.declared.profile_view.frame_file.FrameReader.{FrameReader}
@@ -23,15 +23,15 @@ num_frames_of reader = reader.num_frames
 
 -- the same after a call; the number stays at the greatest that fits 64 bits
 abbrev pub frames_after : {X : Type 0} → Result (Option X) FileError → ℕ → ℕ
-frames_after (Ok (Some x)) n = min (n + 1) (2 ^ 64 - 1)
-frames_after (Ok None) n = n
-frames_after (Err e) n = n
+frames_after (Ok (Some frame)) number = min (number + 1) (2 ^ 64 - 1)
+frames_after (Ok None) number = number
+frames_after (Err fault) number = number
 
 -- whether a call returned the end or a fault, and no frame
 abbrev pub ends_reading : {X : Type 0} → Result (Option X) FileError → Bool
-ends_reading (Ok (Some x)) = false
+ends_reading (Ok (Some frame)) = false
 ends_reading (Ok None) = true
-ends_reading (Err e) = true
+ends_reading (Err fault) = true
 
 -- the drain that frames are written to
 abbrev pub drain_of : {D : Type 0} {d : _} → FrameWriter D d → D
@@ -47,8 +47,8 @@ is_first_of writer = writer.is_first
 
 -- the same after a call
 abbrev pub is_first_after : {X E : Type 0} → Result X E → Bool → Bool
-is_first_after (Ok x) first = false
-is_first_after (Err e) first = first
+is_first_after (Ok done) is_first = false
+is_first_after (Err fault) is_first = is_first
 
 -- the details of all frames that were written
 abbrev pub scopes_of : {D : Type 0} {d : _} → FrameWriter D d → Collection

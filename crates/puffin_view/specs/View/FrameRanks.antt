@@ -5,9 +5,11 @@ use Rattle.puffin_view.specs.declared.profile_view.slow_rank.SlowRank.{SlowRank}
 use Rattle.puffin_view.specs.View.ViewedFrames.{Frame, index_of, duration_of}
 
 abbrev pub rank_of : Frame → SlowRank
-rank_of f = record { duration_ns = record { 0 = duration_of f }; frame_index = index_of f }
+rank_of frame =
+    record { duration_ns = record { 0 = duration_of frame }; frame_index = index_of frame }
 
 -- by duration, longest first, then by index
 abbrev pub rank_cmp : SlowRank → SlowRank → Ordering
-rank_cmp a b =
-    ordering_then (int_cmp b.duration_ns.0 a.duration_ns.0) (nat_cmp a.frame_index b.frame_index)
+rank_cmp rank other =
+    ordering_then (int_cmp other.duration_ns.0 rank.duration_ns.0) (
+    nat_cmp rank.frame_index other.frame_index)

@@ -8,8 +8,11 @@ use Rattle.puffin_view.specs.View.File.{magic, frame_stored}
 -- one packet for each frame, in order and with nothing between them, of any readable version, including older and legacy ones
 abbrev pub ArePackets : List ℕ → List Stored → Type 0
 ArePackets bytes [] = bytes ≡ []
-ArePackets bytes (s ∷ frames) =
-    (packet : List ℕ) × (others : List ℕ) × Stores packet s × ArePackets others frames
+ArePackets bytes (frame ∷ frames) =
+    (packet : List ℕ)
+    × (others : List ℕ)
+    × Stores packet frame
+    × ArePackets others frames
     × (bytes ≡ packet ++ others)
 
 -- the end of a file: four zeros, whatever follows, or fewer than four bytes, with nothing after them

@@ -6,6 +6,7 @@ use Rattle.puffin_frames.specs.Packet.Stored.{PacketFields}
 use Rattle.puffin_threads.specs.Details.Collection.{Collection}
 use Rattle.puffin_view.specs.View.{View}
 
+-- a view's frames and settings, and what it knows of scopes
 pub record KnownView : Type 0 where
   pub frames : View
   -- the details of all scopes that any frame listed
@@ -23,4 +24,4 @@ with_frames view frames = record view { frames = frames }
 
 -- whether some of a frame's details have no id
 abbrev pub lacks_ids : PacketFields → Bool
-lacks_ids c = list_any lacks_id c.details
+lacks_ids fields = list_any lacks_id fields.details

@@ -14,16 +14,19 @@ use Rattle.puffin_view.specs.View.ViewedFrames.{Frame, index_of}
 use Rattle.puffin_view.specs.View.FrameOf.{shared_frame}
 use Rattle.puffin_view.specs.View.Ranking.{rank_index, has_number}
 
+-- the older frames first, and then the row of the newest
 abbrev pub frames_left : FrameRowsIter → List (Arc FrameData Global)
-frames_left s = s.older ++ deque_iter_rest s.newest
+frames_left iter = iter.older ++ deque_iter_rest iter.newest
 
+-- the frames held under the indices that are left
 abbrev pub recent_left : RecentFrames → List Frame
-recent_left s = filter_map (map.get s.held.now) (deque_iter_rest s.rest)
+recent_left iter = filter_map (map.get iter.held.now) (deque_iter_rest iter.rest)
 
 abbrev pub all_left : AllFrames → List Frame
-all_left s = map shared_frame (frames_left s.rest)
+all_left iter = map shared_frame (frames_left iter.rest)
 
+-- of all frames that are left, those whose index is among the ranks of the slowest
 abbrev pub slowest_left : SlowestFrames → List Frame
-slowest_left s =
-    filter (λ f. has_number (index_of f) (map rank_index s.slow.now.items)) (
-    map shared_frame (frames_left s.rest))
+slowest_left iter =
+    filter (λ frame. has_number (index_of frame) (map rank_index iter.slow.now.items)) (
+    map shared_frame (frames_left iter.rest))

@@ -5,34 +5,38 @@ use Rattle.puffin_view.specs.declared.profile_view.slow_rank.SlowRank.{SlowRank}
 
 -- an ordered list with one more item, inserted in front of the first one that it comes before
 abbrev pub place : {F : Type 0} → (F → F → Bool) → F → List F → List F
-place before f [] = f ∷ []
-place before f (x ∷ xs) = cond (before f x) (f ∷ (x ∷ xs)) (x ∷ place before f xs)
+place before item [] = item ∷ []
+place before item (x ∷ xs) =
+    cond (before item x) (item ∷ (x ∷ xs)) (x ∷ place before item xs)
 
 -- the same for an item that was in front of all others: it is inserted after those that come before it
 abbrev pub place_first : {F : Type 0} → (F → F → Bool) → F → List F → List F
-place_first before f [] = f ∷ []
-place_first before f (x ∷ xs) = cond (before x f) (x ∷ place_first before f xs) (f ∷ (x ∷ xs))
+place_first before item [] = item ∷ []
+place_first before item (x ∷ xs) =
+    cond (before x item) (x ∷ place_first before item xs) (item ∷ (x ∷ xs))
 
 -- a list, sorted; items of which neither comes before the other keep their order
 abbrev pub in_order : {F : Type 0} → (F → F → Bool) → List F → List F
 in_order before [] = []
 in_order before (x ∷ xs) = place_first before x (in_order before xs)
 
--- the first k items in an order; of equal ones, the earlier
+-- the first items in an order, up to this number; of equal ones, the earlier
 abbrev pub first_in_order : {F : Type 0} → (F → F → Bool) → ℕ → List F → List F
-first_in_order before k xs = take k (in_order before xs)
+first_in_order before number xs = take number (in_order before xs)
 
--- `out` is the first k items of a sorted permutation of `xs`, in which no item comes before one in front of it
-pub record AreFirst {F : Type 0} (before : F → F → Bool) (k : ℕ) (xs out : List F) : Type 0 where
+-- `out` is the first items, up to this number, of a sorted permutation of `xs`, in which no item comes before one in front of it
+pub record AreFirst {F : Type 0} (before : F → F → Bool) (number : ℕ) (xs out : List F) :
+    Type 0 where
   pub ordered : List F
   pub all : IsPermutation xs ordered
   pub in_order : AllPairs (λ x y. before y x ≡ false) ordered
-  pub first : out ≡ take k ordered
+  pub first : out ≡ take number ordered
 
--- the last n of a list
+-- the last items of a list, up to this number
 abbrev pub last_of : {F : Type 0} → ℕ → List F → List F
-last_of n xs = drop (length xs - n) xs
+last_of number xs = drop (length xs - number) xs
 
+-- the last of a list, or this item if the list is empty
 abbrev pub last_from : {F : Type 0} → F → List F → F
 last_from x [] = x
 last_from x (y ∷ ys) = last_from y ys
@@ -44,8 +48,8 @@ last_in (x ∷ xs) = Some (last_from x xs)
 
 -- whether an index is in a list
 abbrev pub has_number : ℕ → List ℕ → Bool
-has_number q is = list_any (nat_eq q) is
+has_number index indices = list_any (nat_eq index) indices
 
 -- the index of a rank's frame
 abbrev pub rank_index : SlowRank → ℕ
-rank_index r = r.frame_index
+rank_index rank = rank.frame_index

@@ -12,33 +12,35 @@ pub record Rank : Type 0 where
   pub index : ℕ
   pub place : ℕ
 
+-- the rank of the frame at this place
 abbrev pub rank_at : ℕ → Frame → Rank
-rank_at k f = record { duration = duration_of f; index = index_of f; place = k }
+rank_at place frame =
+    record { duration = duration_of frame; index = index_of frame; place = place }
 
--- the ranks of frames, the first at place k
+-- the ranks of frames, the first of them at this place
 abbrev pub ranks_from : ℕ → List Frame → List Rank
-ranks_from k [] = []
-ranks_from k (f ∷ fs) = rank_at k f ∷ ranks_from (suc k) fs
+ranks_from place [] = []
+ranks_from place (frame ∷ frames) = rank_at place frame ∷ ranks_from (suc place) frames
 
 -- by duration, longest first, then by index, then by place
 abbrev pub slower_rank : Rank → Rank → Bool
-slower_rank a b =
+slower_rank rank other =
     is_lt (
-    ordering_then (int_cmp b.duration a.duration) (
-    ordering_then (nat_cmp a.index b.index) (nat_cmp a.place b.place)))
+    ordering_then (int_cmp other.duration rank.duration) (
+    ordering_then (nat_cmp rank.index other.index) (nat_cmp rank.place other.place)))
 
 -- by index, then by place (no two ranks have the same place)
 abbrev pub older_cmp : Rank → Rank → Ordering
 older_cmp =
-    then_cmp (on (λ r. r.index) nat_cmp) (
-    then_cmp (on (λ r. r.place) nat_cmp) (on (λ r. r.duration) int_cmp))
+    then_cmp (on (λ rank. rank.index) nat_cmp) (
+    then_cmp (on (λ rank. rank.place) nat_cmp) (on (λ rank. rank.duration) int_cmp))
 
 abbrev pub older_rank : Rank → Rank → Bool
-older_rank a b = is_lt (older_cmp a b)
+older_rank rank other = is_lt (older_cmp rank other)
 
 -- a `ByIndex` of the code, as a rank
-abbrev pub old_place : ByIndex → Rank
-old_place r = record { duration = r.duration_ns; index = r.frame_index; place = r.place }
+abbrev pub rank_by_index : ByIndex → Rank
+rank_by_index at = record { duration = at.duration_ns; index = at.frame_index; place = at.place }
 
 -- `out` is the first `max` frames by duration, longest first, then by index, then by place; they are sorted by index, then by
 -- place
@@ -49,4 +51,4 @@ pub record IsSelection (max : ℕ) (frames out : List Frame) : Type 0 where
   pub chosen : List Rank
   pub chooses : IsPermutation (take max ranked) chosen
   pub oldest_first : IsSortedBy older_rank chosen
-  pub is : out ≡ filter_map (λ r. slice_get frames r.place) chosen
+  pub is : out ≡ filter_map (λ rank. slice_get frames rank.place) chosen

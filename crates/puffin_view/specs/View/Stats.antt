@@ -6,29 +6,30 @@ use Rattle.puffin_view.specs.View.ViewedFrames.{Frame, ram_of}
 
 -- a sum, or the greatest usize if it doesn't fit
 abbrev pub cut : ℕ → ℕ
-cut n = min (2 ^ 64 - 1) n
+cut number = min (2 ^ 64 - 1) number
 
 -- the three numbers of statistics
 abbrev pub frames_counted : FrameStats → ℕ
-frames_counted s = s.frames
+frames_counted stats = stats.frames
 
 abbrev pub unpacked_counted : FrameStats → ℕ
-unpacked_counted s = s.unpacked_frames
+unpacked_counted stats = stats.unpacked_frames
 
 abbrev pub ram_counted : FrameStats → ℕ
-ram_counted s = s.bytes_of_ram_used
+ram_counted stats = stats.bytes_of_ram_used
 
+-- the statistics of these frames
 abbrev pub stats_of : List Frame → FrameStats
-stats_of fs = record {
-  frames = cut (length fs);
-  unpacked_frames = cut (count_by (λ f. f.is_unpacked) fs);
-  bytes_of_ram_used = cut (sum_by ram_of fs);
+stats_of frames = record {
+  frames = cut (length frames);
+  unpacked_frames = cut (count_by (λ frame. frame.is_unpacked) frames);
+  bytes_of_ram_used = cut (sum_by ram_of frames);
 }
 
 -- the same with one more frame
 abbrev pub with_frame : FrameStats → Frame → FrameStats
-with_frame s f = record {
-  frames = cut (s.frames + 1);
-  unpacked_frames = cut (s.unpacked_frames + cond f.is_unpacked 1 0);
-  bytes_of_ram_used = cut (s.bytes_of_ram_used + ram_of f);
+with_frame stats next = record {
+  frames = cut (stats.frames + 1);
+  unpacked_frames = cut (stats.unpacked_frames + cond next.is_unpacked 1 0);
+  bytes_of_ram_used = cut (stats.bytes_of_ram_used + ram_of next);
 }

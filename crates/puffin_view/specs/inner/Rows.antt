@@ -8,4 +8,4 @@ use Rattle.puffin_view.specs.inner.Held.{keyed}
 
 -- all frames, each with its index, in ascending order of index
 abbrev pub rows_of : FrameRows → List (ℕ × Arc FrameData Global)
-rows_of r = r.older.entries ++ keyed r.newest.items
+rows_of rows = rows.older.entries ++ keyed rows.newest.items

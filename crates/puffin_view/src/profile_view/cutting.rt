@@ -17,7 +17,7 @@ use std::collections::VecDeque;
 /// Returns whether the frame with this index is among the recent ones.
 fn is_recent(recent: &VecDeque<FrameIndex>, index: FrameIndex) -> bool
     requires { IsStrictlySortedBy nat_cmp recent.now.items }
-    ensures { result ≡ list_any (λ i. nat_eq i index) recent.now.items }
+    ensures { result ≡ list_any (λ other. nat_eq other index) recent.now.items }
 {
     recent.binary_search(&index).is_ok()
 }
@@ -40,7 +40,8 @@ fn is_slow(held: &HeldFrames, slow: &VecDeque<SlowRank>, index: FrameIndex) -> b
     }
 }
 
-/// Inserts a rank among the slowest if it belongs there, and then cuts them to `max`.
+/// Inserts a rank among the slowest if it belongs there, and then cuts them to `max`. Drops frames that are then neither slow
+/// nor recent.
 pub(super) fn enter_slow(
     held: &mut HeldFrames,
     recent: &VecDeque<FrameIndex>,
@@ -101,6 +102,7 @@ pub(super) fn cut_recent(
     for _ in 0..recent.len().saturating_sub(max) {
         if let Some(index) = recent.pop_front() {
             if is_slow(held, slow, index) {
+                // The frame stays, but not in front of the row of the newest frames, from which the next are removed.
                 held.set_aside();
             } else {
                 held.remove(index);

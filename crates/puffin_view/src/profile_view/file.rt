@@ -23,7 +23,8 @@ use puffin_threads::scope_details::ScopeCollection;
 use std::alloc::Global;
 use std::sync::Arc;
 
-/// Adds a frame read from a file to a view.
+/// Adds a frame that was read from a file to a view. Fails with `Refused(MissingId)` if some of the frame's details have no id,
+/// and with `Memory`.
 fn add_read(alloc: Global, view: &mut FrameView, frame: FrameData) -> Result<(), FileError>
     ensures ok { OnOk result (Adds (frame_of frame) view.old view.new) }
     ensures missing { IfErr result (λ e.
@@ -91,9 +92,10 @@ impl FrameView {
     ) -> Result<(), FileError>
         requires { CanFail D.failures drain.old }
         ensures written { WritesFile D.contents D.failures D.takes drain.old drain.new (
-            first_with (option_map (λ c. c.now) scopes.entry) (fields_in (view_of self.now)))
-            result }
+            first_with (option_map (λ known. known.now) scopes.entry) (
+            fields_in (view_of self.now))) result }
     {
+        // The details for the first packet; taken once, so that the other packets have their own.
         let mut first = scopes;
         write_magic(drain)?;
         'frames: for frame in self.all_uniq() {

@@ -247,8 +247,8 @@ fn write_packet<D: Drain>(
     }
 }
 
-/// Writes a file one frame at a time. The first packet of a file has the details of all frames that were written so far, also to
-/// earlier files, so each file has the names of its scopes.
+/// Writes a file one frame at a time. The first packet of a file has the details of all frames that were written so far, also
+/// to earlier files, so each file has the names of its scopes.
 ///
 /// ```
 /// let mut writer = FrameWriter::new(alloc, Counted::new(File::create(&rt, "frames.puffin")?))?;

@@ -21,7 +21,9 @@ use std::sync::Arc;
 /// Frames by index, each once: the newest in a row, older ones in a map. All indices in the map are below those in the row.
 #[derive(Drop)]
 pub(crate) struct FrameRows {
+    /// The older frames by their indices.
     older: BTreeMap<FrameIndex, Arc<FrameData>>,
+    /// The newest frames, in ascending order of index.
     newest: VecDeque<Arc<FrameData>>,
     ghost in_order: { AreInOrder older.entries newest.items } by { Prim.hlevel props },
 }
@@ -66,7 +68,7 @@ impl FrameRows {
 
     /// Adds a frame, whose index must be above all others. Fails only with `Memory`; nothing changes then.
     pub fn push(&mut self, frame: Arc<FrameData>) -> Result<()>
-        requires { AllByRecursion (λ k. k < index_of (shared_frame frame)) (
+        requires { AllByRecursion (λ index. index < index_of (shared_frame frame)) (
             keys_of (rows_of self.old)) }
         ensures ok { OnOk result (
             rows_of self.new
@@ -136,8 +138,9 @@ impl FrameRows {
     /// Returns a copy, which shares the frames. Fails only with `Memory`.
     pub fn clone(&self) -> Result<FrameRows>
         ensures ok { IfOk result (λ copy.
-            AllZip (λ p q. (q.0 ≡ p.0) × (arc_value q.1 ≡ arc_value p.1)) (rows_of self.now) (
-            rows_of copy)) }
+            AllZip (λ entry copied.
+            (copied.0 ≡ entry.0) × (arc_value copied.1 ≡ arc_value entry.1)) (
+            rows_of self.now) (rows_of copy)) }
         ensures cause { IsOkUnless result Error.Memory }
     {
         Ok(FrameRows {
@@ -153,17 +156,18 @@ fn place_in(row: &VecDeque<Arc<FrameData>>, index: FrameIndex) -> Option<usize>
     requires { IsStrictlySortedBy nat_cmp (keys_of (keyed row.now.items)) }
     ensures found { IfSome result (λ at.
         (at < length row.now.items)
-        × HoldsAt (λ a. index_of (shared_frame a) ≡ index) row.now.items at) }
+        × HoldsAt (λ arc. index_of (shared_frame arc) ≡ index) row.now.items at) }
     ensures none { IfNone result (
         lookup (is_at (nat_cmp index)) (keyed row.now.items) ≡ None) }
 {
+    // Indices strictly increase along the row, so the frame is at most as many places behind the first as its index is above.
     if let Some(first) = row.front() {
         let at = index.saturating_sub(first.frame_index()) as usize;
-        if is_of(row.get(at), index) {
+        if is_frame_with(row.get(at), index) {
             return Some(at);
         }
     }
-    if is_of(row.back(), index) {
+    if is_frame_with(row.back(), index) {
         return Some(row.len() - 1);
     }
     match row.binary_search_by_key(&index, |frame| frame.frame_index()) {
@@ -173,9 +177,9 @@ fn place_in(row: &VecDeque<Arc<FrameData>>, index: FrameIndex) -> Option<usize>
 }
 
 /// Returns whether there is a frame and it has this index.
-fn is_of(frame: Option<&Arc<FrameData>>, index: FrameIndex) -> bool
+fn is_frame_with(frame: Option<&Arc<FrameData>>, index: FrameIndex) -> bool
     ensures { result
-        ≡ option_map_or (λ a. nat_eq (index_of (shared_frame a.now)) index) frame.entry false }
+        ≡ option_map_or (λ arc. nat_eq (index_of (shared_frame arc.now)) index) frame.entry false }
 {
     match frame {
         Some(frame) => frame.frame_index() == index,
@@ -196,7 +200,7 @@ impl<'a> Iterator for FrameRowsIter<'a> {
 
     type Item = &'a Arc<FrameData>;
 
-    ghost next_gives = { YieldsFirstBy (λ x. x.now) frames_left };
+    ghost next_gives = { YieldsFirstBy (λ arc. arc.now) frames_left };
 
     ghost remaining = { item_count frames_left };
 

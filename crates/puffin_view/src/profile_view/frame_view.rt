@@ -39,15 +39,19 @@ use std::sync::Arc;
 pub struct FrameView {
     /// Each frame that is recent or slow, once, by its index.
     held: HeldFrames,
-    /// The indices of the recent frames.
+    /// The indices of the recent frames, oldest first.
     recent: VecDeque<FrameIndex>,
-    /// The ranks of the slowest frames.
+    /// The ranks of the slowest frames, longest first.
     slow: VecDeque<SlowRank>,
     /// The index of the frame added last.
     last: Option<FrameIndex>,
+    /// The maximum number of recent frames.
     max_recent: usize,
+    /// The maximum number of slowest frames.
     max_slow: usize,
+    /// Whether the newest frame is packed before another is added.
     pack_frames: bool,
+    /// The details of all scopes that any added frame listed.
     scope_collection: ScopeCollection,
 }
 
@@ -63,20 +67,20 @@ impl Model for FrameView {
     ghost use Rattle.puffin_view.specs.View.Ranking.{rank_index};
     ghost use Rattle.puffin_view.specs.inner.Store.{frames_under, IsStored};
 
-    ghost view = { λ v.
+    ghost view = { λ view.
         record {
           frames = record {
-            recent = frames_under v.held v.recent.items;
-            slow = frames_under v.held (map rank_index v.slow.items);
-            last = v.last;
-            max_recent = v.max_recent;
-            max_slow = v.max_slow;
-            packs = v.pack_frames;
+            recent = frames_under view.held view.recent.items;
+            slow = frames_under view.held (map rank_index view.slow.items);
+            last = view.last;
+            max_recent = view.max_recent;
+            max_slow = view.max_slow;
+            packs = view.pack_frames;
           };
-          scope_collection = v.scope_collection;
+          scope_collection = view.scope_collection;
         } };
 
-    ghost invariant = { λ v. IsStored v.held v.recent.items v.slow.items v.last };
+    ghost invariant = { λ view. IsStored view.held view.recent.items view.slow.items view.last };
 }
 
 impl FrameView {
@@ -120,7 +124,8 @@ impl FrameView {
 
     /// Returns the newest frame, or `None` if there is no recent one.
     pub fn latest_frame(&self) -> Option<&Arc<FrameData>>
-        ensures { option_map (λ a. shared_frame a.now) result ≡ last_in (view_of self.now).recent }
+        ensures { option_map (λ arc. shared_frame arc.now) result
+            ≡ last_in (view_of self.now).recent }
     {
         self.held.get(*self.recent.back()?)
     }

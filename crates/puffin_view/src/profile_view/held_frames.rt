@@ -34,9 +34,9 @@ impl Model for HeldFrames {
     ghost use Rattle.puffin_view.specs.inner.Held.{held_of, IsSummed};
     ghost use Rattle.puffin_view.specs.inner.Rows.{rows_of};
 
-    ghost view = { λ h. held_of (rows_of h.frames) };
+    ghost view = { λ held. held_of (rows_of held.frames) };
 
-    ghost invariant = { λ h. IsSummed (rows_of h.frames) h.sums };
+    ghost invariant = { λ held. IsSummed (rows_of held.frames) held.sums };
 }
 
 impl HeldFrames {
@@ -52,14 +52,15 @@ impl HeldFrames {
 
     /// Returns the frame with this index.
     pub fn get(&self, index: FrameIndex) -> Option<&Arc<FrameData>>
-        ensures { option_map (λ a. shared_frame a.now) result ≡ map.get self.now index }
+        ensures { option_map (λ arc. shared_frame arc.now) result ≡ map.get self.now index }
     {
         self.frames.get(index)
     }
 
     /// Adds a frame, whose index must be above all others. Fails only with `Memory`; nothing changes then.
     pub fn push(&mut self, frame: Arc<FrameData>) -> Result<()>
-        requires { (q : ℕ) → index_of (shared_frame frame) ≤ q → map.get self.old q ≡ None }
+        requires { (index : ℕ) → index_of (shared_frame frame) ≤ index →
+            map.get self.old index ≡ None }
         ensures ok { OnOk result (
             self.new
             ≡ map.insert self.old (index_of (shared_frame frame)) (shared_frame frame)) }

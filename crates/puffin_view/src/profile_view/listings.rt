@@ -15,6 +15,7 @@ use std::sync::Arc;
 #[must_use = "iterators are lazy and do nothing unless consumed"]
 #[derive(Drop)]
 pub struct RecentFrames<'a> {
+    /// The indices of the frames that are left.
     rest: vec_deque::Iter<'a, FrameIndex>,
     held: &'a HeldFrames,
 }
@@ -34,7 +35,7 @@ impl<'a> Iterator for RecentFrames<'a> {
 
     type Item = &'a Arc<FrameData>;
 
-    ghost next_gives = { YieldsFirstBy (λ x. shared_frame x.now) recent_left };
+    ghost next_gives = { YieldsFirstBy (λ arc. shared_frame arc.now) recent_left };
 
     ghost remaining = { item_count recent_left };
 
@@ -71,7 +72,7 @@ impl<'a> Iterator for AllFrames<'a> {
 
     type Item = &'a Arc<FrameData>;
 
-    ghost next_gives = { YieldsFirstBy (λ x. shared_frame x.now) all_left };
+    ghost next_gives = { YieldsFirstBy (λ arc. shared_frame arc.now) all_left };
 
     ghost remaining = { item_count all_left };
 
@@ -85,6 +86,7 @@ impl<'a> Iterator for AllFrames<'a> {
 #[must_use = "iterators are lazy and do nothing unless consumed"]
 #[derive(Drop)]
 pub struct SlowestFrames<'a> {
+    /// All frames that are left, slow or not.
     rest: FrameRowsIter<'a>,
     slow: &'a VecDeque<SlowRank>,
 }
@@ -104,7 +106,7 @@ impl<'a> Iterator for SlowestFrames<'a> {
 
     type Item = &'a Arc<FrameData>;
 
-    ghost next_gives = { YieldsFirstBy (λ x. shared_frame x.now) slowest_left };
+    ghost next_gives = { YieldsFirstBy (λ arc. shared_frame arc.now) slowest_left };
 
     ghost remaining = { item_count slowest_left };
 

@@ -10,7 +10,9 @@ use std::sync::Arc;
 /// Running sums over frames. They wrap around at `2 ^ 128`, which no sum over fewer than `2 ^ 64` frames reaches.
 #[derive(Clone, Copy, Debug)]
 pub(crate) struct RunningStats {
+    /// How many of the frames are held unpacked.
     unpacked_frames: u128,
+    /// How many bytes the frames take.
     bytes_of_ram_used: u128,
 }
 
@@ -25,7 +27,7 @@ impl RunningStats {
         }
     }
 
-    /// Adds one frame to the sums.
+    /// Adds one frame to the sums: whether it is held unpacked, and how many bytes it takes.
     pub fn raise(&mut self, is_unpacked: bool, bytes: usize)
         ensures { self.new ≡ record {
           unpacked_frames = wrapped_sum (self.old.unpacked_frames + number_if is_unpacked);

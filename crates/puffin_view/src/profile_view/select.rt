@@ -3,8 +3,8 @@ ghost use Rattle.std.specs.Prelude.{◌≡◌, ◌++◌, IfOk, OnOk, map, filter
 ghost use Rattle.std.specs.Option.{option_to_list};
 ghost use Rattle.puffin_data.specs.declared.error.Error.{Error};
 ghost use Rattle.puffin_view.specs.View.FrameOf.{frame_of, frames_of};
-ghost use Rattle.puffin_view.specs.View.Selection.{rank_at, ranks_from, old_place, IsSelection};
-ghost use Rattle.puffin_view.specs.inner.Selections.{slow_place};
+ghost use Rattle.puffin_view.specs.View.Selection.{rank_at, ranks_from, rank_by_index, IsSelection};
+ghost use Rattle.puffin_view.specs.inner.Selections.{rank_by_duration};
 
 use itertools::Itertools;
 use puffin_data::{NanoSecond, Result};
@@ -23,9 +23,9 @@ struct ByDuration {
 }
 
 impl ByDuration {
-    /// Makes the place of a frame.
+    /// Makes the place of a frame, given where it is in the list.
     fn of(frame: &FrameData, place: usize) -> ByDuration
-        ensures { slow_place result ≡ rank_at place (frame_of frame.now) }
+        ensures { rank_by_duration result ≡ rank_at place (frame_of frame.now) }
     {
         ByDuration {
             duration_ns: Reverse(frame.duration_ns()),
@@ -44,9 +44,10 @@ pub(super) struct ByIndex {
     duration_ns: NanoSecond,
 }
 
-/// Returns the places of all frames of a list. Fails only with `Memory`.
-fn slow_places(alloc: Global, frames: &[Arc<FrameData>]) -> Result<Vec<ByDuration>>
-    ensures ok { IfOk result (λ v. map slow_place v.items ≡ ranks_from 0 (frames_of frames.now)) }
+/// Returns the places of all frames of a list, in the order of the list. Fails only with `Memory`.
+fn places_by_duration(alloc: Global, frames: &[Arc<FrameData>]) -> Result<Vec<ByDuration>>
+    ensures ok { IfOk result (λ places.
+        map rank_by_duration places.items ≡ ranks_from 0 (frames_of frames.now)) }
     ensures cause { IsOkUnless result Error.Memory }
 {
     let mut places = Vec::with_capacity(alloc, frames.len())?;
@@ -57,8 +58,9 @@ fn slow_places(alloc: Global, frames: &[Arc<FrameData>]) -> Result<Vec<ByDuratio
 }
 
 /// Converts places to `ByIndex`, in the same order. Fails only with `Memory`.
-fn old_places(alloc: Global, slow: &[ByDuration]) -> Result<Vec<ByIndex>>
-    ensures ok { IfOk result (λ v. map old_place v.items ≡ map slow_place slow.now) }
+fn places_by_index(alloc: Global, slow: &[ByDuration]) -> Result<Vec<ByIndex>>
+    ensures ok { IfOk result (λ places.
+        map rank_by_index places.items ≡ map rank_by_duration slow.now) }
     ensures cause { IsOkUnless result Error.Memory }
 {
     let mut places = Vec::with_capacity(alloc, slow.len())?;
@@ -94,9 +96,10 @@ fn frames_at(
     frames: &[Arc<FrameData>],
     places: &[ByIndex],
 ) -> Result<Vec<Arc<FrameData>>>
-    ensures ok { IfOk result (λ v.
-        frames_of v.items ≡ filter_map (λ r. slice_get (frames_of frames.now) r.place) (
-        map old_place places.now)) }
+    ensures ok { IfOk result (λ chosen.
+        frames_of chosen.items
+        ≡ filter_map (λ rank. slice_get (frames_of frames.now) rank.place) (
+        map rank_by_index places.now)) }
     ensures cause { IsOkUnless result Error.Memory }
 {
     let mut all = Vec::with_capacity(alloc, places.len())?;
@@ -118,12 +121,14 @@ pub fn select_slowest(
     frames: &[Arc<FrameData>],
     max: usize,
 ) -> Result<Vec<Arc<FrameData>>>
-    ensures ok { IfOk result (λ v. IsSelection max (frames_of frames.now) (frames_of v.items)) }
+    ensures ok { IfOk result (λ chosen.
+        IsSelection max (frames_of frames.now) (frames_of chosen.items)) }
     ensures cause { IsOkUnless result Error.Memory }
 {
-    let places = slow_places(alloc, frames)?;
+    // First the slowest are chosen, by duration; then these are sorted by index.
+    let places = places_by_duration(alloc, frames)?;
     let ranked: Vec<ByDuration> = places.into_iter().sorted(alloc)?.take(max).collect(alloc)?;
-    let old = old_places(alloc, &ranked)?;
+    let old = places_by_index(alloc, &ranked)?;
     let chosen: Vec<ByIndex> = old.into_iter().sorted(alloc)?.collect(alloc)?;
     frames_at(alloc, frames, &chosen)
 }

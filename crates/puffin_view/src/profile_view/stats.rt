@@ -23,7 +23,7 @@ impl FrameStats {
     pub fn from_frames<'a, I: Iterator<Item = &'a Arc<FrameData>>>(frames: I) -> FrameStats
         requires can { I.can_next frames }
         requires finite { IsFinite (I.remaining frames) }
-        ensures { WholeRun I.next_gives frames (λ p. result ≡ stats_of (lent_frames p.items)) }
+        ensures { WholeRun I.next_gives frames (λ run. result ≡ stats_of (lent_frames run.items)) }
     {
         frames.fold(FrameStats::default(), |stats, frame| stats.with(frame))
     }

@@ -50,12 +50,13 @@ impl FrameView {
         // What may have changed if it fails.
         ensures err { OnErr result (FailsToAdd (shared_frame frame) self.old self.new) }
     {
+        // Checks all ids before it adds any details, so `MissingId` comes before any change.
         self.scope_collection.insert_all(&frame.scope_delta)?;
         self.take(frame)
     }
 
     /// Returns a view with the same settings, but with no frames and no details.
-    fn emptied(&self) -> FrameView
+    fn without_frames(&self) -> FrameView
         ensures frames { view_of result ≡ without_frames (view_of self.now) }
         ensures collection { collection_of result ≡ no_details }
     {
@@ -103,7 +104,8 @@ impl FrameView {
         Ok(())
     }
 
-    /// Adds a frame, whose index must be above that of the last frame taken. Fails only with `Memory`; nothing changes then.
+    /// Adds a frame, whose index must be above that of the last frame taken, and cuts both lists to their limits. Fails only
+    /// with `Memory`; nothing changes then.
     fn join(&mut self, frame: Arc<FrameData>) -> Result<()>
         requires { IsFalse (is_past (view_of self.old) (index_of (shared_frame frame))) }
         ensures ok { OnOk result (
@@ -112,6 +114,7 @@ impl FrameView {
         ensures cause { IsOkUnless result Error.Memory }
     {
         let rank = SlowRank::of(&frame);
+        // All that can fail comes first, so that an error changes nothing.
         self.recent.reserve(1)?;
         self.slow.reserve(1)?;
         self.held.push(frame)?;
@@ -145,7 +148,8 @@ impl FrameView {
         ensures steady { IsSteady (view_of self.old) }
     {
         if self.is_past(frame.frame_index()) {
-            let mut anew = self.emptied();
+            // The old frames are dropped only after the frame has joined the new view, which may fail.
+            let mut anew = self.without_frames();
             anew.join(frame)?;
             mem::swap(&mut anew.scope_collection, &mut self.scope_collection);
             *self = anew;

@@ -12,8 +12,9 @@ impl FrameView {
     pub fn clear_slowest(&mut self)
         ensures frames { self.new
             ≡ with_frames self.old (record (view_of self.old) { slow = [] }) }
-        ensures holds { (cs ds : List PacketFields) → Holds cs ds (view_of self.old) →
-            Holds cs [] (view_of self.new) }
+        ensures holds { (for_recent for_slow : List PacketFields) →
+            Holds for_recent for_slow (view_of self.old) →
+            Holds for_recent [] (view_of self.new) }
     {
         cut_slow(&mut self.held, &self.recent, &mut self.slow, 0);
     }

@@ -12,5 +12,6 @@ invariant-empty l = record {
 abbrev pub invariant-nodes : goal.invariant-nodes
 invariant-nodes l = record {
   size : vec_len l.rows ≡ vec_len l.ordered_nodes + 1;
-  forests : HoldForests l.table.nodes.items l.frames l.rows.items (drop l.i l.ordered_nodes.items) (drop l.i l.placements.items);
+  forests : HoldForests l.table.nodes.items l.frames l.rows.items (drop l.i l.ordered_nodes.items)
+      (drop l.i l.placements.items);
 }

@@ -1,3 +1,4 @@
+-- A call alone, and the same after the frames before it.
 use Rattle.puffin_view.proofs.lemmas.FilesRead.{given_more, all_given, fault_given}
 use Rattle.puffin_view.proofs.profile_view.frame_file.next_frame.Goals as goal
 

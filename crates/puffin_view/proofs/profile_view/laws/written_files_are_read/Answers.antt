@@ -5,11 +5,13 @@ use Rattle.puffin_view.proofs.profile_view.laws.written_files_are_read.Goals as 
 
 pub returns-clause-again : goal.returns-clause-again
 returns-clause-again c cs end all few stops ids =
-    file_again cs end c.written_is_read.ensures.again all few stops ∙ ap (λ (b : Bool). unless_missing b (map packed cs) (drop 4 end)) ids
+    file_again cs end c.written_is_read.ensures.again all few stops
+    ∙ ap (λ (b : Bool). unless_missing b (map packed cs) (drop 4 end)) ids
 
 pub returns-clause-missing : goal.returns-clause-missing
 returns-clause-missing c cs end all few stops ids =
-    file_again cs end c.written_is_read.ensures.again all few stops ∙ ap (λ (b : Bool). unless_missing b (map packed cs) (drop 4 end)) ids
+    file_again cs end c.written_is_read.ensures.again all few stops
+    ∙ ap (λ (b : Bool). unless_missing b (map packed cs) (drop 4 end)) ids
 
 pub returns-clause-one_list : goal.returns-clause-one_list
 returns-clause-one_list c cs ds p q e = files_apart cs ds c.written_is_read.ensures.alone p q e

@@ -1,3 +1,4 @@
+-- The loop has added the streams so far, in the order of their threads.
 use Rattle.std.proofs.Common.{[], rules, refl, ap, subst, sym, ◌∙◌}
 use Rattle.std.proofs.lemmas.Map.Iter.{rest_more}
 use Rattle.std.proofs.lemmas.Result.{err_from_is_err_and}
@@ -17,7 +18,9 @@ streams-init c = record { before = []; whole = search rules; totals = refl }
 pub streams-preserved : goal.streams-preserved
 streams-preserved c =
     let left = rest_more deref_pair _ _ _ _ c.in-Some.is c.next.ensures.steps in
-    one_added _ _ _ _ _ _ _ left (c.in_ok-add_stream.ensures.ok ∙ ap (λ i. with_stream (by_key c.streams.self.totals.entries) (key_of c.in-Some.thread.now, facts_of i)) c.deref.ensures) c.streams.invariant
+    one_added _ _ _ _ _ _ _ left (c.in_ok-add_stream.ensures.ok
+    ∙ ap (λ i. with_stream (by_key c.streams.self.totals.entries) (key_of c.in-Some.thread.now, facts_of i))
+    c.deref.ensures) c.streams.invariant
 
 pub returns-clause-ok : goal.returns-clause-ok
 returns-clause-ok c =
@@ -28,4 +31,5 @@ pub returns-in_err-add_stream-clause-err : goal.returns-in_err-add_stream-clause
 returns-in_err-add_stream-clause-err c =
     let sorted : IsStrictlySortedBy thread_cmp (keys_of c.args.frame.now.thread_streams.entries) = search rules in
     let answer = err_from_is_err_and c.from_residual.result c.from_residual.ensures.1 in
-    rw answer.1 (subst (λ es. HasSome (by_key c.args.self.now.totals.entries) (streams_held c.args.frame.now) (by_key es)) (sym c.in_err-add_stream.ensures.err) (some_added _ _ _ _ c.streams.invariant sorted))
+    rw answer.1 (subst (λ es. HasSome (by_key c.args.self.now.totals.entries) (streams_held c.args.frame.now)
+    (by_key es)) (sym c.in_err-add_stream.ensures.err) (some_added _ _ _ _ c.streams.invariant sorted))

@@ -4,4 +4,5 @@ use Rattle.puffin_view.proofs.ThreadsTotaled.{Added}
 use Rattle.puffin_view.proofs.thread_totals.AllTotals.add.Given as goal
 
 abbrev pub invariant-streams : goal.invariant-streams
-invariant-streams l = Added (by_key l.initial.self.totals.entries) l.frame.thread_streams.entries l.thread-iterator (by_key l.self.totals.entries)
+invariant-streams l = Added (by_key l.initial.self.totals.entries) l.frame.thread_streams.entries l.thread-iterator
+    (by_key l.self.totals.entries)

@@ -11,17 +11,21 @@ use Rattle.puffin_merge.proofs.merge.merger.Merger.add_counted.Goals as goal
 pub returns-in_err-read_frame-clause-refused : goal.returns-in_err-read_frame-clause-refused
 returns-in_err-read_frame-clause-refused c =
     let p = err_from_is_err_and c.from_residual.result c.from_residual.ensures.1 in
-    let fits : FitsSigned w64 c.first_with-first.result = omega (arith, ints, c.first_with-first.type_inv) in
+    let fits : FitsSigned w64 c.start_of_first-first.result = omega (arith, ints, c.start_of_first-first.type_inv) in
     let f = frame_bytes (key_of c.args.self.now.info.now) c.args.frame.now in
     rw (p.1, p.2) (λ added later h.
     one_refused added f later c.args.self.now _ c.read_frame.new.merging c.read_frame.new.tries _ h refl
-    (ap (λ (t : ℤ). f.start -ℤ t) (passed_64 c.first_with-first.result fits ∙ first_of_more added f later c.args.self.now c.first_with-first.result h c.first_with-first.ensures.none c.first_with-first.ensures.some))
+    (ap (λ (t : ℤ). f.start -ℤ t)
+    (passed_64 c.start_of_first-first.result fits ∙ first_of_more added f later c.args.self.now
+    c.start_of_first-first.result h c.start_of_first-first.ensures.none c.start_of_first-first.ensures.some))
     c.in_err-read_frame.ensures.err)
 
 pub returns-clause-added : goal.returns-clause-added
 returns-clause-added c =
-    let fits : FitsSigned w64 c.first_with-first.result = omega (arith, ints, c.first_with-first.type_inv) in
+    let fits : FitsSigned w64 c.start_of_first-first.result = omega (arith, ints, c.start_of_first-first.type_inv) in
     let f = frame_bytes (key_of c.args.self.now.info.now) c.args.frame.now in
     λ added h.
-    let first = passed_64 c.first_with-first.result fits ∙ first_of_more added f [] c.args.self.now c.first_with-first.result h c.first_with-first.ensures.none c.first_with-first.ensures.some in
-    one_added added f c.args.self.now _ _ c.read_frame.new.tries h refl (ap (λ (t : ℤ). f.start -ℤ t) first) c.in_ok-read_frame.ensures.ok c.in_ok-read_frame.ensures.short refl first
+    let first = passed_64 c.start_of_first-first.result fits ∙ first_of_more added f [] c.args.self.now
+    c.start_of_first-first.result h c.start_of_first-first.ensures.none c.start_of_first-first.ensures.some in
+    one_added added f c.args.self.now _ _ c.read_frame.new.tries h refl (ap (λ (t : ℤ). f.start -ℤ t) first)
+    c.in_ok-read_frame.ensures.ok c.in_ok-read_frame.ensures.short refl first

@@ -19,19 +19,24 @@ use Rattle.puffin_merge.proofs.Adding.{none_added, all_merged, all_refused}
 use Rattle.puffin_merge.proofs.merge.merger.Merger.finish.Goals as goal
 
 merged_of : (m : Merger) (r : Result (Vec MergeScope Global) Error)
-    → IfOk r (λ merged. (all : List Occurrence) → IsTableOf all m.merging.table → IsMerge all m.frames (forest_in merged.items) × EndsFit (forest_in merged.items))
-    → IfOk r (λ merged. (added : List FrameBytes) → (h : HasAdded added m) → (x : AreMerged added (forest_in merged.items)) × (tries_for h ≡ length (occurrences x.scopes)))
+    → IfOk r (λ merged. (all : List Occurrence) → IsTableOf all m.merging.table
+    → IsMerge all m.frames (forest_in merged.items) × EndsFit (forest_in merged.items))
+    → IfOk r (λ merged. (added : List FrameBytes) → (h : HasAdded added m)
+    → (x : AreMerged added (forest_in merged.items)) × (tries_for h ≡ length (occurrences x.scopes)))
 merged_of m (Err e) k = tt
 merged_of m (Ok merged) k = λ added h. all_merged added m h (Ok merged) k
 
 refused_of : (m : Merger) (r : Result (Vec MergeScope Global) Error)
-    → IfErr r (λ e. (e ≡ Memory) ⊎ ((e ≡ TooLarge) × ((all : List Occurrence) → IsTableOf all m.merging.table → (f : MergedForest) × IsMerge all m.frames f × (EndsFit f → ⊥))))
-    → IfErr r (λ e. (added : List FrameBytes) → (h : HasAdded added m) → (e ≡ Memory) ⊎ IsRefusalAfter added (tries_for h) e)
+    → IfErr r (λ e. (e ≡ Memory) ⊎ ((e ≡ TooLarge) × ((all : List Occurrence) → IsTableOf all m.merging.table
+    → (f : MergedForest) × IsMerge all m.frames f × (EndsFit f → ⊥))))
+    → IfErr r (λ e. (added : List FrameBytes) → (h : HasAdded added m)
+    → (e ≡ Memory) ⊎ IsRefusalAfter added (tries_for h) e)
 refused_of m (Ok merged) k = tt
 refused_of m (Err e) k = λ added h. all_refused added m h e k
 
 pub returns-then-self-eq0-clause-merged : goal.returns-then-self-eq0-clause-merged
-returns-then-self-eq0-clause-merged c = λ added h. rw c.new.ensures.items (none_added added c.args.self h (grind (arith, nat_tests, c.if-self-eq0.true)))
+returns-then-self-eq0-clause-merged c =
+    λ added h. rw c.new.ensures.items (none_added added c.args.self h (grind (arith, nat_tests, c.if-self-eq0.true)))
 
 pub returns-clause-merged : goal.returns-clause-merged
 returns-clause-merged c = merged_of c.args.self c.tree_of.result c.tree_of.ensures.ok

@@ -7,6 +7,7 @@ use Rattle.puffin_merge.proofs.merge.scope.MergeScope.+into_owned.Given as goal
 
 abbrev pub invariant-loop-child : goal.invariant-loop-child
 invariant-loop-child l = record {
-  children : forest_in (l.owned.items ++ l.child-iterator.rest.items) ≡ forest_in (out-MergeScope l.fn.self).children.items;
+  children : forest_in (l.owned.items ++ l.child-iterator.rest.items)
+      ≡ forest_in (out-MergeScope l.fn.self).children.items;
   text : cow_str_bytes l.text ≡ cow_str_bytes l.initial.text;
 }

@@ -1,3 +1,4 @@
+-- The frames are the values of the map and then the row.
 use Rattle.std.proofs.Common.{◌++◌, sym, ◌∙◌}
 use Rattle.puffin_view.proofs.RowPlaces.{values-rows}
 use Rattle.puffin_view.proofs.profile_view.frame_rows.FrameRows.iter.Goals as goal

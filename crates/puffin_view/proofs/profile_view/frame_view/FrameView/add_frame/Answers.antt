@@ -17,11 +17,14 @@ pub returns-clause-holds : goal.returns-clause-holds
 returns-clause-holds c =
     let f = shared_frame c.args.frame in
     let was = ap view_of c.self.view_is in
-    on_ok_weaker c.take.result (λ e. HoldsAlso-taking _ _ f (subst IsSteady was c.take.ensures.steady) (e ∙ ap (λ v. after_taking v f) was)) c.take.ensures.ok
+    on_ok_weaker c.take.result (λ e. HoldsAlso-taking _ _ f (subst IsSteady was c.take.ensures.steady)
+    (e ∙ ap (λ v. after_taking v f) was)) c.take.ensures.ok
 
-learnt : (c : goal.After-take) → collection_of c.take.new.self ≡ with_all_details (collection_of c.args.self.now) (details_of_frame (shared_frame c.args.frame))
+learnt : (c : goal.After-take) → collection_of c.take.new.self
+    ≡ with_all_details (collection_of c.args.self.now) (details_of_frame (shared_frame c.args.frame))
 learnt c =
-    c.take.ensures.collection ∙ (c.in_ok-insert_all.ensures.ok ∙ (ap (with_all_details c.self.inside.scope_collection) (ap shared_details c.deref-2.ensures.value ∙ ap (λ f. details_of_frame (frame_of f)) c.deref.ensures)
+    c.take.ensures.collection ∙ (c.in_ok-insert_all.ensures.ok ∙ (ap (with_all_details c.self.inside.scope_collection)
+    (ap shared_details c.deref-2.ensures.value ∙ ap (λ f. details_of_frame (frame_of f)) c.deref.ensures)
     ∙ ap (λ v. with_all_details (collection_of v) (details_of_frame (shared_frame c.args.frame))) c.self.view_is))
 
 pub returns-clause-ok : goal.returns-clause-ok
@@ -32,7 +35,8 @@ returns-clause-ok c =
     on_ok_weaker c.take.result (λ e. record {
       frames = e ∙ ap (λ v. after_taking v f) was;
       learnt = learnt c;
-      ids = sym (ap (list_any lacks_id) (ap shared_details c.deref-2.ensures.value ∙ ap (λ f. details_of_frame (frame_of f)) c.deref.ensures)) ∙ ids;
+      ids = sym (ap (list_any lacks_id) (ap shared_details c.deref-2.ensures.value
+          ∙ ap (λ f. details_of_frame (frame_of f)) c.deref.ensures)) ∙ ids;
     }) c.take.ensures.ok
 
 pub returns-clause-err : goal.returns-clause-err
@@ -48,6 +52,8 @@ pub returns-in_err-insert_all-clause-err : goal.returns-in_err-insert_all-clause
 returns-in_err-insert_all-clause-err c =
     let p = err_from_is_err_and c.from_residual.result c.from_residual.ensures.1 in
     let P : List Details → Type 0 = λ ds. LearnsSome c.self.inside.scope_collection ds c.insert_all.new.self in
-    let Q : KnownView → Type 0 = λ v. LearnsSome (collection_of v) (details_of_frame (shared_frame c.args.frame)) c.insert_all.new.self in
-    let some = subst P (ap shared_details c.deref-2.ensures.value ∙ ap (λ f. details_of_frame (frame_of f)) c.deref.ensures) c.in_err-insert_all.ensures.err in
+    let Q : KnownView → Type 0 =
+    λ v. LearnsSome (collection_of v) (details_of_frame (shared_frame c.args.frame)) c.insert_all.new.self in
+    let some = subst P (ap shared_details c.deref-2.ensures.value
+    ∙ ap (λ f. details_of_frame (frame_of f)) c.deref.ensures) c.in_err-insert_all.ensures.err in
     rw p.1 (record { frames = inl (ap view_of c.self.view_is); known = subst Q c.self.view_is some })

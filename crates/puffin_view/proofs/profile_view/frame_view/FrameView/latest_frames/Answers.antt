@@ -1,3 +1,4 @@
+-- The last recent indices hold the last recent frames.
 use Rattle.std.proofs.Common.{◌≡◌, ◌-◌, ap, ◌∙◌, length, arith}
 use Rattle.std.specs.FinMap as fin
 use Rattle.std.specs.List.{filter_map}
@@ -14,5 +15,7 @@ returns c =
     let first : c.saturating_sub-first.result ≡ deque_len s.recent - c.args.n = omega arith in
     ap (λ m. filter_map (fin.get m) (deque_iter_rest c.new.result.rest)) c.new.ensures.held
     ∙ ap (λ r. filter_map (fin.get s.held) (deque_iter_rest r)) c.new.ensures.rest
-    ∙ ap (filter_map (fin.get s.held)) (c.range.ensures.rest ∙ range_last s.recent.items (deque_len s.recent) c.saturating_sub-first.result c.args.n as_many first)
-    ∙ last_frames s.held s.recent.items s.slow.items s.last c.args.n _ _ c.self.invariant ∙ ap (λ v. last_of c.args.n v.frames.recent) c.self.view_is
+    ∙ ap (filter_map (fin.get s.held)) (c.range.ensures.rest
+    ∙ range_last s.recent.items (deque_len s.recent) c.saturating_sub-first.result c.args.n as_many first)
+    ∙ last_frames s.held s.recent.items s.slow.items s.last c.args.n _ _ c.self.invariant
+    ∙ ap (λ v. last_of c.args.n v.frames.recent) c.self.view_is

@@ -1,3 +1,4 @@
+-- Of all frames that are held, those whose index has a rank are the slow ones, in order.
 use Rattle.std.proofs.Common.{ap, ◌∙◌, map, List}
 use Rattle.std.specs.List.{filter}
 use Rattle.puffin_view.specs.declared.profile_view.slow_rank.SlowRank.{SlowRank}
@@ -15,5 +16,8 @@ pub returns : goal.returns
 unfolding slow_of
 returns c =
     let s = c.self.inside in
-    ap (λ q. slow_of q.items (frames_of (frames_left c.new.result.rest))) c.new.ensures.slow ∙ ap (λ r. slow_of s.slow.items (frames_of (frames_left r))) c.new.ensures.rest ∙ ap (slow_of s.slow.items) c.iter.ensures
-    ∙ slow_listed s.held s.recent.items s.slow.items s.last _ _ c.self.invariant ∙ ap (λ v. chronological v.frames.slow) c.self.view_is
+    ap (λ q. slow_of q.items (frames_of (frames_left c.new.result.rest))) c.new.ensures.slow
+    ∙ ap (λ r. slow_of s.slow.items (frames_of (frames_left r))) c.new.ensures.rest
+    ∙ ap (slow_of s.slow.items) c.iter.ensures
+    ∙ slow_listed s.held s.recent.items s.slow.items s.last _ _ c.self.invariant
+    ∙ ap (λ v. chronological v.frames.slow) c.self.view_is

@@ -1,3 +1,4 @@
+-- No frames, and sums of 0.
 use Rattle.puffin_view.specs.inner.Rows.{rows_of}
 use Rattle.puffin_view.proofs.HoldingViews.{none_summed}
 use Rattle.puffin_view.proofs.profile_view.held_frames.HeldFrames.new.Goals as goal

@@ -1,3 +1,4 @@
+-- The sums shrink by the old frame and grow by the new one.
 use Rattle.std.proofs.Common.{◌≡◌, sym, ap, subst, ◌∙◌, ◌+◌}
 use Rattle.std.specs.Prelude.{IsSome}
 use Rattle.std.specs.FinMap as fin
@@ -23,18 +24,27 @@ invariant_of-self c =
     let k = index_of (shared_frame c.args.frame) in
     let es = rows_of c.self.inside.frames in
     record {
-      unpacked_frames = sum_inserted unpacked_number es (rows_of c.replace-before.new.self) k c.args.frame c.replace-before.result
-          c.self.inside.sums.unpacked_frames c.lower.new.self.unpacked_frames c.raise.new.self.unpacked_frames c.replace-before.ensures.entries c.replace-before.ensures.old c.self.inside.frames.in_order c.self.invariant.unpacked_frames
-          c.lower.ensures.unpacked_frames (ap (λ s. s.unpacked_frames) c.raise.ensures ∙ ap (λ b. wrapped_sum (c.lower.new.self.unpacked_frames + number_if b)) (unpacked_is c));
+      unpacked_frames =
+          sum_inserted unpacked_number es (rows_of c.replace-before.new.self) k c.args.frame c.replace-before.result
+          c.self.inside.sums.unpacked_frames c.lower.new.self.unpacked_frames c.raise.new.self.unpacked_frames
+          c.replace-before.ensures.entries c.replace-before.ensures.old c.self.inside.frames.in_order
+          c.self.invariant.unpacked_frames
+          c.lower.ensures.unpacked_frames (ap (λ s. s.unpacked_frames) c.raise.ensures
+          ∙ ap (λ b. wrapped_sum (c.lower.new.self.unpacked_frames + number_if b)) (unpacked_is c));
       bytes = sum_inserted ram_taken es (rows_of c.replace-before.new.self) k c.args.frame c.replace-before.result
-          c.self.inside.sums.bytes_of_ram_used c.lower.new.self.bytes_of_ram_used c.raise.new.self.bytes_of_ram_used c.replace-before.ensures.entries c.replace-before.ensures.old c.self.inside.frames.in_order c.self.invariant.bytes
+          c.self.inside.sums.bytes_of_ram_used c.lower.new.self.bytes_of_ram_used c.raise.new.self.bytes_of_ram_used
+          c.replace-before.ensures.entries c.replace-before.ensures.old c.self.inside.frames.in_order
+          c.self.invariant.bytes
           c.lower.ensures.bytes
-          (ap (λ s. s.bytes_of_ram_used) c.raise.ensures ∙ ap (λ n. wrapped_sum (c.lower.new.self.bytes_of_ram_used + n)) (c.bytes_of_ram_used-bytes.ensures ∙ ram_says c.deref-2.result.now ∙ ap (λ f. ram_of (frame_of f)) c.deref-2.ensures));
+          (ap (λ s. s.bytes_of_ram_used) c.raise.ensures
+          ∙ ap (λ n. wrapped_sum (c.lower.new.self.bytes_of_ram_used + n)) (c.bytes_of_ram_used-bytes.ensures
+          ∙ ram_says c.deref-2.result.now ∙ ap (λ f. ram_of (frame_of f)) c.deref-2.ensures));
     }
 
 pub returns : goal.returns
 returns c =
     let k = index_of (shared_frame c.args.frame) in
     let es = rows_of c.self.inside.frames in
-    held_of-inserted es (rows_of c.replace-before.new.self) k c.args.frame (λ q. ap (lookup (at q)) c.replace-before.ensures.entries ∙ lookup-insert k c.args.frame es q)
+    held_of-inserted es (rows_of c.replace-before.new.self) k c.args.frame
+    (λ q. ap (lookup (at q)) c.replace-before.ensures.entries ∙ lookup-insert k c.args.frame es q)
     ∙ ap (λ m. fin.insert m k (shared_frame c.args.frame)) c.self.view_is

@@ -1,3 +1,4 @@
+-- The rows are the same, and so are their sums.
 use Rattle.std.proofs.Common.{sym, ap, subst, ◌∙◌}
 use Rattle.puffin_view.specs.inner.Held.{held_of, IsSummed}
 use Rattle.puffin_view.proofs.profile_view.held_frames.HeldFrames.set_aside.Goals as goal

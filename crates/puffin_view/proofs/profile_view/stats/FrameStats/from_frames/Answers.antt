@@ -1,3 +1,4 @@
+-- The fold counts each frame of the run.
 use Rattle.std.proofs.Common.{◌≡◌, rules, of_calls, [], ◌∙◌}
 use Rattle.puffin_view.specs.View.Stats.{stats_of}
 use Rattle.puffin_view.proofs.CountingPieces.{with_lent, counted}
