@@ -5,7 +5,7 @@ use Rattle.std.specs.List.{flat_map}
 use Rattle.std.proofs.lemmas.List.Sums.{sum_by-cons}
 use Rattle.history.specs.Entries.{events, front_if, entries_by}
 use Rattle.puffin.specs.Happenings.{Happening, reported, framed, marked, arrived, released, saw_arrived, saw_released, left, if_marked, releases_of, num_arrived, num_released, frames_in, IsSeen, AreSeen, History}
-use Rattle.puffin.specs.Rounds.{until, MayDo, closed_then, KeepsStep, parts_then, frames_then, TakesInTurn}
+use Rattle.puffin.specs.Rounds.{until, MayDo, released_then, KeepsStep, parts_then, frames_then, TakesInTurn}
 use Rattle.puffin.specs.Taking.{FramesOnce}
 use Rattle.puffin.proofs.Growing.{arrived-both, released-both}
 
@@ -47,17 +47,17 @@ seen_front parts rounds (x ∷ xs) ys seen = (seen.0, seen_front parts rounds xs
 
 pub steps_front : (parts rounds : ℕ) (xs ys : List Happening) → KeepsStep parts rounds (xs ++ ys) → KeepsStep parts rounds xs
 steps_front parts rounds [] ys steps = tt
-steps_front parts rounds (x ∷ xs) ys steps = (steps.0, steps_front (parts + num_arrived (x ∷ [])) (closed_then rounds x) xs ys steps.1)
+steps_front parts rounds (x ∷ xs) ys steps = (steps.0, steps_front (parts + num_arrived (x ∷ [])) (released_then rounds x) xs ys steps.1)
 
-pub closes_none : (parts rounds : ℕ) (hs : List Happening) → KeepsStep parts rounds hs → flat_map (if_marked releases_of) hs ≡ []
-closes_none parts rounds [] steps = refl
-closes_none parts rounds (reported i r ∷ hs) steps = closes_none (parts + 0) rounds hs steps.1
-closes_none parts rounds (framed streams ∷ hs) steps = absurd steps.0
-closes_none parts rounds (marked arrived ∷ hs) steps = closes_none (parts + 1) rounds hs steps.1
-closes_none parts rounds (marked released ∷ hs) steps = absurd steps.0
-closes_none parts rounds (marked (saw_arrived n) ∷ hs) steps = absurd steps.0
-closes_none parts rounds (marked (saw_released n) ∷ hs) steps = closes_none (parts + 0) n hs steps.1
-closes_none parts rounds (marked left ∷ hs) steps = absurd steps.0
+pub releases_none : (parts rounds : ℕ) (hs : List Happening) → KeepsStep parts rounds hs → flat_map (if_marked releases_of) hs ≡ []
+releases_none parts rounds [] steps = refl
+releases_none parts rounds (reported i r ∷ hs) steps = releases_none (parts + 0) rounds hs steps.1
+releases_none parts rounds (framed streams ∷ hs) steps = absurd steps.0
+releases_none parts rounds (marked arrived ∷ hs) steps = releases_none (parts + 1) rounds hs steps.1
+releases_none parts rounds (marked released ∷ hs) steps = absurd steps.0
+releases_none parts rounds (marked (saw_arrived n) ∷ hs) steps = absurd steps.0
+releases_none parts rounds (marked (saw_released n) ∷ hs) steps = releases_none (parts + 0) n hs steps.1
+releases_none parts rounds (marked left ∷ hs) steps = absurd steps.0
 
 -- it does at most one part more than rounds are closed
 pub few_parts : (a most parts rounds : ℕ) (hs : List Happening) → KeepsStep parts rounds hs → AllSeen a most hs → rounds ≤ most → parts ≤ suc rounds → parts + num_arrived hs ≤ suc most
@@ -81,20 +81,20 @@ waits_then a most parts rounds (marked (saw_arrived n)) may seen few at = may
 waits_then a most parts rounds (marked (saw_released n)) may seen few at = omega (arith, may, seen, at)
 waits_then a most parts rounds (marked left) may seen few at = may
 
-closed_few : (a most rounds : ℕ) (h : Happening) → IsSeen a most h → rounds ≤ most → closed_then rounds h ≤ most
-closed_few a most rounds (reported i r) seen few = few
-closed_few a most rounds (framed streams) seen few = few
-closed_few a most rounds (marked arrived) seen few = few
-closed_few a most rounds (marked released) seen few = few
-closed_few a most rounds (marked (saw_arrived n)) seen few = few
-closed_few a most rounds (marked (saw_released n)) seen few = seen
-closed_few a most rounds (marked left) seen few = few
+few_released : (a most rounds : ℕ) (h : Happening) → IsSeen a most h → rounds ≤ most → released_then rounds h ≤ most
+few_released a most rounds (reported i r) seen few = few
+few_released a most rounds (framed streams) seen few = few
+few_released a most rounds (marked arrived) seen few = few
+few_released a most rounds (marked released) seen few = few
+few_released a most rounds (marked (saw_arrived n)) seen few = few
+few_released a most rounds (marked (saw_released n)) seen few = seen
+few_released a most rounds (marked left) seen few = few
 
 -- what it told until then is all until that part
 pub cut_there : (a most parts rounds : ℕ) (p q : List Happening) → KeepsStep parts rounds (p ++ q) → AllSeen a most p → rounds ≤ most → parts + num_arrived p ≡ suc most → p ≡ until (num_arrived p) (p ++ q)
 cut_there a most parts rounds [] q steps seen few whole = refl
 cut_there a most parts rounds (h ∷ p) q steps seen few whole =
-    at (num_arrived (h ∷ p)) refl (cut_there a most (parts + num_arrived (h ∷ [])) (closed_then rounds h) p q steps.1 seen.1 (closed_few a most rounds h seen.0 few) (omega (arith, whole, arrived-both (h ∷ []) p)))
+    at (num_arrived (h ∷ p)) refl (cut_there a most (parts + num_arrived (h ∷ [])) (released_then rounds h) p q steps.1 seen.1 (few_released a most rounds h seen.0 few) (omega (arith, whole, arrived-both (h ∷ []) p)))
   where
     at : (n : ℕ) → num_arrived (h ∷ p) ≡ n → p ≡ until (num_arrived p) (p ++ q) → h ∷ p ≡ until n (h ∷ (p ++ q))
     at zero is rest = absurd (waits_then a most parts rounds h steps.0 seen.0 few (omega (arith, whole, is)))

@@ -23,7 +23,7 @@ use Rattle.puffin.specs.Places.{num_known}
 use Rattle.puffin.specs.Guards.{BeginsAt, EndsIn}
 use Rattle.puffin.specs.Code.{Code, nothing, scope, Runs, AreScopesOf, AreTurns, followed_by, scope_if, span_at}
 use Rattle.puffin.specs.Happenings.{Happening, Mark, reported, marked, arrived, saw_released, unless_marked, unmarked, num_arrived}
-use Rattle.puffin.specs.Rounds.{until, closed_then, KeepsStep, HasRunRounds, HasRunRoundsAs, HasLedRoundsAs}
+use Rattle.puffin.specs.Rounds.{until, released_then, KeepsStep, HasRunRounds, HasRunRoundsAs, HasLedRoundsAs}
 use Rattle.puffin.specs.Telling.{KeepsReports, HasRun, RunsAs, LeadsAs}
 use Rattle.puffin.proofs.Growing.{arrived-both}
 use Rattle.puffin.proofs.lemmas.StartedThreads.{HasStarted}
@@ -33,18 +33,18 @@ use Rattle.puffin.proofs.TellingCode.{keeps_unmarked, adds_code, moved, reports_
 
 -- ---- lists
 
-abbrev pub closed_in : ℕ → List Happening → ℕ
-closed_in rounds [] = rounds
-closed_in rounds (h ∷ hs) = closed_in (closed_then rounds h) hs
+abbrev pub last_seen : ℕ → List Happening → ℕ
+last_seen rounds [] = rounds
+last_seen rounds (h ∷ hs) = last_seen (released_then rounds h) hs
 
-closed_both : (rounds : ℕ) (xs ys : List Happening) → closed_in rounds (xs ++ ys) ≡ closed_in (closed_in rounds xs) ys
-closed_both rounds [] ys = refl
-closed_both rounds (x ∷ xs) ys = closed_both (closed_then rounds x) xs ys
+last_seen_both : (rounds : ℕ) (xs ys : List Happening) → last_seen rounds (xs ++ ys) ≡ last_seen (last_seen rounds xs) ys
+last_seen_both rounds [] ys = refl
+last_seen_both rounds (x ∷ xs) ys = last_seen_both (released_then rounds x) xs ys
 
-steps_both : (parts rounds : ℕ) (xs ys : List Happening) → KeepsStep parts rounds xs → KeepsStep (parts + num_arrived xs) (closed_in rounds xs) ys → KeepsStep parts rounds (xs ++ ys)
+steps_both : (parts rounds : ℕ) (xs ys : List Happening) → KeepsStep parts rounds xs → KeepsStep (parts + num_arrived xs) (last_seen rounds xs) ys → KeepsStep parts rounds (xs ++ ys)
 steps_both parts rounds [] ys steps then_steps = subst (λ (n : ℕ). KeepsStep n rounds ys) (omega arith) then_steps
 steps_both parts rounds (x ∷ xs) ys steps then_steps =
-    (steps.0, steps_both (parts + num_arrived (x ∷ [])) (closed_then rounds x) xs ys steps.1 (subst (λ (n : ℕ). KeepsStep n (closed_in (closed_then rounds x) xs) ys) (omega (arith, arrived-both (x ∷ []) xs)) then_steps))
+    (steps.0, steps_both (parts + num_arrived (x ∷ [])) (released_then rounds x) xs ys steps.1 (subst (λ (n : ℕ). KeepsStep n (last_seen (released_then rounds x) xs) ys) (omega (arith, arrived-both (x ∷ []) xs)) then_steps))
 
 reports_step : (parts rounds : ℕ) (key : ThreadKey) (rs : List StreamFacts) → rounds ≡ parts → KeepsStep parts rounds (under key rs)
 reports_step parts rounds key [] same = tt
@@ -54,9 +54,9 @@ no_part : (key : ThreadKey) (rs : List StreamFacts) → num_arrived (under key r
 no_part key [] = refl
 no_part key (r ∷ rs) = no_part key rs
 
-none_closed : (rounds : ℕ) (key : ThreadKey) (rs : List StreamFacts) → closed_in rounds (under key rs) ≡ rounds
-none_closed rounds key [] = refl
-none_closed rounds key (r ∷ rs) = none_closed rounds key rs
+none_seen : (rounds : ℕ) (key : ThreadKey) (rs : List StreamFacts) → last_seen rounds (under key rs) ≡ rounds
+none_seen rounds key [] = refl
+none_seen rounds key (r ∷ rs) = none_seen rounds key rs
 
 until_stays : (parts : ℕ) (xs ys : List Happening) → parts ≤ num_arrived xs → until parts (xs ++ ys) ≡ until parts xs
 until_stays zero xs ys few = refl
@@ -117,7 +117,7 @@ module _ {C R : Type 0} (tells : R → List Happening) (is : ℕ → Code → Ty
     pub adds : Adds (fresh name known) (at now) forest
     pub step : KeepsStep 0 0 (own now)
     pub parts : num_arrived (own now) ≡ turn
-    pub closed : closed_in 0 (own now) ≡ turn
+    pub closed : last_seen 0 (own now) ≡ turn
     pub each : (round : ℕ) → round < turn → (so_far : Code) × (waits : ℕ) × AreTurns is (suc round) so_far × HasRun name Short known so_far [] (until (suc round) (own now)) waits
 
   pub first_turn : (now : Thread C R) → thread_of (profiler_of now) ≡ new_thread name Short → num_known (scopes_of now) ≡ known → own now ≡ [] → AfterRounds 0 now
@@ -129,7 +129,7 @@ module _ {C R : Type 0} (tells : R → List Happening) (is : ℕ → Code → Ty
     adds = subst (λ s. Adds (fresh name known) s empty) (sym there) (adds_nothing (fresh name known));
     step = subst (KeepsStep 0 0) (sym none) tt;
     parts = ap num_arrived none;
-    closed = ap (closed_in 0) none;
+    closed = ap (last_seen 0) none;
     each = λ round below. absurd (omega (arith, below));
   }
     where
@@ -191,8 +191,8 @@ module _ {C R : Type 0} (tells : R → List Happening) (is : ℕ → Code → Ty
     tail_step : KeepsStep turn turn tail
     tail_step =
         steps_both turn turn more (marked arrived ∷ marked (saw_released (turn + 1)) ∷ []) (reports_step turn turn (key_at (raw new)) passed.1.streams refl)
-        (subst (λ (n : ℕ). KeepsStep n (closed_in turn more) (marked arrived ∷ marked (saw_released (turn + 1)) ∷ [])) (omega (arith, no_part (key_at (raw new)) passed.1.streams))
-        (subst (λ (n : ℕ). KeepsStep turn n (marked arrived ∷ marked (saw_released (turn + 1)) ∷ [])) (sym (none_closed turn (key_at (raw new)) passed.1.streams)) (refl, (refl, tt))))
+        (subst (λ (n : ℕ). KeepsStep n (last_seen turn more) (marked arrived ∷ marked (saw_released (turn + 1)) ∷ [])) (omega (arith, no_part (key_at (raw new)) passed.1.streams))
+        (subst (λ (n : ℕ). KeepsStep turn n (marked arrived ∷ marked (saw_released (turn + 1)) ∷ [])) (sym (none_seen turn (key_at (raw new)) passed.1.streams)) (refl, (refl, tt))))
 
     each_so_far : (round : ℕ) → (round < turn) ⊎ (round ≡ turn) → (so_far : Code) × (waits : ℕ) × AreTurns is (suc round) so_far × HasRun name Short known so_far [] (until (suc round) (own last)) waits
     each_so_far round (inl below) =
@@ -213,9 +213,9 @@ module _ {C R : Type 0} (tells : R → List Happening) (is : ℕ → Code → Ty
       scopes = all_scopes;
       adds = subst (λ s. Adds (fresh name known) s (append p.forest part.0)) (sym same) whole;
       step = subst (KeepsStep 0 0) (sym longer) (steps_both 0 0 (own now) tail p.step
-          (subst (λ (n : ℕ). KeepsStep n (closed_in 0 (own now)) tail) (omega (arith, p.parts)) (subst (λ (n : ℕ). KeepsStep turn n tail) (sym p.closed) tail_step)));
+          (subst (λ (n : ℕ). KeepsStep n (last_seen 0 (own now)) tail) (omega (arith, p.parts)) (subst (λ (n : ℕ). KeepsStep turn n tail) (sym p.closed) tail_step)));
       parts = omega (arith, ap num_arrived own_last, arrived-both (own now ++ more) (marked arrived ∷ marked (saw_released (turn + 1)) ∷ []), arrived_now);
-      closed = ap (closed_in 0) own_last ∙ closed_both 0 (own now ++ more) (marked arrived ∷ marked (saw_released (turn + 1)) ∷ []) ∙ omega arith;
+      closed = ap (last_seen 0) own_last ∙ last_seen_both 0 (own now ++ more) (marked arrived ∷ marked (saw_released (turn + 1)) ∷ []) ∙ omega arith;
       each = λ round below. each_so_far round (which round turn below);
     }
 
@@ -247,7 +247,7 @@ module _ {C R : Type 0} (tells : R → List Happening) (is : ℕ → Code → Ty
     are = (turn, within, p.are);
     ran = has_added answers accepts refuses (λ r. unmarked (tells r)) (keeps_unmarked accepts refuses tells keeps) p.code p.forest (fresh name known) now last after name Short result waiting [] (tells after) refl p.scopes p.adds reports counted refl refl;
     step = subst (KeepsStep 0 0) (sym longer) (steps_both 0 0 (own now) more p.step
-        (subst (λ (n : ℕ). KeepsStep n (closed_in 0 (own now)) more) (omega (arith, p.parts)) (subst (λ (n : ℕ). KeepsStep turn n more) (sym p.closed) (reports_step turn turn (key_at ended) passed.streams refl))));
+        (subst (λ (n : ℕ). KeepsStep n (last_seen 0 (own now)) more) (omega (arith, p.parts)) (subst (λ (n : ℕ). KeepsStep turn n more) (sym p.closed) (reports_step turn turn (key_at ended) passed.streams refl))));
     each = λ round below.
         let below_turn : round < turn = omega (arith, below, ap num_arrived longer, arrived-both (own now) more, no_part (key_at ended) passed.streams, p.parts) in
         let e = p.each round below_turn in

@@ -30,7 +30,7 @@ use Rattle.puffin.specs.Telling.{HasRun}
 use Rattle.puffin.proofs.CutHistory.{Split, FrameAt, cut, cut_authors, split_at, frame_at, stands_at, all_parts}
 use Rattle.puffin.proofs.CutHistory as history
 use Rattle.puffin.proofs.Growing.{released-both, arrived-both}
-use Rattle.puffin.proofs.KeptSteps.{AllSeen, all_seen, seen_by, seen_front, steps_front, closes_none, few_parts, cut_there, few_frames, Gathered, gathered, each_full}
+use Rattle.puffin.proofs.KeptSteps.{AllSeen, all_seen, seen_by, seen_front, steps_front, releases_none, few_parts, cut_there, few_frames, Gathered, gathered, each_full}
 use Rattle.puffin.proofs.ShownCode.{frames_show, at_most_one, contained, every}
 use Rattle.puffin.proofs.ShownPools.{chosen, well_so}
 use Rattle.puffin.proofs.ShownRuns.{there}
@@ -121,10 +121,10 @@ module _ (known rounds n : ℕ) (is : ℕ → ℕ → Code → Type 0) (names : 
   unclosed (suc j) m e = λ other.
       let c = there shares j (subst (λ (k : ℕ). j < k) (long_cut now shares) (slice_get_within (map (cut now) shares) j m e)) in
       let same : cut now c.0 ≡ m = at_most_one (slice_get (map (cut now) shares) j) (cut now c.0) m (cut_in now shares j c.0 c.1) e in
-      subst (λ (x : Member). flat_map (if_marked releases_of) x.own ≡ []) same (closes_none 0 0 (entries_by c.0.number now) (step_then j c.0 c.1))
+      subst (λ (x : Member). flat_map (if_marked releases_of) x.own ≡ []) same (releases_none 0 0 (entries_by c.0.number now) (step_then j c.0 c.1))
 
-  closed_then_are : num_released (events now) ≡ num_released f.before
-  closed_then_are =
+  released_are : num_released (events now) ≡ num_released f.before
+  released_are =
       let its_own : num_released (events now) ≡ num_released (entries_by taker.number now) = ap length (only_one (if_marked releases_of) n taker.number (accounts_of (map (cut now) all)) now authors (every Unclosed (map (cut now) all) unclosed)) in
       omega (arith, its_own, ap num_released taken_then, released-both f.before (framed f.streams ∷ []))
 
@@ -132,7 +132,7 @@ module _ (known rounds n : ℕ) (is : ℕ → ℕ → Code → Type 0) (names : 
   seen_now = history.seen_front 0 0 (events now) (events s.later) (subst (AreSeen 0 0) (ap events whole ∙ events-append now s.later) recounts.seen)
 
   seen : AllSeen (num_arrived (events now)) (num_released f.before) (events now)
-  seen = all_seen 0 (num_arrived (events now)) 0 (num_released f.before) (events now) (omega arith) (omega (arith, closed_then_are)) seen_now
+  seen = all_seen 0 (num_arrived (events now)) 0 (num_released f.before) (events now) (omega arith) (omega (arith, released_are)) seen_now
 
   seen_in : (k : ℕ) → AllSeen (num_arrived (events now)) (num_released f.before) (entries_by k now)
   seen_in k = seen_by (num_arrived (events now)) (num_released f.before) k now seen

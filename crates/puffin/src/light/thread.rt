@@ -94,7 +94,7 @@ impl<C> Thread<C, GlobalProfiler> {
     /// }
     /// ```
     pub fn new_frame(&mut self, rt: &impl Wait) -> Result<Emitted>
-        ensures handed_out { HandsOutFrame (λ b. (FrameSink-box b).accepts)
+        ensures handed_out { HandsOutFrame (λ boxed. (FrameSink-box boxed).accepts)
             (reporter_of self.old) result (reporter_of self.new) }
         ensures thread { self.new ≡ with_reporter self.old (reporter_of self.new) }
     {
@@ -263,14 +263,14 @@ impl<C, P: Meets> Thread<C, P> {
     ghost use Rattle.puffin.specs.Happenings.{arrived, saw_released};
     ghost use Rattle.puffin.specs.Lent.{MarksThere};
 
-    /// Says that the thread has done its part of a round.
+    /// Says that the thread has arrived at the end of a round.
     pub(crate) fn arrive(&mut self, meeting: &Meeting)
         ensures { MarksThere P.told self.old arrived self.new }
     {
         self.reporter.arrive(meeting);
     }
 
-    /// Waits until this number of rounds is closed.
+    /// Waits until this number of rounds is released.
     pub(crate) fn wait_released(&mut self, meeting: &Meeting, rounds: u64)
         ensures { MarksThere P.told self.old (saw_released rounds) self.new }
     {

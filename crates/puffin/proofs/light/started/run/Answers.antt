@@ -4,7 +4,7 @@ use Rattle.puffin.proofs.light.started.run.Goals as goal
 
 pub returns-clause-told : goal.returns-clause-told
 returns-clause-told g c =
-    let crew = c.args.crew in let j = c.in_ok-joined.joined in let s = c.settled in let h = s.ensures.history in
+    let crew = c.args.crew in let j = c.in_ok-joined.joined in let s = c.settle in let h = s.ensures.history in
     record {
       shares = j.shares.items;
       log = h.0;

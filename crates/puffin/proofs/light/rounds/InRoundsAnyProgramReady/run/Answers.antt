@@ -37,11 +37,11 @@ returns g c none =
     ] in
     elim c.if-may_begin.branch [
       | then-may_begin+else-loop-round-test w ↦
-          ends w.loop-round.round (omega (arith, w.loop-round.auto.round-end, w.most-round-end.ensures.within))
+          ends w.loop-round.round (omega (arith, w.loop-round.auto.round-end, w.most_rounds-round-end.ensures.within))
           (subst (λ t. AfterRounds told is name known w.loop-round.round t) (sym w.thread-is) (w.loop-round.invariant stated (subst IsOk w.state-is state) none))
       | then-may_begin+then-loop-round-test+then-load w ↦
           let its = subst IsOk w.state-is state in
-          ends (w.loop-round.round + 1) (omega (arith, w.loop-round-test.true, w.most-round-end.ensures.within))
+          ends (w.loop-round.round + 1) (omega (arith, w.loop-round-test.true, w.most_rounds-round-end.ensures.within))
           (subst (λ t. AfterRounds told is name known (w.loop-round.round + 1) t) (sym w.thread-is) (elim w.match-state-2.branch [
             | in-Ok+in-Ok-part v ↦
                 part_ran told is name known g.C.NsSource.answers g.P.Reporter.accepts g.P.Reporter.refuses g.met.P.Meets.keeps (W.states program) w.loop-round.round w.loop-round.thread v.part.new.thread w.match-state-2.thread w.arrive.new.self w.wait_released.new.self

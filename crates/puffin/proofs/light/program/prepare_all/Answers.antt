@@ -9,7 +9,7 @@ use Rattle.std.specs.Prelude.{All}
 use Rattle.std.proofs.lemmas.List.Elements.{All-push}
 use Rattle.puffin_threads.specs.Thread.Clock.{clock_start, clock_begun}
 use Rattle.puffin.specs.Clocks.{StartsAt}
-use Rattle.puffin.proofs.light.program.all_ready.Goals as goal
+use Rattle.puffin.proofs.light.program.prepare_all.Goals as goal
 
 pub loop-name-preserved : goal.loop-name-preserved
 loop-name-preserved g c =
