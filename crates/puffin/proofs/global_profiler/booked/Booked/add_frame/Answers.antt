@@ -11,7 +11,8 @@ pub invariant_of-self : goal.invariant_of-self
 invariant_of-self g c =
     let old = c.args.self.now in
     let a : Collected = collected_of old.profiler in let b : Collected = collected_of c.add_frame.new.self in
-    let keeps : Keeps a b = learning_keeps c.add_frame.result a b (frame_details (arc_value c.args.frame)) c.add_frame.ensures.learns.learnt c.add_frame.ensures.learns.known in
+    let keeps : Keeps a b = learning_keeps c.add_frame.result a b
+    (frame_details (arc_value c.args.frame)) c.add_frame.ensures.learns.learnt c.add_frame.ensures.learns.known in
     record {
       reported_is = old.reported_is ∙ sym keeps.0;
       handed_is = old.handed_is ∙ sym keeps.1;

@@ -21,10 +21,13 @@ invariant_of-self-2 g c =
       reported_is = old.reported_is ∙ ap (λ (x : Collected). x.reported) (sym collects.2);
       handed_is = search rules;
       authors_are = c.add-2.ensures.log.0 ∙ old.authors_are;
-      stands = grows_by a.streams b.streams old.log.entries c.add-2.new.self.entries _ (framed (unpacked_in (arc_value f))) old.stands c.add-2.ensures.log.1
+      stands = grows_by a.streams b.streams old.log.entries c.add-2.new.self.entries _
+          (framed (unpacked_in (arc_value f))) old.stands c.add-2.ensures.log.1
           (none_pending f a b collects) (ap (λ (s : Streams). s ∷ []) (unpacked_is f a b collects)) tt;
-      met = still_met _ _ _ (framed (unpacked_in (arc_value f))) old.log.entries c.add-2.new.self.entries c.add-2.ensures.log.1 old.met;
-      seen = still_seen _ (framed (unpacked_in (arc_value f))) old.log.entries c.add-2.new.self.entries c.add-2.ensures.log.1 tt old.seen;
+      met = still_met _ _ _ (framed (unpacked_in (arc_value f))) old.log.entries c.add-2.new.self.entries
+          c.add-2.ensures.log.1 old.met;
+      seen = still_seen _ (framed (unpacked_in (arc_value f))) old.log.entries c.add-2.new.self.entries
+          c.add-2.ensures.log.1 tt old.seen;
     }
 
 pub returns-clause-taken : goal.returns-clause-taken
@@ -34,4 +37,11 @@ returns-clause-taken g c =
     let is : c.in_ok-emitted.emitted.frame ≡ Some f = search rules in
     let collects : Collects a (Some f) b = subst (λ o. Collects a o b) is c.in_ok-emitted.ensures.collected.ok in
     let due = pending_there a.streams (events old.log.entries) old.stands in
-    rw is (old.log.entries, a.streams, due, frame_due f a b collects, told_frame _ _ (unpacked_in (arc_value f)) _ _ (search rules) (unpacked_is f a b collects))
+    rw is (
+      old.log.entries,
+      a.streams,
+      due,
+      frame_due f a b collects,
+      told_frame _ _ (unpacked_in (arc_value f)) _ _
+          (search rules) (unpacked_is f a b collects),
+    )

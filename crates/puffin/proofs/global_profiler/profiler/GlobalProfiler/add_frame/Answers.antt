@@ -26,7 +26,9 @@ returns-in_err-learn g c =
         missing = search rules;
         unchanged = search rules;
         cause = search rules;
-        known = always c.from_residual.result (subst (λ ds. KnowsSome (collected_of c.args.self.now) ds c.learn.new.self) told (left c.learn.result _ c.in_err-learn.was c.learn.ensures.err));
+        known = always c.from_residual.result
+            (subst (λ ds. KnowsSome (collected_of c.args.self.now) ds c.learn.new.self) told
+            (left c.learn.result _ c.in_err-learn.was c.learn.ensures.err));
         kept = search rules;
         next = search rules;
       };

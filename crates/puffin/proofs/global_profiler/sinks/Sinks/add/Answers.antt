@@ -9,5 +9,6 @@ invariant_of-self g c =
     let more = numbered-more before.entries.items before.next c.args.sink before.rising in
     let next_is : before.next + 1 ≡ c.in-Some.next = search rules in
     record {
-      rising = subst (λ n. AreNumbered c.push.new.self.items n) next_is (subst (λ es. AreNumbered es (before.next + 1)) (sym c.in-Ok.ensures.items) more);
+      rising = subst (λ n. AreNumbered c.push.new.self.items n) next_is
+          (subst (λ es. AreNumbered es (before.next + 1)) (sym c.in-Ok.ensures.items) more);
     }
