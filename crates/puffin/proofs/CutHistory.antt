@@ -1,6 +1,6 @@
 -- A history up to one of its frames, as a history of the same shares.
-use Rattle.std.proofs.Common.{◌≡◌, ℕ, zero, suc, ◌+◌, ◌<◌, ◌≤◌, ◌==◌, Bool, true, false, List, [], ◌∷◌, ◌++◌, length, map}
-use Rattle.std.proofs.Common.{take, refl, ap, sym, ◌∙◌, append_assoc, arith}
+use Rattle.std.proofs.Common.{◌≡◌, ℕ, zero, suc, ◌+◌, ◌<◌, ◌≤◌, ◌==◌, Bool, true, false, List, [], ◌∷◌}
+use Rattle.std.proofs.Common.{◌++◌, length, map, take, refl, ap, sym, ◌∙◌, append_assoc, arith}
 use Rattle.std.specs.Prelude.{sum_by}
 use Rattle.std.specs.List.{All, count_by}
 use Rattle.std.specs.FinMap as fm
@@ -11,8 +11,8 @@ use Rattle.puffin_frames.specs.Frame.Contents.{Streams}
 use Rattle.history.specs.Entries.{events, front_if, entries_by, HasAuthors, AreAllAuthors}
 use Rattle.history.proofs.lemmas.AllAuthors.{has_authors-prefix}
 use Rattle.history.proofs.lemmas.Counting.{one_if, equal_number, other_number, unequal_number, times, times-cons}
-use Rattle.puffin.specs.Happenings.{Happening, reported, framed, marked, History, pending_after, due_at, due_after, after}
-use Rattle.puffin.specs.Happenings.{frame_of, frames_in, AreReports, AreSeen, num_arrived, num_released, Stands}
+use Rattle.puffin.specs.Happenings.{Happening, reported, framed, marked, History, pending_after, due_at, due_after, after, frame_of}
+use Rattle.puffin.specs.Happenings.{frames_in, AreReports, AreSeen, num_arrived, num_released, Stands}
 use Rattle.puffin.specs.Leaving.{accounts_of}
 use Rattle.puffin.specs.Members.{Member, account_of}
 use Rattle.puffin.proofs.Growing.{arrived-both, pending_last}
@@ -26,8 +26,8 @@ pub record Split {E : Type 0} (t : ℕ) (log : List (ℕ × E)) (p : List E) (x 
   pub whole : log ≡ before ++ (t, x) ∷ later
   pub own : entries_by t before ≡ p
 
-pub split_at : {E : Type 0} (t : ℕ) (log : List (ℕ × E)) (p : List E) (x : E) (q : List E)
-    → entries_by t log ≡ p ++ x ∷ q → Split t log p x q
+pub split_at : {E : Type 0} (t : ℕ) (log : List (ℕ × E)) (p : List E) (x : E) (q : List E) → entries_by t log ≡ p ++ x ∷ q
+    → Split t log p x q
 split_at t [] [] x q e = absurd cc
 split_at t [] (h ∷ p) x q e = absurd cc
 split_at {E} t (y ∷ ys) p x q e = by (y.0 == t) refl p e (λ r. split_at t ys p x q r) (λ s r. split_at t ys s x q r)
@@ -55,8 +55,7 @@ split_at {E} t (y ∷ ys) p x q e = by (y.0 == t) refl p e (λ r. split_at t ys 
           own = refl;
         }
     by true is (h ∷ s) e later other =
-        let its : y.1 ∷ entries_by t ys ≡ h ∷ (s ++ x ∷ q) =
-        sym (ap (λ (b : Bool). front_if b y.1 (entries_by t ys)) is) ∙ e in
+        let its : y.1 ∷ entries_by t ys ≡ h ∷ (s ++ x ∷ q) = sym (ap (λ (b : Bool). front_if b y.1 (entries_by t ys)) is) ∙ e in
         let rest : entries_by t ys ≡ s ++ x ∷ q = cc in
         let first : y.1 ≡ h = cc in
         let f = other s rest in
@@ -64,8 +63,8 @@ split_at {E} t (y ∷ ys) p x q e = by (y.0 == t) refl p e (λ r. split_at t ys 
           before = y ∷ f.before;
           later = f.later;
           whole = ap (λ (l : List (ℕ × E)). y ∷ l) f.whole;
-          own = ap (λ (b : Bool). front_if b y.1 (entries_by t f.before)) is
-              ∙ ap (λ (z : E). z ∷ entries_by t f.before) first ∙ ap (λ (es : List E). h ∷ es) f.own;
+          own = ap (λ (b : Bool). front_if b y.1 (entries_by t f.before)) is ∙ ap (λ (z : E). z ∷ entries_by t f.before) first
+              ∙ ap (λ (es : List E). h ∷ es) f.own;
         }
 
 -- the frame with this number
@@ -79,8 +78,7 @@ pub record FrameAt (number : ℕ) (own : List Happening) : Type 0 where
 
 pub frame_at : (number : ℕ) (own : List Happening) → number < length (frames_in own) → FrameAt number own
 frame_at number [] below = absurd (omega (arith, below))
-frame_at zero (framed s ∷ own) below =
-    record { before = []; streams = s; later = own; whole = refl; earlier = refl; first = refl }
+frame_at zero (framed s ∷ own) below = record { before = []; streams = s; later = own; whole = refl; earlier = refl; first = refl }
 frame_at (suc number) (framed s ∷ own) below =
     let f = frame_at number own (omega (arith, below)) in
     record {
@@ -116,8 +114,7 @@ frame_at number (marked mark ∷ own) below =
 
 -- ---- what stood then
 
-due_both : (s : Streams) (xs ys : List Happening)
-    → due_after s (xs ++ ys) ≡ due_after s xs ++ due_after (pending_after s xs) ys
+due_both : (s : Streams) (xs ys : List Happening) → due_after s (xs ++ ys) ≡ due_after s xs ++ due_after (pending_after s xs) ys
 due_both s [] ys = refl
 due_both s (x ∷ xs) ys = ap (λ ds. due_at s x ++ ds) (due_both (after s x) xs ys)
     ∙ sym (append_assoc (due_at s x) (due_after (after s x) xs) (due_after (pending_after (after s x) xs) ys))
@@ -143,11 +140,7 @@ reports_front s (x ∷ xs) ys are = (are.0, reports_front (after s x) xs ys are.
 
 pub seen_front : (a r : ℕ) (xs ys : List Happening) → AreSeen a r (xs ++ ys) → AreSeen a r xs
 seen_front a r [] ys are = tt
-seen_front a r (x ∷ xs) ys are = (
-  are.0,
-  seen_front (a + num_arrived (x ∷ []))
-      (r + num_released (x ∷ [])) xs ys are.1,
-)
+seen_front a r (x ∷ xs) ys are = (are.0, seen_front (a + num_arrived (x ∷ [])) (r + num_released (x ∷ [])) xs ys are.1)
 
 -- once a frame was handed out, nothing is pending
 pub stands_at : (pending : Streams) (before : List Happening) (streams : Streams) (later : List Happening)
@@ -172,8 +165,8 @@ cut log m = record m { own = entries_by m.number log }
 
 cut_own : (log : History) (ms : List Member) → All (λ a. a.1 ≡ entries_by a.0 log) (accounts_of (map (cut log) ms))
 cut_own log [] = All-nil _
-cut_own log (m ∷ ms) = All-cons (λ a. a.1 ≡ entries_by a.0 log) (account_of (cut log m))
-    (accounts_of (map (cut log) ms)) refl (cut_own log ms)
+cut_own log (m ∷ ms) = All-cons (λ a. a.1 ≡ entries_by a.0 log) (account_of (cut log m)) (accounts_of (map (cut log) ms)) refl
+    (cut_own log ms)
 
 abbrev number : ℕ × List Happening → ℕ
 number a = a.0
@@ -182,8 +175,7 @@ cut_once : (log : History) (k : ℕ) (ms : List Member)
     → count_by (λ a. a.0 == k) (accounts_of (map (cut log) ms)) ≡ count_by (λ a. a.0 == k) (accounts_of ms)
 cut_once log k [] = refl
 cut_once log k (m ∷ ms) = times-cons number k (account_of (cut log m)) (accounts_of (map (cut log) ms))
-    ∙ ap (λ (n : ℕ). one_if (m.number == k) + n) (cut_once log k ms)
-    ∙ sym (times-cons number k (account_of m) (accounts_of ms))
+    ∙ ap (λ (n : ℕ). one_if (m.number == k) + n) (cut_once log k ms) ∙ sym (times-cons number k (account_of m) (accounts_of ms))
 
 pub cut_authors : (n : ℕ) (ms : List Member) (now later : History) → AreAllAuthors n (accounts_of ms) (now ++ later)
     → AreAllAuthors n (accounts_of (map (cut now) ms)) now
@@ -208,9 +200,9 @@ no_fewer x log [] = omega arith
 no_fewer x log (a ∷ rest) = omega (
   arith,
   sum_by-cons (parts_by log) a rest,
-  sum_by-cons
-      (parts_by (x ∷ log)) a rest,
-  parts_front (x.0 == a.0) x.1 (entries_by a.0 log),
+  sum_by-cons (parts_by (x ∷ log)) a rest,
+  parts_front
+      (x.0 == a.0) x.1 (entries_by a.0 log),
   no_fewer x log rest,
 )
 
@@ -222,9 +214,8 @@ by_some x log (a ∷ rest) some = at (x.0 == a.0) refl (λ more. by_some x log r
     sums : sum_by (parts_by (x ∷ log)) (a ∷ rest) ≡ parts_by (x ∷ log) a + sum_by (parts_by (x ∷ log)) rest
     sums = sum_by-cons (parts_by (x ∷ log)) a rest
 
-    at : (b : Bool) → (x.0 == a.0) ≡ b
-        → (0 < times number x.0 rest → num_arrived (x.1 ∷ []) + sum_by (parts_by log) rest
-        ≤ sum_by (parts_by (x ∷ log)) rest)
+    at : (b : Bool) → (x.0 == a.0) ≡ b → (0 < times number x.0 rest
+        → num_arrived (x.1 ∷ []) + sum_by (parts_by log) rest ≤ sum_by (parts_by (x ∷ log)) rest)
         → num_arrived (x.1 ∷ []) + sum_by (parts_by log) (a ∷ rest) ≤ sum_by (parts_by (x ∷ log)) (a ∷ rest)
     at true is later =
         let mine : parts_by (x ∷ log) a ≡ num_arrived (x.1 ∷ entries_by a.0 log) =
@@ -253,8 +244,7 @@ by_some x log (a ∷ rest) some = at (x.0 == a.0) refl (λ more. by_some x log r
         )
 
 pub all_parts : (n : ℕ) (log : History) (accounts : List (ℕ × List Happening)) → HasAuthors n log
-    → ((k : ℕ) → k < n → count_by (λ a. a.0 == k) accounts ≡ 1)
-    → num_arrived (events log) ≤ sum_by (parts_by log) accounts
+    → ((k : ℕ) → k < n → count_by (λ a. a.0 == k) accounts ≡ 1) → num_arrived (events log) ≤ sum_by (parts_by log) accounts
 all_parts n [] accounts has once = omega arith
 all_parts n (x ∷ log) accounts has once =
     omega (

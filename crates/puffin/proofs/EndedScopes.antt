@@ -1,6 +1,6 @@
 -- Each scope that ends is counted once.
-use Rattle.std.proofs.Common.{◌≡◌, ◌≢◌, ℕ, ◌+◌, ℤ, List, [], ◌∷◌, Some, Result, Ok, Err, Bool, true, false, sym, ap, ◌∙◌}
-use Rattle.std.proofs.Common.{arith, inl, inr}
+use Rattle.std.proofs.Common.{◌≡◌, ◌≢◌, ℕ, ◌+◌, ℤ, List, [], ◌∷◌, Some, Result, Ok, Err, Bool, true, false, sym}
+use Rattle.std.proofs.Common.{ap, ◌∙◌, arith, inl, inr}
 use Rattle.puffin_data.specs.declared.error.Error.{Error}
 use Rattle.puffin_data.specs.Forest.Tour.{Open, Close}
 use Rattle.puffin_data.specs.Honesty.{StreamFacts}
@@ -31,8 +31,7 @@ module _ {R : Type 0} (accepts : R → ThreadKey → List Details → StreamFact
     (refuses : R → ThreadKey → List Details → StreamFacts → Error → R → Type 0)
     (reported : R → ℕ) (counts : CountsReports accepts refuses reported) where
   -- an accepted report, and a refused one
-  goes : (t : calls.Thread) (before after : R) → GoesTo accepts t before after
-      → reported after ≡ reported before + num_ended t.word
+  goes : (t : calls.Thread) (before after : R) → GoesTo accepts t before after → reported after ≡ reported before + num_ended t.word
   goes t before after (r, is, accepted) = counts.accepted before (calls.key_of_thread t) t.details r after accepted
       ∙ ap (λ (n : ℕ). reported before + n) (reported_ended t r is)
 
@@ -55,24 +54,23 @@ module _ {R : Type 0} (accepts : R → ThreadKey → List Details → StreamFact
       omega (
         arith,
         goes (after_end old at) before after h.2,
-        ap
-            (λ (t : calls.Thread). num_ended t.word) h.1,
-        num_ended-append old.word (Close (calls.time_of old at) ∷ []),
+        ap (λ (t : calls.Thread). num_ended t.word) h.1,
+        num_ended-append
+            old.word (Close (calls.time_of old at) ∷ []),
       )
   closes old new at before after (Kept e) h =
       omega (
         arith,
         stays (after_end old at) e before after h.2,
-        ap
-            (λ (t : calls.Thread). num_ended t.word) h.1,
-        num_ended-append old.word (Close (calls.time_of old at) ∷ []),
+        ap (λ (t : calls.Thread). num_ended t.word) h.1,
+        num_ended-append
+            old.word (Close (calls.time_of old at) ∷ []),
       )
 
   reports : (old new : calls.Thread) (before after : R) (result : Result Bool Error)
       → Reports accepts refuses old new before after result
       → reported after + num_ended new.word ≡ reported before + num_ended old.word
-  reports old new before after (Ok false) h =
-      omega (arith, ap reported h.2, ap (λ (t : calls.Thread). num_ended t.word) h.1)
+  reports old new before after (Ok false) h = omega (arith, ap reported h.2, ap (λ (t : calls.Thread). num_ended t.word) h.1)
   reports old new before after (Ok true) h =
       omega (arith, goes old before after h.2, ap (λ (t : calls.Thread). num_ended t.word) h.1)
   reports old new before after (Err e) (same, inl still) =
@@ -98,21 +96,19 @@ module _ {R : Type 0} (accepts : R → ThreadKey → List Details → StreamFact
 
 pub leaves : {C R : Type 0} (answers : C → ℤ → C → Type 0)
     (accepts : R → ThreadKey → List Details → StreamFacts → R → Type 0)
-    (refuses : R → ThreadKey → List Details → StreamFacts → Error → R → Type 0)
-    (reported : R → ℕ) (old : Thread C R) (offset : ℕ) (new : Thread C R)
-    → EndsIn answers accepts refuses old offset new → innermost_of (profiler_of old) ≢ Some offset
-    → counted_by reported new ≡ counted_by reported old
+    (refuses : R → ThreadKey → List Details → StreamFacts → Error → R → Type 0) (reported : R → ℕ) (old : Thread C R)
+    (offset : ℕ) (new : Thread C R) → EndsIn answers accepts refuses old offset new
+    → innermost_of (profiler_of old) ≢ Some offset → counted_by reported new ≡ counted_by reported old
 leaves answers accepts refuses reported old offset new h other =
     let same = h.ends.other other in
     omega (arith, ap reported same.1, ap (λ p. num_ended (thread_of p).word) same.0)
 
-begun_ended : (t : calls.Thread) (id : ℕ) (text : List ℕ) (at : ℤ)
-    → num_ended (after_begin t id text at).word ≡ num_ended t.word
+begun_ended : (t : calls.Thread) (id : ℕ) (text : List ℕ) (at : ℤ) → num_ended (after_begin t id text at).word ≡ num_ended t.word
 begun_ended t id text at = omega (arith, num_ended-append t.word (Open id text (calls.time_of t at) ∷ []))
 
 begins_there : {C R : Type 0} (answers : C → ℤ → C → Type 0) (reported : R → ℕ) (old : Thread C R)
-    (place : Place) (text : List ℕ) (state : GuardState) (new : Thread C R)
-    → BeginsThere answers old place text state new → counted_by reported new ≡ counted_by reported old
+    (place : Place) (text : List ℕ) (state : GuardState) (new : Thread C R) → BeginsThere answers old place text state new
+    → counted_by reported new ≡ counted_by reported old
 begins_there answers reported old place text (On offset) new h =
     let began = h.begins.1 in
     omega (
@@ -132,8 +128,7 @@ pub begins : {C R : Type 0} (answers : C → ℤ → C → Type 0)
     (refuses : R → ThreadKey → List Details → StreamFacts → Error → R → Type 0) (reported : R → ℕ)
     → CountsReports accepts refuses reported
     → (old : Thread C R) (place : Place) (text : List ℕ) (state : GuardState) (new : Thread C R)
-    → BeginsAt answers accepts refuses old place text state new
-    → counted_by reported new ≡ counted_by reported old
+    → BeginsAt answers accepts refuses old place text state new → counted_by reported new ≡ counted_by reported old
 begins answers accepts refuses reported counts old place text state new (ready, inl same, there) =
     begins_there answers reported ready place text state new there ∙ ap (counted_by reported) same
 begins answers accepts refuses reported counts old place text state new (ready, inr room, there) =

@@ -1,6 +1,6 @@
 -- A profiler and its history grow together.
-use Rattle.std.proofs.Common.{◌≡◌, ℕ, ◌+◌, ◌-◌, ◌^◌, List, [], ◌∷◌, ◌++◌, Option, Some, None, length, refl, ap, sym, subst}
-use Rattle.std.proofs.Common.{◌∙◌, append_assoc, length-append, arith}
+use Rattle.std.proofs.Common.{◌≡◌, ℕ, ◌+◌, ◌-◌, ◌^◌, List, [], ◌∷◌, ◌++◌, Option, Some, None, length, refl}
+use Rattle.std.proofs.Common.{ap, sym, subst, ◌∙◌, append_assoc, length-append, arith}
 use Rattle.std.specs.Prelude.{min}
 use Rattle.std.specs.List.{flat_map}
 use mathlib.Core.Logic.{∥∥₁_map}
@@ -16,9 +16,9 @@ use Rattle.puffin_frames.proofs.lemmas.Honest.{no_scopes_there}
 use Rattle.puffin_frames.specs.Frame.Contents.{Streams, AreHonest, no_scopes}
 use Rattle.history.specs.Entries.{events}
 use Rattle.history.proofs.lemmas.AllAuthors.{events-append}
-use Rattle.puffin.specs.Happenings.{Happening, Mark, marked, arrived, released, left, History, if_marked, arrivals_of}
-use Rattle.puffin.specs.Happenings.{releases_of, num_arrived, num_released, IsSeen, AreSeen, HasMet, after, pending_after}
-use Rattle.puffin.specs.Happenings.{due_at, due_after, frame_of, frames_in, IsReport, AreReports, ArePending, Stands}
+use Rattle.puffin.specs.Happenings.{Happening, Mark, marked, arrived, released, left, History, if_marked, arrivals_of, releases_of}
+use Rattle.puffin.specs.Happenings.{num_arrived, num_released, IsSeen, AreSeen, HasMet, after, pending_after, due_at, due_after, frame_of}
+use Rattle.puffin.specs.Happenings.{frames_in, IsReport, AreReports, ArePending, Stands}
 use Rattle.puffin.specs.Leaving.{last_entries}
 
 pub pending_last : (s : Streams) (hs : List Happening) (h : Happening)
@@ -43,8 +43,7 @@ reports_last s (x ∷ xs) h all one = (all.0, reports_last (after s x) xs h all.
 -- ---- what shares saw
 
 marks-both : (f : Mark → List Mark) (xs ys : List Happening)
-    → length (flat_map (if_marked f) (xs ++ ys))
-    ≡ length (flat_map (if_marked f) xs) + length (flat_map (if_marked f) ys)
+    → length (flat_map (if_marked f) (xs ++ ys)) ≡ length (flat_map (if_marked f) xs) + length (flat_map (if_marked f) ys)
 marks-both f xs ys = ap length (flat_map-append (if_marked f) xs ys)
     ∙ length-append (flat_map (if_marked f) xs) (flat_map (if_marked f) ys)
 
@@ -57,8 +56,8 @@ released-both xs ys = marks-both releases_of xs ys
 pub seen_at : (h : Happening) (a b r s : ℕ) → a ≡ b → r ≡ s → IsSeen a r h → IsSeen b s h
 seen_at h a b r s p q seen = subst (λ (n : ℕ). IsSeen b n h) q (subst (λ (n : ℕ). IsSeen n r h) p seen)
 
-seen_last : (a r : ℕ) (hs : List Happening) (h : Happening) → AreSeen a r hs
-    → IsSeen (a + num_arrived hs) (r + num_released hs) h → AreSeen a r (hs ++ h ∷ [])
+seen_last : (a r : ℕ) (hs : List Happening) (h : Happening) → AreSeen a r hs → IsSeen (a + num_arrived hs) (r + num_released hs) h
+    → AreSeen a r (hs ++ h ∷ [])
 seen_last a r [] h all one = (seen_at h (a + 0) a (r + 0) r (omega arith) (omega arith) one, tt)
 seen_last a r (x ∷ xs) h all one = (
   all.0,
@@ -81,47 +80,31 @@ still_met a r n h old log longer met =
       released = omega (arith, met.released, ap num_released whole, released-both (events old) (h ∷ []));
     }
 
-pub one_arrived : (a b r n : ℕ) (old log : History) → b ≡ min (a + 1) (2 ^ 64 - 1)
-    → log ≡ old ++ (n, marked arrived) ∷ [] → HasMet a r (events old) → HasMet b r (events log)
+pub one_arrived : (a b r n : ℕ) (old log : History) → b ≡ min (a + 1) (2 ^ 64 - 1) → log ≡ old ++ (n, marked arrived) ∷ []
+    → HasMet a r (events old) → HasMet b r (events log)
 one_arrived a b r n old log more longer met =
     let whole = longer_by n (marked arrived) old log longer in
     record {
-      arrived = omega (
-        arith,
-        met.arrived,
-        more,
-        ap num_arrived whole,
-        arrived-both (events old)
-            (marked arrived ∷ []),
-      );
+      arrived = omega (arith, met.arrived, more, ap num_arrived whole, arrived-both (events old) (marked arrived ∷ []));
       released = (still_met a r n (marked arrived) old log longer met).released;
     }
 
-pub one_released : (a b r n : ℕ) (old log : History) → b ≡ min (r + 1) (2 ^ 64 - 1)
-    → log ≡ old ++ (n, marked released) ∷ [] → HasMet a r (events old) → HasMet a b (events log)
+pub one_released : (a b r n : ℕ) (old log : History) → b ≡ min (r + 1) (2 ^ 64 - 1) → log ≡ old ++ (n, marked released) ∷ []
+    → HasMet a r (events old) → HasMet a b (events log)
 one_released a b r n old log more longer met =
     let whole = longer_by n (marked released) old log longer in
     record {
       arrived = (still_met a r n (marked released) old log longer met).arrived;
-      released = omega (
-        arith,
-        met.released,
-        more,
-        ap num_released whole,
-        released-both (events old)
-            (marked released ∷ []),
-      );
+      released = omega (arith, met.released, more, ap num_released whole, released-both (events old) (marked released ∷ []));
     }
 
 -- what shares saw was so with one entry more, if what it saw was
 pub still_seen : (n : ℕ) (h : Happening) (old log : History) → log ≡ old ++ (n, h) ∷ []
-    → IsSeen (num_arrived (events old)) (num_released (events old)) h → AreSeen 0 0 (events old)
-    → AreSeen 0 0 (events log)
+    → IsSeen (num_arrived (events old)) (num_released (events old)) h → AreSeen 0 0 (events old) → AreSeen 0 0 (events log)
 still_seen n h old log longer sight seen =
     subst (AreSeen 0 0) (sym (longer_by n h old log longer))
-    (seen_last 0 0 (events old) h seen
-    (seen_at h (num_arrived (events old)) (0 + num_arrived (events old)) (num_released (events old))
-    (0 + num_released (events old)) (omega arith) (omega arith) sight))
+    (seen_last 0 0 (events old) h seen (seen_at h (num_arrived (events old)) (0 + num_arrived (events old))
+    (num_released (events old)) (0 + num_released (events old)) (omega arith) (omega arith) sight))
 
 grows : (pending new : Streams) (hs : List Happening) (h : Happening) → Stands pending hs → new ≡ after pending h
     → frame_of h ≡ due_at pending h → IsReport pending h → Stands new (hs ++ h ∷ [])
@@ -131,8 +114,7 @@ grows pending new hs h stands is due report = record {
   pending_is = is ∙ ap (λ s. after s h) stands.pending_is ∙ sym (pending_last stands.start hs h);
   frames_are = frames_last hs h ∙ (λ k. stands.frames_are k ++ due k)
       ∙ ap (λ s. due_after stands.start hs ++ due_at s h) stands.pending_is ∙ sym (due_last stands.start hs h);
-  reports = reports_last stands.start hs h stands.reports
-      (subst (λ (s : Streams). IsReport s h) stands.pending_is report);
+  reports = reports_last stands.start hs h stands.reports (subst (λ (s : Streams). IsReport s h) stands.pending_is report);
 }
 
 -- a history that stands with what is pending, and grows by what happens next
@@ -162,8 +144,7 @@ none_under streams i honest nothing (Some r) found =
     ∥∥₁_map (honest i r found) (λ t. none_counted t.0 r (no_scopes_there streams i r nothing found) t.1)
 
 -- honest streams whose sum is 0 are without scopes, and a history may begin with them
-pub opened_stands : (streams : Streams) → AreHonest streams → total_scopes (map.values streams) ≡ 0
-    → Stands streams []
+pub opened_stands : (streams : Streams) → AreHonest streams → total_scopes (map.values streams) ≡ 0 → Stands streams []
 opened_stands streams honest nothing =
     record {
       start = streams;
@@ -178,26 +159,23 @@ pub pending_there : (pending : Streams) (hs : List Happening) → ∥ Stands pen
 pending_there pending hs stands = ∥∥₁_map stands (λ s. record { start = s.start; none = s.none; is = s.pending_is })
 
 -- shares left
-pub left_stands : (pending : Streams) (log : History) (accounts : List (ℕ × List Happening))
-    → ∥ Stands pending (events log) ∥₁ → ∥ Stands pending (events (log ++ last_entries accounts)) ∥₁
-left_stands pending log [] stands =
-    subst (λ (l : History). ∥ Stands pending (events l) ∥₁) (sym (append-nil log)) stands
+pub left_stands : (pending : Streams) (log : History) (accounts : List (ℕ × List Happening)) → ∥ Stands pending (events log) ∥₁
+    → ∥ Stands pending (events (log ++ last_entries accounts)) ∥₁
+left_stands pending log [] stands = subst (λ (l : History). ∥ Stands pending (events l) ∥₁) (sym (append-nil log)) stands
 left_stands pending log (a ∷ rest) stands =
-    subst (λ (l : History). ∥ Stands pending (events l) ∥₁)
-    (append_assoc log ((a.0, marked left) ∷ []) (last_entries rest))
+    subst (λ (l : History). ∥ Stands pending (events l) ∥₁) (append_assoc log ((a.0, marked left) ∷ []) (last_entries rest))
     (left_stands pending (log ++ (a.0, marked left) ∷ []) rest
     (grows_by pending pending log (log ++ (a.0, marked left) ∷ []) a.0 (marked left) stands refl refl refl tt))
 
 pub left_met : (a r : ℕ) (log : History) (accounts : List (ℕ × List Happening))
     → HasMet a r (events log) × AreSeen 0 0 (events log) → HasMet a r (events (log ++ last_entries accounts))
     × AreSeen 0 0 (events (log ++ last_entries accounts))
-left_met a r log [] met = subst (λ (l : History). HasMet a r (events l) × AreSeen 0 0 (events l))
-    (sym (append-nil log)) met
+left_met a r log [] met = subst (λ (l : History). HasMet a r (events l) × AreSeen 0 0 (events l)) (sym (append-nil log)) met
 left_met a r log (b ∷ rest) met =
     subst (λ (l : History). HasMet a r (events l) × AreSeen 0 0 (events l))
     (append_assoc log ((b.0, marked left) ∷ []) (last_entries rest))
     (left_met a r (log ++ (b.0, marked left) ∷ []) rest (
       still_met a r b.0 (marked left) log (log ++ (b.0, marked left) ∷ []) refl met.0,
-      still_seen b.0
-          (marked left) log (log ++ (b.0, marked left) ∷ []) refl tt met.1,
+      still_seen b.0 (marked left) log
+          (log ++ (b.0, marked left) ∷ []) refl tt met.1,
     ))

@@ -10,8 +10,8 @@ use Rattle.puffin_collector.specs.Collector.Collecting.{Collects}
 use Rattle.puffin.specs.Shares.{SpellsItsScopes}
 use Rattle.puffin_collector.specs.declared.emitted.Emitted.{Emitted}
 
-spells : {A : Type 0} (old new : Collected) (frame : Option (Arc FrameData A)) → AreHonest old.streams
-    → Collects old frame new → SpellsItsScopes frame
+spells : {A : Type 0} (old new : Collected) (frame : Option (Arc FrameData A)) → AreHonest old.streams → Collects old frame new
+    → SpellsItsScopes frame
 spells old new None honest collects = tt
 spells old new (Some frame) honest collects =
     let count = ap (λ (m : FrameMeta). m.num_scopes) collects.0.meta in

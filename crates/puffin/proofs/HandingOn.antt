@@ -1,6 +1,6 @@
 -- A frame handed to one sink more.
-use Rattle.std.proofs.Common.{◌≡◌, ℕ, ◌+◌, ◌<◌, ◌≤◌, List, [], ◌∷◌, ◌++◌, length, take, drop, set, get_or, sum_by, map, refl}
-use Rattle.std.proofs.Common.{sym, ap, ◌∙◌, subst, arith, add-zero}
+use Rattle.std.proofs.Common.{◌≡◌, ℕ, ◌+◌, ◌<◌, ◌≤◌, List, [], ◌∷◌, ◌++◌, length, take, drop, set, get_or}
+use Rattle.std.proofs.Common.{sum_by, map, refl, sym, ap, ◌∙◌, subst, arith, add-zero}
 use Rattle.std.specs.Prelude.{Result, Ok, Err}
 use Rattle.std.specs.declared.alloc.Global.{Global}
 use Rattle.std.specs.declared.dyn_box.DynBox.{DynBox}
@@ -17,21 +17,19 @@ use Rattle.puffin.specs.Sinks.Handing.{Answers, HandedTo, Handed, HandsOn, refus
 use Rattle.puffin.specs.inner.Numbers.{AreNumbered}
 use Rattle.std.specs.List.Sorted.{IsStrictlyIncreasing}
 
-module _ {I : Type 0} {F : I → Type 0}
-    (accepts : (b : DynBox I Global F) → F b.vtable → FrameData → Result (Unit {0}) Error → F b.vtable → Type 0) where
+module _ {I : Type 0} {F : I → Type 0} (accepts : (b : DynBox I Global F) → F b.vtable → FrameData → Result (Unit {0}) Error
+    → F b.vtable → Type 0) where
   -- a boxed sink that accepted
-  pub handed-accepted : (frame copy : FrameData) (s : Sink I F) (b c : DynBox I Global F)
-      (r : Result (Unit {0}) Error) → copy ≡ frame → s ≡ Boxed b → r ≡ Ok tt → Answers accepts b copy r c
-      → HandedTo accepts frame s Accepted (Boxed c)
+  pub handed-accepted : (frame copy : FrameData) (s : Sink I F) (b c : DynBox I Global F) (r : Result (Unit {0}) Error)
+      → copy ≡ frame → s ≡ Boxed b → r ≡ Ok tt → Answers accepts b copy r c → HandedTo accepts frame s Accepted (Boxed c)
   handed-accepted frame copy s b c r same is ok a =
       let P : Sink I F → Type 0 = λ t. HandedTo accepts frame t Accepted (Boxed c) in
       let Q : FrameData → Result (Unit {0}) Error → Type 0 = λ x y. Answers accepts b x y c in
       subst P (sym is) (c, subst (λ x. Q x (Ok tt)) same (subst (λ y. Q copy y) ok a), refl)
 
   -- a boxed sink that refused
-  pub handed-refused : (frame copy : FrameData) (s : Sink I F) (b c : DynBox I Global F) (r : Result (Unit {0}) Error)
-      (e : Error) → copy ≡ frame → s ≡ Boxed b → r ≡ Err e → Answers accepts b copy r c
-      → HandedTo accepts frame s Refused (Boxed c)
+  pub handed-refused : (frame copy : FrameData) (s : Sink I F) (b c : DynBox I Global F) (r : Result (Unit {0}) Error) (e : Error)
+      → copy ≡ frame → s ≡ Boxed b → r ≡ Err e → Answers accepts b copy r c → HandedTo accepts frame s Refused (Boxed c)
   handed-refused frame copy s b c r e same is err a =
       let P : Sink I F → Type 0 = λ t. HandedTo accepts frame t Refused (Boxed c) in
       let Q : FrameData → Result (Unit {0}) Error → Type 0 = λ x y. Answers accepts b x y c in
@@ -69,8 +67,7 @@ module _ {I : Type 0} {F : I → Type 0}
       let after = take_more_set now i f below in
       let P : List (SinkEntry I F) → List (SinkEntry I F) → Type 0 = λ x y. Handed accepts frame x (os ++ o ∷ []) y in
       let whole = subst (λ x. P x (take (i + 1) (set now i f))) (sym before)
-      (subst (λ y. P (take i init ++ e ∷ []) y) (sym after)
-      (handed-snoc frame (take i init) os (take i now) e o f h id to)) in (
+      (subst (λ y. P (take i init ++ e ∷ []) y) (sym after) (handed-snoc frame (take i init) os (take i now) e o f h id to)) in (
         os ++ o ∷ [],
         whole,
         omega (arith, count, counted, sum_by-append refusal os (o ∷ [])),
@@ -80,8 +77,7 @@ module _ {I : Type 0} {F : I → Type 0}
   pub handed-back : (frame : FrameData) (items old new : List (SinkEntry I F)) (len n : ℕ) → old ≡ items
       → length new ≡ length old → len ≡ length items
       → (os : List Outcome) × Handed accepts frame old os new × (n ≡ sum_by refusal os)
-      → (os : List Outcome) × Handed accepts frame items os (take len (new ++ drop (length new) items))
-      × (n ≡ sum_by refusal os)
+      → (os : List Outcome) × Handed accepts frame items os (take len (new ++ drop (length new) items)) × (n ≡ sum_by refusal os)
   handed-back frame items old new len n same size is (os, h, count) =
       let back = take_at new (drop (length new) items) len (omega (arith, size, is, ap length same)) in
       let P : List (SinkEntry I F) → List (SinkEntry I F) → Type 0 = λ x y. Handed accepts frame x os y in
@@ -109,8 +105,7 @@ module _ {I : Type 0} {F : I → Type 0}
   handed-numbers frame (d ∷ es) (p ∷ os) (g ∷ fs) h =
       ap (λ (n : ℕ). n ∷ map (λ e. e.id) fs) h.0 ∙ ap (λ (ns : List ℕ). d.id ∷ ns) (handed-numbers frame es os fs h.2)
 
-  pub numbered-handed : (frame : FrameData) (es fs : List (SinkEntry I F)) (refused next : ℕ)
-      → HandsOn accepts frame es refused fs → AreNumbered es next → AreNumbered fs next
+  pub numbered-handed : (frame : FrameData) (es fs : List (SinkEntry I F)) (refused next : ℕ) → HandsOn accepts frame es refused fs
+      → AreNumbered es next → AreNumbered fs next
   numbered-handed frame es fs refused next (os, h, count) numbered =
-      subst (λ (ns : List ℕ). IsStrictlyIncreasing (0 ∷ ns ++ next ∷ []))
-      (sym (handed-numbers frame es os fs h)) numbered
+      subst (λ (ns : List ℕ). IsStrictlyIncreasing (0 ∷ ns ++ next ∷ [])) (sym (handed-numbers frame es os fs h)) numbered

@@ -1,6 +1,6 @@
 -- Threads that are joined one after the other, each with its share and its counts.
-use Rattle.std.proofs.Common.{◌≡◌, ℕ, zero, suc, ◌+◌, ◌<◌, map, get_or, List, [], ◌∷◌, ◌++◌, Option, Some, None, Ok, Err}
-use Rattle.std.proofs.Common.{length, refl, sym, ap, subst, ◌∙◌, arith}
+use Rattle.std.proofs.Common.{◌≡◌, ℕ, zero, suc, ◌+◌, ◌<◌, map, get_or, List, [], ◌∷◌, ◌++◌, Option, Some, None}
+use Rattle.std.proofs.Common.{Ok, Err, length, refl, sym, ap, subst, ◌∙◌, arith}
 use Rattle.std.specs.Prelude.{slice_get, IsOk, IfOk, IfErr, Result}
 use Rattle.std.specs.Option.{option_or}
 use Rattle.std.proofs.lemmas.Option.{none-some}
@@ -21,8 +21,8 @@ pub none_failed : (before own after : Option Failed) → after ≡ option_or bef
 none_failed None own after is none = (refl, sym is ∙ none)
 none_failed (Some f) own after is none = absurd (none-some f (sym none ∙ is))
 
-pub is_well : {X E F : Type 0} (failed : E → F) (r : Result X E) (own : Option F)
-    → IfErr r (λ error. own ≡ Some (failed error)) → own ≡ None → IsOk r
+pub is_well : {X E F : Type 0} (failed : E → F) (r : Result X E) (own : Option F) → IfErr r (λ error. own ≡ Some (failed error))
+    → own ≡ None → IsOk r
 is_well failed (Ok x) own is none = refl
 is_well failed (Err e) own is none = absurd (none-some (failed e) (sym none ∙ is))
 
@@ -54,9 +54,9 @@ last_there (z ∷ xs) x = last_there xs x
 
 module _ {T W : Type 0} (tells : T → W → ℕ → ThreadEnd → List Happening → List Happening → Type 0) where
   -- what was told stays so with one thread more
-  pub tells_still : (thread : T) (program : W) (number : ℕ) (before after : Option Failed)
-      (counts : List ThreadCounts) (shares : List Member) (k : ℕ) (count : ThreadCounts) (share : Member)
-      → (after ≡ None → before ≡ None) → TellsAt tells thread program number before counts shares k
+  pub tells_still : (thread : T) (program : W) (number : ℕ) (before after : Option Failed) (counts : List ThreadCounts)
+      (shares : List Member) (k : ℕ) (count : ThreadCounts) (share : Member) → (after ≡ None → before ≡ None)
+      → TellsAt tells thread program number before counts shares k
       → TellsAt tells thread program number after (counts ++ count ∷ []) (shares ++ share ∷ []) k
   tells_still thread program number before after counts shares k count share failed t = record {
     ended = t.ended;
@@ -71,33 +71,29 @@ module _ {T W : Type 0} (tells : T → W → ℕ → ThreadEnd → List Happenin
 
 module _ {A T W : Type 0} (tells : T → W → ℕ → ThreadEnd → List Happening → List Happening → Type 0) where
   -- one thread more is joined
-  pub joined_more : (handles : List (PromisedHandle A (ThreadPromise T W)))
-      (handle : PromisedHandle A (ThreadPromise T W)) (taker leader : Member) (before after : Option Failed)
-      (counts : List ThreadCounts) (shares : List Member)
+  pub joined_more : (handles : List (PromisedHandle A (ThreadPromise T W))) (handle : PromisedHandle A (ThreadPromise T W))
+      (taker leader : Member) (before after : Option Failed) (counts : List ThreadCounts) (shares : List Member)
       (count : ThreadCounts) (share : Member) (ended : ThreadEnd)
       → AreJoined tells handles taker leader before counts shares
       → length counts ≡ length handles
       → (after ≡ None → before ≡ None) → (after ≡ None → IsOk ended.result) → count.unreported ≡ ended.left.unreported
       → tells handle.promise.thread.value handle.promise.program.value handle.promise.number ended [] share.own
       → AreJoined tells (handles ++ handle ∷ []) taker leader after (counts ++ count ∷ []) (shares ++ share ∷ [])
-  joined_more handles handle taker leader before after counts shares count share ended was counted failed well
-      unreported told =
+  joined_more handles handle taker leader before after counts shares count share ended was counted failed well unreported told =
       record {
         rest = was.rest ++ share ∷ [];
         shares_are = ap (λ (xs : List Member). xs ++ share ∷ []) was.shares_are;
         as_many = length-append was.rest (share ∷ []) ∙ ap (λ (n : ℕ). n + 1) was.as_many
             ∙ sym (length-append handles (handle ∷ []));
         each = each_more (λ k (h : PromisedHandle A (ThreadPromise T W)). TellsAt tells h.promise.thread.value
-            h.promise.program.value h.promise.number after (counts ++ count ∷ []) (was.rest ++ share ∷ []) k) handles
-            handle
-            (λ k h e. tells_still tells h.promise.thread.value h.promise.program.value h.promise.number before after
-            counts was.rest k count share failed (was.each k h e))
+            h.promise.program.value h.promise.number after (counts ++ count ∷ []) (was.rest ++ share ∷ []) k) handles handle
+            (λ k h e. tells_still tells h.promise.thread.value h.promise.program.value h.promise.number before after counts was.rest
+            k count share failed (was.each k h e))
             (record {
               ended = ended;
               count = count;
               share = share;
-              count_is = subst (λ (n : ℕ). slice_get (counts ++ count ∷ []) n ≡ Some count) counted
-                  (last_there counts count);
+              count_is = subst (λ (n : ℕ). slice_get (counts ++ count ∷ []) n ≡ Some count) counted (last_there counts count);
               share_is = subst (λ (n : ℕ). slice_get (was.rest ++ share ∷ []) n ≡ Some share) was.as_many
                   (last_there was.rest share);
               unreported = unreported;
@@ -107,10 +103,9 @@ module _ {A T W : Type 0} (tells : T → W → ℕ → ThreadEnd → List Happen
       }
 
   -- what the handles' threads told is what the threads told
-  pub told_each : (handles : List (PromisedHandle A (ThreadPromise T W))) (threads : List T)
-      (program : W) (failed : Option Failed) (counts : List ThreadCounts) (shares : List Member)
-      → AreStarted handles threads program → EachJoined tells handles failed counts shares
-      → EachTells tells threads program failed counts shares
+  pub told_each : (handles : List (PromisedHandle A (ThreadPromise T W))) (threads : List T) (program : W) (failed : Option Failed)
+      (counts : List ThreadCounts) (shares : List Member) → AreStarted handles threads program
+      → EachJoined tells handles failed counts shares → EachTells tells threads program failed counts shares
   told_each handles threads program failed counts shares started joined k thread there =
       let s = started k thread there in
       let j = joined k s.0 s.1 in
@@ -125,8 +120,7 @@ module _ {A T W : Type 0} (tells : T → W → ℕ → ThreadEnd → List Happen
         told =
             subst (λ (t : T). tells t program k j.ended [] j.share.own) s.2
             (subst (λ (n : ℕ). tells s.0.promise.thread.value program n j.ended [] j.share.own) s.3
-            (subst (λ (w : W). tells s.0.promise.thread.value w s.0.promise.number j.ended [] j.share.own)
-            s.4 j.told));
+            (subst (λ (w : W). tells s.0.promise.thread.value w s.0.promise.number j.ended [] j.share.own) s.4 j.told));
       }
 
 module _ {A T W : Type 0} where
@@ -134,8 +128,7 @@ module _ {A T W : Type 0} where
   pub started_more : (handles : List (PromisedHandle A (ThreadPromise T W))) (threads : List T)
       (program : W) (handle : PromisedHandle A (ThreadPromise T W)) (thread : T) → AreStarted handles threads program
       → length handles ≡ length threads
-      → handle.promise.thread.value ≡ thread → handle.promise.number ≡ length handles
-      → handle.promise.program.value ≡ program
+      → handle.promise.thread.value ≡ thread → handle.promise.number ≡ length handles → handle.promise.program.value ≡ program
       → AreStarted (handles ++ handle ∷ []) (threads ++ thread ∷ []) program
   started_more handles threads program handle thread was same its_thread its_number its_program =
       each_more
@@ -153,10 +146,9 @@ module _ {A T W : Type 0} where
 
 -- what is left to prove of a vector that starts with the leader's two shares
 module _ {A T W : Type 0} (tells : T → W → ℕ → ThreadEnd → List Happening → List Happening → Type 0) where
-  pub joined_none : (taker leader : Member) (failed : Option Failed) (shares : List Member)
-      → shares ≡ taker ∷ leader ∷ [] → AreJoined {A = A} tells [] taker leader failed [] shares
-  joined_none taker leader failed shares is =
-      record { rest = []; shares_are = is; as_many = refl; each = λ k h e. absurd cc }
+  pub joined_none : (taker leader : Member) (failed : Option Failed) (shares : List Member) → shares ≡ taker ∷ leader ∷ []
+      → AreJoined {A = A} tells [] taker leader failed [] shares
+  joined_none taker leader failed shares is = record { rest = []; shares_are = is; as_many = refl; each = λ k h e. absurd cc }
 
 -- the leader led, and all threads are joined
 module _ {A T W J E : Type 0} (tells : T → W → ℕ → ThreadEnd → List Happening → List Happening → Type 0)
@@ -172,11 +164,9 @@ module _ {A T W J E : Type 0} (tells : T → W → ℕ → ThreadEnd → List Ha
       → IfOk r (λ j. (taken j ≡ frames) × (missed j ≡ n))
       → leads leader program counted.unreported [] own.own → takes leader program taker.own → TookAll taker frames
       → length handles ≡ length threads
-      → IfOk r (λ j. AreTold tells leads takes threads leader program (failed j) (counts j) (led j) (taken j)
-      (shares j))
+      → IfOk r (λ j. AreTold tells leads takes threads leader program (failed j) (counts j) (led j) (taken j) (shares j))
   all_told handles threads leader program taker own counted frames
-      (Ok j) failed counts led taken missed n shares started joined handed leader_is frames_are told took takes_all
-      many = record {
+      (Ok j) failed counts led taken missed n shares started joined handed leader_is frames_are told took takes_all many = record {
         taker = taker;
         own = own;
         rest = joined.rest;
@@ -189,5 +179,4 @@ module _ {A T W J E : Type 0} (tells : T → W → ℕ → ThreadEnd → List Ha
         handed = handed;
       }
   all_told handles threads leader program taker own counted frames
-      (Err e) failed counts led taken missed n shares started joined handed leader_is frames_are told took takes_all
-      many = tt
+      (Err e) failed counts led taken missed n shares started joined handed leader_is frames_are told took takes_all many = tt

@@ -1,12 +1,12 @@
 -- What is known of a thread's part of a round, and of the leader's frames, where a history was cut.
-use Rattle.std.proofs.Common.{◌≡◌, ℕ, zero, suc, ◌+◌, ◌-◌, ◌*◌, ◌≤◌, ◌==◌, Bool, true, false, List, [], ◌∷◌, ◌++◌, Some}
-use Rattle.std.proofs.Common.{length, inl, inr, refl, ap, sym, subst, ◌∙◌, append_assoc, arith}
+use Rattle.std.proofs.Common.{◌≡◌, ℕ, zero, suc, ◌+◌, ◌-◌, ◌*◌, ◌≤◌, ◌==◌, Bool, true, false, List, []}
+use Rattle.std.proofs.Common.{◌∷◌, ◌++◌, Some, length, inl, inr, refl, ap, sym, subst, ◌∙◌, append_assoc, arith}
 use Rattle.std.specs.Prelude.{sum_by, slice_get}
 use Rattle.std.specs.List.{flat_map}
 use Rattle.std.proofs.lemmas.List.Sums.{sum_by-cons}
 use Rattle.history.specs.Entries.{events, front_if, entries_by}
-use Rattle.puffin.specs.Happenings.{Happening, reported, framed, marked, arrived, released, saw_arrived, saw_released, left}
-use Rattle.puffin.specs.Happenings.{if_marked, releases_of, num_arrived, num_released, frames_in, IsSeen, AreSeen, History}
+use Rattle.puffin.specs.Happenings.{Happening, reported, framed, marked, arrived, released, saw_arrived, saw_released, left, if_marked}
+use Rattle.puffin.specs.Happenings.{releases_of, num_arrived, num_released, frames_in, IsSeen, AreSeen, History}
 use Rattle.puffin.specs.Rounds.{until, MayDo, released_then, KeepsStep, parts_then, frames_then, TakesInTurn}
 use Rattle.puffin.specs.Taking.{FramesOnce}
 use Rattle.puffin.proofs.Growing.{arrived-both, released-both}
@@ -35,31 +35,26 @@ all_seen a b r s (h ∷ hs) p q seen = (
       (omega (arith, q, released-both (h ∷ []) hs)) seen.1,
 )
 
-pub seen_by : (parts rounds k : ℕ) (log : History) → AllSeen parts rounds (events log)
-    → AllSeen parts rounds (entries_by k log)
+pub seen_by : (parts rounds k : ℕ) (log : History) → AllSeen parts rounds (events log) → AllSeen parts rounds (entries_by k log)
 seen_by parts rounds k [] seen = tt
 seen_by parts rounds k (x ∷ log) seen = at (x.0 == k) (seen_by parts rounds k log seen.1)
   where
-    at : (b : Bool) → AllSeen parts rounds (entries_by k log)
-        → AllSeen parts rounds (front_if b x.1 (entries_by k log))
+    at : (b : Bool) → AllSeen parts rounds (entries_by k log) → AllSeen parts rounds (front_if b x.1 (entries_by k log))
     at true rest = (seen.0, rest)
     at false rest = rest
 
-pub seen_front : (parts rounds : ℕ) (xs ys : List Happening) → AllSeen parts rounds (xs ++ ys)
-    → AllSeen parts rounds xs
+pub seen_front : (parts rounds : ℕ) (xs ys : List Happening) → AllSeen parts rounds (xs ++ ys) → AllSeen parts rounds xs
 seen_front parts rounds [] ys seen = tt
 seen_front parts rounds (x ∷ xs) ys seen = (seen.0, seen_front parts rounds xs ys seen.1)
 
 -- ---- a thread
 
-pub steps_front : (parts rounds : ℕ) (xs ys : List Happening) → KeepsStep parts rounds (xs ++ ys)
-    → KeepsStep parts rounds xs
+pub steps_front : (parts rounds : ℕ) (xs ys : List Happening) → KeepsStep parts rounds (xs ++ ys) → KeepsStep parts rounds xs
 steps_front parts rounds [] ys steps = tt
 steps_front parts rounds (x ∷ xs) ys steps =
     (steps.0, steps_front (parts + num_arrived (x ∷ [])) (released_then rounds x) xs ys steps.1)
 
-pub releases_none : (parts rounds : ℕ) (hs : List Happening) → KeepsStep parts rounds hs
-    → flat_map (if_marked releases_of) hs ≡ []
+pub releases_none : (parts rounds : ℕ) (hs : List Happening) → KeepsStep parts rounds hs → flat_map (if_marked releases_of) hs ≡ []
 releases_none parts rounds [] steps = refl
 releases_none parts rounds (reported i r ∷ hs) steps = releases_none (parts + 0) rounds hs steps.1
 releases_none parts rounds (framed streams ∷ hs) steps = absurd steps.0
@@ -70,8 +65,8 @@ releases_none parts rounds (marked (saw_released n) ∷ hs) steps = releases_non
 releases_none parts rounds (marked left ∷ hs) steps = absurd steps.0
 
 -- it does at most one part more than rounds are closed
-pub few_parts : (a most parts rounds : ℕ) (hs : List Happening) → KeepsStep parts rounds hs → AllSeen a most hs
-    → rounds ≤ most → parts ≤ suc rounds → parts + num_arrived hs ≤ suc most
+pub few_parts : (a most parts rounds : ℕ) (hs : List Happening) → KeepsStep parts rounds hs → AllSeen a most hs → rounds ≤ most
+    → parts ≤ suc rounds → parts + num_arrived hs ≤ suc most
 few_parts a most parts rounds [] steps seen few at = omega (arith, few, at)
 few_parts a most parts rounds (reported i r ∷ hs) steps seen few at =
     omega (arith, few_parts a most (parts + 0) rounds hs steps.1 seen.1 few (omega (arith, at)))
@@ -114,8 +109,7 @@ pub cut_there : (a most parts rounds : ℕ) (p q : List Happening) → KeepsStep
     → rounds ≤ most → parts + num_arrived p ≡ suc most → p ≡ until (num_arrived p) (p ++ q)
 cut_there a most parts rounds [] q steps seen few whole = refl
 cut_there a most parts rounds (h ∷ p) q steps seen few whole =
-    at (num_arrived (h ∷ p)) refl (cut_there a most
-    (parts + num_arrived (h ∷ [])) (released_then rounds h) p q steps.1 seen.1
+    at (num_arrived (h ∷ p)) refl (cut_there a most (parts + num_arrived (h ∷ [])) (released_then rounds h) p q steps.1 seen.1
     (few_released a most rounds h seen.0 few) (omega (arith, whole, arrived-both (h ∷ []) p)))
   where
     at : (n : ℕ) → num_arrived (h ∷ p) ≡ n → p ≡ until (num_arrived p) (p ++ q) → h ∷ p ≡ until n (h ∷ (p ++ q))
@@ -157,13 +151,11 @@ leads_on threads rounds own seen taken now led saw (inl same) closed =
           (turns_both threads 0 0 0 rounds own tail (omega (arith, led.closed)) led.takes (λ p. (tt, (tt, refl))));
     }
 leads_on threads rounds own seen taken now led saw (inr (streams, more)) closed =
-    let tail : List Happening = marked (saw_arrived (threads * (rounds + 1))) ∷ framed streams ∷ marked released
-    ∷ [] in
+    let tail : List Happening = marked (saw_arrived (threads * (rounds + 1))) ∷ framed streams ∷ marked released ∷ [] in
     let whole : now ≡ own ++ tail = closed
     ∙ ap (λ (hs : List Happening). hs ++ marked released ∷ [])
     (more ∙ ap (λ (hs : List Happening). hs ++ framed streams ∷ []) saw)
-    ∙ append_assoc (own ++ marked (saw_arrived (threads * (rounds + 1))) ∷ []) (framed streams ∷ [])
-    (marked released ∷ [])
+    ∙ append_assoc (own ++ marked (saw_arrived (threads * (rounds + 1))) ∷ []) (framed streams ∷ []) (marked released ∷ [])
     ∙ append_assoc own (marked (saw_arrived (threads * (rounds + 1))) ∷ []) (framed streams ∷ marked released ∷ []) in
     let next : rounds + 1 ≡ suc (rounds + 0) = omega arith in
     record {
@@ -173,21 +165,15 @@ leads_on threads rounds own seen taken now led saw (inr (streams, more)) closed 
           (λ p. (tt, ((ap (λ (n : ℕ). threads * n) next, refl), (tt, refl)))));
     }
 
-pub few_frames : (threads rounds parts frames : ℕ) (hs : List Happening) → TakesInTurn threads rounds parts frames hs
-    → frames ≤ 1 → length (frames_in hs) + frames ≤ num_released hs
+pub few_frames : (threads rounds parts frames : ℕ) (hs : List Happening) → TakesInTurn threads rounds parts frames hs → frames ≤ 1
+    → length (frames_in hs) + frames ≤ num_released hs
 few_frames threads rounds parts frames [] takes few = omega (arith, takes)
 few_frames threads rounds parts frames (reported i r ∷ hs) takes few = absurd takes.0
 few_frames threads rounds parts frames (framed streams ∷ hs) takes few =
     omega (arith, takes.0.1, few_frames threads (rounds + 0) parts (suc frames) hs takes.1 (omega (arith, takes.0.1)))
 few_frames threads rounds parts frames (marked arrived ∷ hs) takes few = absurd takes.0
 few_frames threads rounds parts frames (marked released ∷ hs) takes few =
-    omega (
-      arith,
-      few,
-      released-both (marked released ∷ []) hs,
-      few_frames threads (rounds + 1) parts 0 hs takes.1
-          (omega arith),
-    )
+    omega (arith, few, released-both (marked released ∷ []) hs, few_frames threads (rounds + 1) parts 0 hs takes.1 (omega arith))
 few_frames threads rounds parts frames (marked (saw_arrived n) ∷ hs) takes few =
     few_frames threads (rounds + 0) n frames hs takes.1 few
 few_frames threads rounds parts frames (marked (saw_released n) ∷ hs) takes few = absurd takes.0
@@ -205,17 +191,11 @@ pub gathered : (threads a b rounds parts frames : ℕ) (p : List Happening) (str
 gathered threads a b rounds parts frames [] streams q takes seen some few = record {
   parts = subst (λ (n : ℕ). threads * suc n ≤ a) (omega arith) (subst (λ (n : ℕ). n ≤ a) takes.0.0 some);
   before = omega (arith, takes.0.1);
-  later = omega (
-    arith,
-    takes.0.1,
-    few_frames threads (rounds + 0) parts (suc frames) q takes.1
-        (omega (arith, takes.0.1)),
-  );
+  later = omega (arith, takes.0.1, few_frames threads (rounds + 0) parts (suc frames) q takes.1 (omega (arith, takes.0.1)));
 }
 gathered threads a b rounds parts frames (reported i r ∷ p) streams q takes seen some few = absurd takes.0
 gathered threads a b rounds parts frames (framed s ∷ p) streams q takes seen some few =
-    let g = gathered threads a b (rounds + 0) parts (suc frames) p streams q takes.1 seen.1 some
-    (omega (arith, takes.0.1)) in
+    let g = gathered threads a b (rounds + 0) parts (suc frames) p streams q takes.1 seen.1 some (omega (arith, takes.0.1)) in
     record {
       parts = subst (λ (n : ℕ). threads * suc n ≤ a) (omega arith) g.parts;
       before =
@@ -232,12 +212,7 @@ gathered threads a b rounds parts frames (marked released ∷ p) streams q takes
     }
 gathered threads a b rounds parts frames (marked (saw_arrived n) ∷ p) streams q takes seen some few =
     let g = gathered threads a b (rounds + 0) n frames p streams q takes.1 seen.1 seen.0 few in
-    record {
-      parts = subst (λ (n : ℕ). threads * suc n ≤ a) (omega arith) g.parts;
-      before = g.before;
-      later =
-          g.later;
-    }
+    record { parts = subst (λ (n : ℕ). threads * suc n ≤ a) (omega arith) g.parts; before = g.before; later = g.later }
 gathered threads a b rounds parts frames (marked (saw_released n) ∷ p) streams q takes seen some few = absurd takes.0
 gathered threads a b rounds parts frames (marked left ∷ p) streams q takes seen some few = absurd takes.0
 

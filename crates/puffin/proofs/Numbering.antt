@@ -1,6 +1,6 @@
 -- Numbers that rise strictly, with one more behind them or one taken out.
-use Rattle.std.proofs.Common.{◌≡◌, ℕ, ◌+◌, ◌<◌, List, [], ◌∷◌, ◌++◌, length, take, drop, map, suc, zero, sym, ap, ◌∙◌, subst}
-use Rattle.std.proofs.Common.{arith, rules}
+use Rattle.std.proofs.Common.{◌≡◌, ℕ, ◌+◌, ◌<◌, List, [], ◌∷◌, ◌++◌, length, take, drop, map, suc, zero, sym}
+use Rattle.std.proofs.Common.{ap, ◌∙◌, subst, arith, rules}
 use Rattle.std.specs.Prelude.{⊤, slice_get, slice_index, get_or, remove, Some}
 use Rattle.std.specs.List.Sorted.{IsStrictlyIncreasing}
 use Rattle.std.proofs.lemmas.List.{map-append, append_assoc}
@@ -34,16 +34,14 @@ next_of k = omega arith
 
 rises : (low : ℕ) (xs : List ℕ) → IsStrictlyIncreasing (low ∷ xs) → Rises low xs
 rises low xs increasing = rises_from low xs (λ k below.
-    subst (λ n. slice_index (low ∷ xs) k < slice_index (low ∷ xs) n) (next_of k)
-    (increasing k (omega (arith, below))))
+    subst (λ n. slice_index (low ∷ xs) k < slice_index (low ∷ xs) n) (next_of k) (increasing k (omega (arith, below))))
 
 increasing : (low : ℕ) (xs : List ℕ) → Rises low xs → IsStrictlyIncreasing (low ∷ xs)
 increasing low xs rise k below =
     subst (λ n. slice_index (low ∷ xs) k < slice_index (low ∷ xs) n) (sym (next_of k))
     (increasing_from low xs rise k (omega (arith, below)))
 
-rises_behind : (low : ℕ) (xs : List ℕ) (n m : ℕ) → n < m → Rises low (xs ++ n ∷ [])
-    → Rises low ((xs ++ n ∷ []) ++ m ∷ [])
+rises_behind : (low : ℕ) (xs : List ℕ) (n m : ℕ) → n < m → Rises low (xs ++ n ∷ []) → Rises low ((xs ++ n ∷ []) ++ m ∷ [])
 rises_behind low [] n m below rise = (rise.0, (below, tt))
 rises_behind low (x ∷ xs) n m below rise = (rise.0, rises_behind x xs n m below rise.1)
 
@@ -69,12 +67,11 @@ module _ {I : Type 0} {F : I → Type 0} where
   numbered-more es next s numbered =
       let P : List ℕ → Type 0 = λ xs. Rises 0 (xs ++ (next + 1) ∷ []) in
       increasing 0 _ (subst P (sym (map-append (λ (entry : SinkEntry I F). entry.id) es _))
-      (rises_behind 0 (map (λ (entry : SinkEntry I F). entry.id) es) next (next + 1) (omega arith)
-      (rises 0 _ numbered)))
+      (rises_behind 0 (map (λ (entry : SinkEntry I F). entry.id) es) next (next + 1) (omega arith) (rises 0 _ numbered)))
 
   -- one taken out
-  pub numbered-fewer : (before after : List (SinkEntry I F)) (e : SinkEntry I F) (next : ℕ)
-      → AreNumbered (before ++ e ∷ after) next → AreNumbered (before ++ after) next
+  pub numbered-fewer : (before after : List (SinkEntry I F)) (e : SinkEntry I F) (next : ℕ) → AreNumbered (before ++ e ∷ after) next
+      → AreNumbered (before ++ after) next
   numbered-fewer before after e next numbered =
       let number : SinkEntry I F → ℕ = λ entry. entry.id in
       let P : List ℕ → Type 0 = λ xs. Rises 0 xs in
@@ -82,8 +79,7 @@ module _ {I : Type 0} {F : I → Type 0} where
       ∙ append_assoc (map number before) (map number (e ∷ after)) (next ∷ []) in
       let rest = ap (λ (xs : List ℕ). xs ++ next ∷ []) (map-append number before after)
       ∙ append_assoc (map number before) (map number after) (next ∷ []) in
-      increasing 0 _ (subst P (sym rest)
-      (rises_without 0 (map number before) e.id
+      increasing 0 _ (subst P (sym rest) (rises_without 0 (map number before) e.id
       (map number after ++ next ∷ []) (subst P all (rises 0 _ numbered))))
 
   -- what is taken out, and what stays
@@ -95,8 +91,7 @@ module _ {I : Type 0} {F : I → Type 0} where
       let same : r ≡ e = is ∙ get_or_from_slice_get xs i e r there in
       let id_is : r.id ≡ id = ap (λ (x : SinkEntry I F). x.id) same ∙ named in
       let whole : r ≡ record { id = id; sink = r.sink } = λ j. record { id = id_is j; sink = r.sink } in
-      let around_it = around xs i e there
-      ∙ ap (λ (x : SinkEntry I F). take i xs ++ x ∷ drop (suc i) xs) (sym same ∙ whole) in
+      let around_it = around xs i e there ∙ ap (λ (x : SinkEntry I F). take i xs ++ x ∷ drop (suc i) xs) (sym same ∙ whole) in
       (take i xs, drop (suc i) xs, around_it, left)
 
   -- sinks that are numbered stay so when one is taken out

@@ -1,6 +1,6 @@
 -- The number of the next registration is new.
-use Rattle.std.proofs.Common.{◌≡◌, ℕ, ◌+◌, ◌<◌, zero, suc, Bool, true, false, cond, List, [], ◌∷◌, ◌++◌, length, map, Some}
-use Rattle.std.proofs.Common.{None, refl, ap, ◌∙◌, arith}
+use Rattle.std.proofs.Common.{◌≡◌, ℕ, ◌+◌, ◌<◌, zero, suc, Bool, true, false, cond, List, [], ◌∷◌, ◌++◌, length}
+use Rattle.std.proofs.Common.{map, Some, None, refl, ap, ◌∙◌, arith}
 use Rattle.std.specs.Prelude.{find, nat_eq}
 use Rattle.std.specs.Option.{option_eq}
 use Rattle.std.proofs.lemmas.Bool.Decides.{nat_tests}
@@ -24,8 +24,7 @@ greater : (id n : ℕ) → n < id → find (λ o. option_eq nat_eq o (Some id)) 
 greater id zero below = refl
 greater id (suc n) below =
     let other : nat_eq (n + 1) id ≡ false = grind (arith, nat_tests, below) in
-    find-append (λ o. option_eq nat_eq o (Some id)) (ids_to n)
-    (Some (n + 1) ∷ []) (greater id n (omega (arith, below)))
+    find-append (λ o. option_eq nat_eq o (Some id)) (ids_to n) (Some (n + 1) ∷ []) (greater id n (omega (arith, below)))
     ∙ ap (λ (b : Bool). cond b (Some (Some (n + 1))) None) other
 
 none_by_ids : (ds : List Details) (id : ℕ) → find (λ o. option_eq nat_eq o (Some id)) (map (λ d. d.id) ds) ≡ None

@@ -1,6 +1,6 @@
 -- A thread that meets others at the end of each round, by what its reporter tells.
-use Rattle.std.proofs.Common.{◌≡◌, ◌⊎◌, ℕ, zero, suc, ◌+◌, ◌-◌, ◌<◌, ◌≤◌, ℤ, Bool, true, false, List, [], ◌∷◌, ◌++◌, Result}
-use Rattle.std.proofs.Common.{Ok, Err, inl, inr, refl, sym, ap, ◌∙◌, subst, append_assoc, arith}
+use Rattle.std.proofs.Common.{◌≡◌, ◌⊎◌, ℕ, zero, suc, ◌+◌, ◌-◌, ◌<◌, ◌≤◌, ℤ, Bool, true, false, List}
+use Rattle.std.proofs.Common.{[], ◌∷◌, ◌++◌, Result, Ok, Err, inl, inr, refl, sym, ap, ◌∙◌, subst, append_assoc, arith}
 use Rattle.std.specs.Prelude.{IsOk}
 use Rattle.std.proofs.lemmas.List.{append-nil}
 use Rattle.std.proofs.lemmas.Grind.{flat_map-append}
@@ -39,8 +39,7 @@ abbrev pub last_seen : ℕ → List Happening → ℕ
 last_seen rounds [] = rounds
 last_seen rounds (h ∷ hs) = last_seen (released_then rounds h) hs
 
-last_seen_both : (rounds : ℕ) (xs ys : List Happening)
-    → last_seen rounds (xs ++ ys) ≡ last_seen (last_seen rounds xs) ys
+last_seen_both : (rounds : ℕ) (xs ys : List Happening) → last_seen rounds (xs ++ ys) ≡ last_seen (last_seen rounds xs) ys
 last_seen_both rounds [] ys = refl
 last_seen_both rounds (x ∷ xs) ys = last_seen_both (released_then rounds x) xs ys
 
@@ -54,8 +53,7 @@ steps_both parts rounds (x ∷ xs) ys steps then_steps = (
       (omega (arith, arrived-both (x ∷ []) xs)) then_steps),
 )
 
-reports_step : (parts rounds : ℕ) (key : ThreadKey) (rs : List StreamFacts) → rounds ≡ parts
-    → KeepsStep parts rounds (under key rs)
+reports_step : (parts rounds : ℕ) (key : ThreadKey) (rs : List StreamFacts) → rounds ≡ parts → KeepsStep parts rounds (under key rs)
 reports_step parts rounds key [] same = tt
 reports_step parts rounds key (r ∷ rs) same = (same, reports_step (parts + 0) rounds key rs (omega (arith, same)))
 
@@ -71,16 +69,15 @@ until_stays : (parts : ℕ) (xs ys : List Happening) → parts ≤ num_arrived x
 until_stays zero xs ys few = refl
 until_stays (suc parts) [] ys few = absurd (omega (arith, few))
 until_stays (suc parts) (x ∷ xs) ys few =
-    ap (λ (hs : List Happening). x ∷ hs)
-    (until_stays (suc parts - num_arrived (x ∷ [])) xs ys (omega (arith, few, arrived-both (x ∷ []) xs)))
+    ap (λ (hs : List Happening). x ∷ hs) (until_stays (suc parts - num_arrived (x ∷ [])) xs ys
+    (omega (arith, few, arrived-both (x ∷ []) xs)))
 
 until_part : (parts : ℕ) (xs ys : List Happening) → num_arrived xs ≡ parts
     → until (suc parts) (xs ++ marked arrived ∷ ys) ≡ xs ++ marked arrived ∷ []
 until_part zero [] ys is = refl
 until_part (suc parts) [] ys is = absurd (omega (arith, is))
 until_part parts (x ∷ xs) ys is =
-    let less : suc parts - num_arrived (x ∷ []) ≡ suc (num_arrived xs) =
-    omega (arith, is, arrived-both (x ∷ []) xs) in
+    let less : suc parts - num_arrived (x ∷ []) ≡ suc (num_arrived xs) = omega (arith, is, arrived-both (x ∷ []) xs) in
     ap (λ (n : ℕ). x ∷ until n (xs ++ marked arrived ∷ ys)) less
     ∙ ap (λ (hs : List Happening). x ∷ hs) (until_part (num_arrived xs) xs ys refl)
 
@@ -100,22 +97,20 @@ which (suc r) (suc t) less = elim (which r t (omega (arith, less))) [
 -- the scopes of one piece of code, and then of another
 scopes_both : (known : ℕ) (form : Form) (code next : Code) (f g : Forest) → AreScopesOf known form code f
     → AreScopesOf known form next g → AreScopesOf known form (followed_by code next) (append f g)
-scopes_both known form nothing next f g is later =
-    subst (λ (x : Forest). AreScopesOf known form next (append x g)) (sym is) later
-scopes_both known form (scope place text within after) next f g
-    (state, may, start, stop, children, others, inner, rest, is) later = (
-      state,
-      may,
-      start,
-      stop,
-      children,
-      append others g,
-      inner,
-      scopes_both known form after next others g
-          rest later,
-      ap (λ (x : Forest). append x g) is
-          ∙ append_append (scope_if state (span_at place (cut_text form text) start stop) children) others g,
-    )
+scopes_both known form nothing next f g is later = subst (λ (x : Forest). AreScopesOf known form next (append x g)) (sym is) later
+scopes_both known form (scope place text within after) next f g (state, may, start, stop, children, others, inner, rest, is) later = (
+  state,
+  may,
+  start,
+  stop,
+  children,
+  append others g,
+  inner,
+  scopes_both known form after next others g rest later,
+  ap
+      (λ (x : Forest). append x g) is ∙ append_append (scope_if state (span_at place (cut_text form text) start stop) children)
+      others g,
+)
 
 -- ---- rounds
 
@@ -135,12 +130,7 @@ module _ {C R : Type 0} (tells : R → List Happening) (is : ℕ → Code → Ty
   same_at a b profiler scopes told =
       ap (λ p. record { known = num_known (scopes_of b); thread = thread_of p; told = unmarked (own b) }) profiler
       ∙ ap (λ s. record { known = num_known s; thread = thread_of (profiler_of a); told = unmarked (own b) }) scopes
-      ∙ ap (λ (hs : List Happening). record {
-        known = num_known (scopes_of a);
-        thread =
-            thread_of (profiler_of a);
-        told = hs;
-      }) told
+      ∙ ap (λ (hs : List Happening). record { known = num_known (scopes_of a); thread = thread_of (profiler_of a); told = hs }) told
 
   -- after so many rounds
   pub record AfterRounds (turn : ℕ) (now : Thread C R) : Type 0 where
@@ -155,8 +145,8 @@ module _ {C R : Type 0} (tells : R → List Happening) (is : ℕ → Code → Ty
     pub each : (round : ℕ) → round < turn → (so_far : Code) × (waits : ℕ) × AreTurns is (suc round) so_far
         × HasRun name Short known so_far [] (until (suc round) (own now)) waits
 
-  pub first_turn : (now : Thread C R) → thread_of (profiler_of now) ≡ new_thread name Short
-      → num_known (scopes_of now) ≡ known → own now ≡ [] → AfterRounds 0 now
+  pub first_turn : (now : Thread C R) → thread_of (profiler_of now) ≡ new_thread name Short → num_known (scopes_of now) ≡ known
+      → own now ≡ [] → AfterRounds 0 now
   first_turn now first knows none = record {
     code = nothing;
     are = refl;
@@ -170,15 +160,12 @@ module _ {C R : Type 0} (tells : R → List Happening) (is : ℕ → Code → Ty
   }
     where
       there : at now ≡ (fresh name known)
-      there = ap (λ (n : ℕ). record { known = n; thread = thread_of (profiler_of now); told = unmarked (own now) })
-          knows
+      there = ap (λ (n : ℕ). record { known = n; thread = thread_of (profiler_of now); told = unmarked (own now) }) knows
           ∙ ap (λ (t : calls.Thread). record { known = known; thread = t; told = unmarked (own now) }) first
-          ∙ ap (λ (hs : List Happening). record { known = known; thread = new_thread name Short; told = unmarked hs })
-          none
+          ∙ ap (λ (hs : List Happening). record { known = known; thread = new_thread name Short; told = unmarked hs }) none
 
   module _ (answers : C → ℤ → C → Type 0) (accepts : R → ThreadKey → List Details → StreamFacts → R → Type 0)
-      (refuses : R → ThreadKey → List Details → StreamFacts → Error → R → Type 0)
-      (keeps : KeepsReports accepts refuses tells)
+      (refuses : R → ThreadKey → List Details → StreamFacts → Error → R → Type 0) (keeps : KeepsReports accepts refuses tells)
       (turn : ℕ) (now new mid last : Thread C R) (next : Code) (p : AfterRounds turn now) (it : is turn next)
       (runs : Runs (BeginsAt answers accepts refuses) (EndsIn answers accepts refuses) next now new)
       (arrives : MarksThere tells new arrived mid) (sees : MarksThere tells mid (saw_released (turn + 1)) last) where
@@ -227,8 +214,7 @@ module _ {C R : Type 0} (tells : R → List Happening) (is : ℕ → Code → Ty
     whole = adds_both (fresh name known) (at now) (at new) p.forest part.0 p.adds part.2
 
     all_scopes : AreScopesOf known Short (followed_by p.code next) (append p.forest part.0)
-    all_scopes = scopes_both known Short p.code next p.forest part.0 p.scopes
-        (moved next part.0 p.adds.known p.adds.form part.1)
+    all_scopes = scopes_both known Short p.code next p.forest part.0 p.scopes (moved next part.0 p.adds.known p.adds.form part.1)
 
     arrived_now : num_arrived (own now ++ more) ≡ turn
     arrived_now = omega (arith, arrived-both (own now) more, no_part (key_at (raw new)) passed.1.streams, p.parts)
@@ -254,9 +240,9 @@ module _ {C R : Type 0} (tells : R → List Happening) (is : ℕ → Code → Ty
         ∙ until_stays (suc round) (own now) tail (omega (arith, below, p.parts)) in
         (e.0, e.1, e.2, subst (λ (hs : List Happening). HasRun name Short known e.0 [] hs e.1) (sym stays) e.3)
     each_so_far round (inr this) =
-        let h = has_added_so_far answers accepts refuses (λ r. unmarked (tells r))
-        (keeps_unmarked accepts refuses tells keeps) (followed_by p.code next) (append p.forest part.0)
-        (fresh name known) new name Short (until (suc turn) (own last)) refl all_scopes whole refl
+        let h = has_added_so_far answers accepts refuses (λ r. unmarked (tells r)) (keeps_unmarked accepts refuses tells keeps)
+        (followed_by p.code next) (append p.forest part.0) (fresh name known) new name Short
+        (until (suc turn) (own last)) refl all_scopes whole refl
         (ap unmarked own_new ∙ sym (marks_nothing (own now ++ more) arrived) ∙ sym (ap unmarked part_until)) in
         subst (λ (r : ℕ). (so_far : Code) × (waits : ℕ) × AreTurns is (suc r) so_far
         × HasRun name Short known so_far [] (until (suc r) (own last)) waits) (sym this)
@@ -279,8 +265,8 @@ module _ {C R : Type 0} (tells : R → List Happening) (is : ℕ → Code → Ty
             (marked arrived ∷ marked (saw_released (turn + 1)) ∷ []),
         arrived_now,
       );
-      closed = ap (last_seen 0) own_last
-          ∙ last_seen_both 0 (own now ++ more) (marked arrived ∷ marked (saw_released (turn + 1)) ∷ []) ∙ omega arith;
+      closed = ap (last_seen 0) own_last ∙ last_seen_both 0
+          (own now ++ more) (marked arrived ∷ marked (saw_released (turn + 1)) ∷ []) ∙ omega arith;
       each = λ round below. each_so_far round (which round turn below);
     }
 
@@ -290,16 +276,13 @@ module _ {C R : Type 0} (tells : R → List Happening) (is : ℕ → Code → Ty
   -- a part that didn't fail, or that of a leader
   pub part_ran : (answers : C → ℤ → C → Type 0) (accepts : R → ThreadKey → List Details → StreamFacts → R → Type 0)
       (refuses : R → ThreadKey → List Details → StreamFacts → Error → R → Type 0) → KeepsReports accepts refuses tells
-      → {X E : Type 0} (states : Bool) (turn : ℕ) (now new then_new mid last : Thread C R) (r : Result X E)
-      (x : X)
+      → {X E : Type 0} (states : Bool) (turn : ℕ) (now new then_new mid last : Thread C R) (r : Result X E) (x : X)
       → states ≡ true → r ≡ Ok x → RunsAs states (is turn) (BeginsAt answers accepts refuses)
       (EndsIn answers accepts refuses) now r new → then_new ≡ new → AfterRounds turn now
-      → MarksThere tells then_new arrived mid → MarksThere tells mid (saw_released (turn + 1)) last
-      → AfterRounds (turn + 1) last
-  part_ran answers accepts refuses keeps {X} {E} states turn now new then_new mid last r x stated well runs same p
-      arrives sees =
-      let ok : RunsAs {E = E} states (is turn) (BeginsAt answers accepts refuses) (EndsIn answers accepts refuses) now
-      (Ok x) new = subst (λ (y : Result X E). RunsAs states (is turn) (BeginsAt answers accepts refuses)
+      → MarksThere tells then_new arrived mid → MarksThere tells mid (saw_released (turn + 1)) last → AfterRounds (turn + 1) last
+  part_ran answers accepts refuses keeps {X} {E} states turn now new then_new mid last r x stated well runs same p arrives sees =
+      let ok : RunsAs {E = E} states (is turn) (BeginsAt answers accepts refuses) (EndsIn answers accepts refuses) now (Ok x) new =
+      subst (λ (y : Result X E). RunsAs states (is turn) (BeginsAt answers accepts refuses)
       (EndsIn answers accepts refuses) now y new) well runs in
       let ran : (code : Code) × is turn code × Runs (BeginsAt answers accepts refuses)
       (EndsIn answers accepts refuses) code now new =
@@ -311,55 +294,41 @@ module _ {C R : Type 0} (tells : R → List Happening) (is : ℕ → Code → Ty
   pub part_led : (answers : C → ℤ → C → Type 0) (accepts : R → ThreadKey → List Details → StreamFacts → R → Type 0)
       (refuses : R → ThreadKey → List Details → StreamFacts → Error → R → Type 0) → KeepsReports accepts refuses tells
       → (states : Bool) (turn : ℕ) (now new mid last : Thread C R)
-      → states ≡ true → LeadsAs states (is turn) (BeginsAt answers accepts refuses)
-      (EndsIn answers accepts refuses) now new → AfterRounds turn now
-      → MarksThere tells new arrived mid → MarksThere tells mid (saw_released (turn + 1)) last
-      → AfterRounds (turn + 1) last
+      → states ≡ true → LeadsAs states (is turn) (BeginsAt answers accepts refuses) (EndsIn answers accepts refuses) now new
+      → AfterRounds turn now
+      → MarksThere tells new arrived mid → MarksThere tells mid (saw_released (turn + 1)) last → AfterRounds (turn + 1) last
   part_led answers accepts refuses keeps states turn now new mid last stated leads p arrives sees =
       let led : (code : Code) × is turn code × Runs (BeginsAt answers accepts refuses)
       (EndsIn answers accepts refuses) code now new =
-      subst (λ (b : Bool). LeadsAs b (is turn) (BeginsAt answers accepts refuses)
-      (EndsIn answers accepts refuses) now new) stated leads in
+      subst (λ (b : Bool). LeadsAs b (is turn) (BeginsAt answers accepts refuses) (EndsIn answers accepts refuses) now new)
+      stated leads in
       next_turn answers accepts refuses keeps turn now new mid last led.0 p led.1 led.2 arrives sees
 
   -- after the last round, what waits was reported, or not
   pub has_run_rounds : (answers : C → ℤ → C → Type 0)
       (accepts : R → ThreadKey → List Details → StreamFacts → R → Type 0)
-      (refuses : R → ThreadKey → List Details → StreamFacts → Error → R → Type 0)
-      → KeepsReports accepts refuses tells
-      → (turn rounds : ℕ) (now : Thread C R)
-      (last : calls.Thread) (after : R) (result : Result Bool Error) (waiting : ℕ) → turn ≤ rounds
-      → AfterRounds turn now
-      → Reports accepts refuses (thread_of (profiler_of now)) last (reporter_of now) after result
-      → waiting ≡ num_ended last.word
+      (refuses : R → ThreadKey → List Details → StreamFacts → Error → R → Type 0) → KeepsReports accepts refuses tells
+      → (turn rounds : ℕ) (now : Thread C R) (last : calls.Thread) (after : R) (result : Result Bool Error) (waiting : ℕ)
+      → turn ≤ rounds → AfterRounds turn now
+      → Reports accepts refuses (thread_of (profiler_of now)) last (reporter_of now) after result → waiting ≡ num_ended last.word
       → HasRunRounds is rounds name known (tells after) waiting
-  has_run_rounds answers accepts refuses keeps turn rounds now last after result waiting within p reports counted =
-      record {
-        code = p.code;
-        are = (turn, within, p.are);
-        ran = has_added answers accepts refuses (λ r. unmarked (tells r))
-            (keeps_unmarked accepts refuses tells keeps) p.code p.forest
-            (fresh name known) now last after name Short result waiting []
-            (tells after) refl p.scopes p.adds reports counted refl refl;
-        step = subst (KeepsStep 0 0) (sym longer) (steps_both 0 0 (own now) more p.step
-            (subst (λ (n : ℕ). KeepsStep n (last_seen 0 (own now)) more)
-            (omega (arith, p.parts)) (subst (λ (n : ℕ). KeepsStep turn n more) (sym p.closed)
-            (reports_step turn turn (key_at ended) passed.streams refl))));
-        each = λ round below.
-            let below_turn : round < turn = omega (
-              arith,
-              below,
-              ap num_arrived longer,
-              arrived-both (own now) more,
-              no_part
-                  (key_at ended) passed.streams,
-              p.parts,
-            ) in
-            let e = p.each round below_turn in
-            let stays : until (suc round) (tells after) ≡ until (suc round) (own now) = ap (until (suc round)) longer
-            ∙ until_stays (suc round) (own now) more (omega (arith, below_turn, p.parts)) in
-            (e.0, e.1, e.2, subst (λ (hs : List Happening). HasRun name Short known e.0 [] hs e.1) (sym stays) e.3);
-      }
+  has_run_rounds answers accepts refuses keeps turn rounds now last after result waiting within p reports counted = record {
+    code = p.code;
+    are = (turn, within, p.are);
+    ran = has_added answers accepts refuses (λ r. unmarked (tells r)) (keeps_unmarked accepts refuses tells keeps) p.code p.forest
+        (fresh name known) now last after name Short result waiting [] (tells after) refl p.scopes p.adds reports counted refl refl;
+    step = subst (KeepsStep 0 0) (sym longer) (steps_both 0 0 (own now) more p.step
+        (subst (λ (n : ℕ). KeepsStep n (last_seen 0 (own now)) more)
+        (omega (arith, p.parts)) (subst (λ (n : ℕ). KeepsStep turn n more) (sym p.closed)
+        (reports_step turn turn (key_at ended) passed.streams refl))));
+    each = λ round below.
+        let below_turn : round < turn = omega
+        (arith, below, ap num_arrived longer, arrived-both (own now) more, no_part (key_at ended) passed.streams, p.parts) in
+        let e = p.each round below_turn in
+        let stays : until (suc round) (tells after) ≡ until (suc round) (own now) = ap (until (suc round)) longer
+        ∙ until_stays (suc round) (own now) more (omega (arith, below_turn, p.parts)) in
+        (e.0, e.1, e.2, subst (λ (hs : List Happening). HasRun name Short known e.0 [] hs e.1) (sym stays) e.3);
+  }
     where
       raw : Stage
       raw = record { known = num_known (scopes_of now); thread = thread_of (profiler_of now); told = own now }
@@ -368,8 +337,7 @@ module _ {C R : Type 0} (tells : R → List Happening) (is : ℕ → Code → Ty
       ended = record { known = num_known (scopes_of now); thread = last; told = tells after }
 
       its : Reports Accepts Refuses (thread_of (profiler_of now)) last (own now) (tells after) result
-      its = reports_by answers accepts refuses tells keeps (thread_of (profiler_of now)) last
-          (reporter_of now) after result reports
+      its = reports_by answers accepts refuses tells keeps (thread_of (profiler_of now)) last (reporter_of now) after result reports
 
       passed : Passes raw ended []
       passed = reports_pass raw ended result
@@ -383,8 +351,8 @@ module _ {C R : Type 0} (tells : R → List Happening) (is : ℕ → Code → Ty
       longer = passed.told
 
 -- what is stated, if it is
-pub if_stated : (states : Bool) (is : ℕ → Code → Type 0) (rounds : ℕ) (name : List ℕ)
-    (known : ℕ) (own : List Happening) (waiting : ℕ) → (states ≡ true → HasRunRounds is rounds name known own waiting)
+pub if_stated : (states : Bool) (is : ℕ → Code → Type 0) (rounds : ℕ) (name : List ℕ) (known : ℕ) (own : List Happening)
+    (waiting : ℕ) → (states ≡ true → HasRunRounds is rounds name known own waiting)
     → HasLedRoundsAs states is rounds name known own waiting
 if_stated false is rounds name known own waiting ran = tt
 if_stated true is rounds name known own waiting ran = ran refl
@@ -394,6 +362,5 @@ pub if_well : {X E : Type 0} (states : Bool) (is : ℕ → Code → Type 0) (rou
     (known : ℕ) (result : Result X E) (own : List Happening) (waiting : ℕ)
     → (IsOk result → states ≡ true → HasRunRounds is rounds name known own waiting)
     → HasRunRoundsAs states is rounds name known result own waiting
-if_well states is rounds name known (Ok x) own waiting ran =
-    if_stated states is rounds name known own waiting (ran refl)
+if_well states is rounds name known (Ok x) own waiting ran = if_stated states is rounds name known own waiting (ran refl)
 if_well states is rounds name known (Err e) own waiting ran = tt

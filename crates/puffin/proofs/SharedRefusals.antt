@@ -16,8 +16,8 @@ sum_cause c r e (inl large) = inr (inl large.0)
 sum_cause c r e (inr (inl long)) = inr (inr (inl long.0))
 sum_cause c r e (inr (inr memory)) = inr (inr (inr memory.0))
 
-report_cause : (c : Collected) (i : ThreadKey) (ds : List Details) (r : StreamFacts) (e : Error)
-    → IsReportRefusal c i ds r e → IsReportCause ds e
+report_cause : (c : Collected) (i : ThreadKey) (ds : List Details) (r : StreamFacts) (e : Error) → IsReportRefusal c i ds r e
+    → IsReportCause ds e
 report_cause c i ds r e (inl missing) = inl missing
 report_cause c i ds r e (inr (inl unlike)) = inr (unlike.1, inl unlike.0)
 report_cause c i ds r e (inr (inr sums)) = inr (sums.0, sum_cause c r e sums.2)
@@ -27,8 +27,7 @@ scopes_cause e (inl missing) = absurd (missing.1 (All-nil _))
 scopes_cause e (inr cause) = cause.1
 
 pub report_refused : {T : Type 0} (r : Result T Error) (old new : Collected) (i : ThreadKey) (ds : List Details)
-    (times : StreamFacts) → IfErr r (λ e. IsReportRefusal old i ds times e × (new ≡ old))
-    → IfErr r (λ e. IsReportCause ds e)
+    (times : StreamFacts) → IfErr r (λ e. IsReportRefusal old i ds times e × (new ≡ old)) → IfErr r (λ e. IsReportCause ds e)
 report_refused (Ok x) old new i ds times h = tt
 report_refused (Err e) old new i ds times h = report_cause old i ds times e h.0
 

@@ -1,6 +1,6 @@
 -- The frames show what the threads did.
-use Rattle.std.proofs.Common.{◌≡◌, ◌≢◌, ℕ, zero, suc, ◌<◌, ◌≤◌, ◌^◌, Bool, true, false, List, [], ◌∷◌, ◌++◌, Option, Some}
-use Rattle.std.proofs.Common.{length, map, get_or, if◌then◌else◌, refl, ap, sym, subst, ◌∙◌, arith}
+use Rattle.std.proofs.Common.{◌≡◌, ◌≢◌, ℕ, zero, suc, ◌<◌, ◌≤◌, ◌^◌, Bool, true, false, List, [], ◌∷◌}
+use Rattle.std.proofs.Common.{◌++◌, Option, Some, length, map, get_or, if◌then◌else◌, refl, ap, sym, subst, ◌∙◌, arith}
 use mathlib.Core.Logic.{∥∥₁_map}
 use Rattle.std.specs.Prelude.{slice_get, count_by, cond}
 use Rattle.std.specs.Str.{bytes_eq}
@@ -33,16 +33,14 @@ under_itself i [] = refl
 under_itself i (r ∷ rs) = ap (λ (b : Bool). (if b then r ∷ [] else []) ++ reports_under i (map (reported i) rs))
     (has_same_key-itself i) ∙ ap (λ (xs : List StreamFacts). r ∷ xs) (under_itself i rs)
 
-pub under_others : (i j : ThreadKey) → j.name ≢ i.name → (rs : List StreamFacts)
-    → reports_under j (map (reported i) rs) ≡ []
+pub under_others : (i j : ThreadKey) → j.name ≢ i.name → (rs : List StreamFacts) → reports_under j (map (reported i) rs) ≡ []
 under_others i j apart [] = refl
 under_others i j apart (r ∷ rs) = unlike (has_same_key j i) refl (under_others i j apart rs)
   where
     unlike : (b : Bool) → has_same_key j i ≡ b → reports_under j (map (reported i) rs) ≡ []
         → (if has_same_key j i then r ∷ [] else []) ++ reports_under j (map (reported i) rs) ≡ []
     unlike true is none = absurd (apart (ap (λ (k : ThreadKey). k.name) (has_same_key-one j i is)))
-    unlike false is none = ap (λ (b : Bool). (if b then r ∷ [] else []) ++ reports_under j (map (reported i) rs)) is
-        ∙ none
+    unlike false is none = ap (λ (b : Bool). (if b then r ∷ [] else []) ++ reports_under j (map (reported i) rs)) is ∙ none
 
 pub no_frames : (i : ThreadKey) (rs : List StreamFacts) → frames_in (map (reported i) rs) ≡ []
 no_frames i [] = refl
@@ -52,8 +50,7 @@ no_frames i (r ∷ rs) = no_frames i rs
 
 under_unmarked : (i : ThreadKey) (hs : List Happening) → reports_under i (unmarked hs) ≡ reports_under i hs
 under_unmarked i [] = refl
-under_unmarked i (reported j r ∷ hs) =
-    ap (λ (rs : List StreamFacts). report_under i (reported j r) ++ rs) (under_unmarked i hs)
+under_unmarked i (reported j r ∷ hs) = ap (λ (rs : List StreamFacts). report_under i (reported j r) ++ rs) (under_unmarked i hs)
 under_unmarked i (framed streams ∷ hs) = under_unmarked i hs
 under_unmarked i (marked mark ∷ hs) = under_unmarked i hs
 
@@ -80,8 +77,7 @@ more_frames before after more is =
 pub spelled_once : (rs : List StreamFacts) (f g : Forest) → AllFit rs → SpellInTurn rs f → SpellInTurn rs g → f ≡ g
 spelled_once [] f g fit h k = h ∙ sym k
 spelled_once (r ∷ rs) f g fit (a, b, honest, rest, is) (c, d, honest2, rest2, is2) =
-    let small : length (spelling r.form a) < 2 ^ 64 =
-    subst (λ (w : List ℕ). length w < 2 ^ 64) honest.stream.whole fit.0 in
+    let small : length (spelling r.form a) < 2 ^ 64 = subst (λ (w : List ℕ). length w < 2 ^ 64) honest.stream.whole fit.0 in
     let first : a ≡ c = same_forest r.form a c honest.stream.fits honest2.stream.fits small
     (sym honest.stream.whole ∙ honest2.stream.whole) in
     is ∙ ap (λ (x : Forest). append x b) first ∙ ap (append c) (spelled_once rs b d fit.1 rest rest2) ∙ sym is2
@@ -91,8 +87,7 @@ spelled_once (r ∷ rs) f g fit (a, b, honest, rest, is) (c, d, honest2, rest2, 
 pub at_most_one : {A : Type 0} (o : Option A) (x y : A) → o ≡ Some x → o ≡ Some y → x ≡ y
 at_most_one o x y p q = let same = sym p ∙ q in cc
 
-pub contained : (ms : List Member) (k : ℕ) (m : Member) → slice_get ms k ≡ Some m
-    → Contains (accounts_of ms) (account_of m)
+pub contained : (ms : List Member) (k : ℕ) (m : Member) → slice_get ms k ≡ Some m → Contains (accounts_of ms) (account_of m)
 contained [] k m e = absurd cc
 contained (x ∷ ms) zero m e = (0, omega arith, let same : x ≡ m = cc in ap account_of same)
 contained (x ∷ ms) (suc k) m e = let c = contained ms k m e in let less = c.1 in (suc c.0, omega arith, c.2)
@@ -118,11 +113,9 @@ pub is_here : (name x : List ℕ) → name ≡ x → here name x ≡ 1
 is_here name x same = ap (λ (b : Bool). cond b 1 0) ((bytes_eq-Decides name x).1 same)
 
 -- a name that stands in a list is counted there
-counted : (name : List ℕ) (names : List (List ℕ)) (k : ℕ) → slice_get names k ≡ Some name
-    → 1 ≤ count_by (bytes_eq name) names
+counted : (name : List ℕ) (names : List (List ℕ)) (k : ℕ) → slice_get names k ≡ Some name → 1 ≤ count_by (bytes_eq name) names
 counted name [] k at = absurd cc
-counted name (x ∷ xs) zero at = let same : name ≡ x = cc in
-    omega (arith, sum_by-cons (here name) x xs, is_here name x same)
+counted name (x ∷ xs) zero at = let same : name ≡ x = cc in omega (arith, sum_by-cons (here name) x xs, is_here name x same)
 counted name (x ∷ xs) (suc k) at = omega (arith, sum_by-cons (here name) x xs, counted name xs k at)
 
 -- and if it stands there once, then at one place
@@ -135,13 +128,12 @@ one_place name (x ∷ xs) zero (suc k) once at also = let same : name ≡ x = cc
 one_place name (x ∷ xs) (suc j) zero once at also = let same : name ≡ x = cc in
     absurd (omega (arith, once, sum_by-cons (here name) x xs, is_here name x same, counted name xs j at))
 one_place name (x ∷ xs) (suc j) (suc k) once at also = let rest : count_by (bytes_eq name) xs ≡ 1 =
-    omega (arith, once, sum_by-cons (here name) x xs, counted name xs j at) in
-    ap suc (one_place name xs j k rest at also)
+    omega (arith, once, sum_by-cons (here name) x xs, counted name xs j at) in ap suc (one_place name xs j k rest at also)
 
 -- ---- what the frames show
 
-abbrev key_for : {name : List ℕ} {known : ℕ} {code : Code} {w : ℕ} (m : Member)
-    → HasRun name Short known code [] m.own w → ThreadKey
+abbrev key_for : {name : List ℕ} {known : ℕ} {code : Code} {w : ℕ} (m : Member) → HasRun name Short known code [] m.own w
+    → ThreadKey
 key_for {name = name} m ran = record { start = ran.start; name = name }
 
 pub frames_show : FramesShow
@@ -152,8 +144,7 @@ frames_show known n is names shares counts taker log pending did same quiet reco
     all = taker ∷ shares
 
     shown : (share : Member) (code : Code) (waiting : ℕ) → slice_get shares k ≡ Some share
-        → HasRun name Short known code [] share.own waiting
-        → ∥ ShowsCode known code name (frames_in taker.own) pending waiting ∥₁
+        → HasRun name Short known code [] share.own waiting → ∥ ShowsCode known code name (frames_in taker.own) pending waiting ∥₁
     shown share code waiting there ran =
         ∥∥₁_map (recounts.threads i (account_of share) (account_of taker) (contained all (suc k) share there)
         (contained all 0 taker refl) (every Others all reports) (every Untaken all takes)) (λ t.
@@ -180,8 +171,7 @@ frames_show known n is names shares counts taker log pending did same quiet reco
 
         reports : (j : ℕ) (m : Member) → slice_get all j ≡ Some m → Others (account_of m)
         reports zero m e other = let is_taker : taker ≡ m = cc in
-            subst (λ (x : Member). reports_under i x.own ≡ []) is_taker
-            (none_in (reports_under i taker.own) (quiet i))
+            subst (λ (x : Member). reports_under i x.own ≡ []) is_taker (none_in (reports_under i taker.own) (quiet i))
         reports (suc j) m e other =
             let its = named_at names shares j m same e in
             let d = did j its.0 its.1 in
@@ -189,15 +179,12 @@ frames_show known n is names shares counts taker log pending did same quiet reco
             subst (λ (x : Member). reports_under i x.own ≡ []) is_d
             (more_under i [] d.0.own _ d.6.told
             ∙ under_others (key_for d.0 d.6) i
-            (λ same_name. let at : j ≡ k =
-            one_place name names j k alone (its.1 ∙ ap Some (sym same_name)) named in
+            (λ same_name. let at : j ≡ k = one_place name names j k alone (its.1 ∙ ap Some (sym same_name)) named in
             other (ap (λ (x : Member). x.number)
-            (at_most_one (slice_get shares j) m share e
-            (ap (slice_get shares) at ∙ there)))) d.6.streams)
+            (at_most_one (slice_get shares j) m share e (ap (slice_get shares) at ∙ there)))) d.6.streams)
 
         takes : (j : ℕ) (m : Member) → slice_get all j ≡ Some m → Untaken (account_of m)
-        takes zero m e other = let is_taker : taker ≡ m = cc in
-            absurd (other (ap (λ (x : Member). x.number) (sym is_taker)))
+        takes zero m e other = let is_taker : taker ≡ m = cc in absurd (other (ap (λ (x : Member). x.number) (sym is_taker)))
         takes (suc j) m e other =
             let its = named_at names shares j m same e in
             let d = did j its.0 its.1 in

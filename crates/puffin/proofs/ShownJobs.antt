@@ -1,6 +1,6 @@
 -- The frames show what each job did whose name no other has.
-use Rattle.std.proofs.Common.{◌≡◌, ◌≢◌, ℕ, ℤ, zero, suc, ◌+◌, ◌<◌, Bool, true, false, List, [], ◌∷◌, ◌++◌, Option, Some}
-use Rattle.std.proofs.Common.{length, map, get_or, refl, ap, sym, subst, ◌∙◌, arith}
+use Rattle.std.proofs.Common.{◌≡◌, ◌≢◌, ℕ, ℤ, zero, suc, ◌+◌, ◌<◌, Bool, true, false, List, [], ◌∷◌}
+use Rattle.std.proofs.Common.{◌++◌, Option, Some, length, map, get_or, refl, ap, sym, subst, ◌∙◌, arith}
 use mathlib.Core.Logic.{∥∥₁_map}
 use Rattle.std.specs.Prelude.{slice_get, count_by}
 use Rattle.std.specs.Str.{bytes_eq}
@@ -20,8 +20,8 @@ use Rattle.puffin.specs.Members.{Member, account_of}
 use Rattle.puffin.specs.Recounted.{SpellInTurn}
 use Rattle.puffin.specs.Telling.{HasRun, Job, HaveRun}
 use Rattle.puffin.specs.Shown.{ShowsCode, IsAlone, names_in, FramesShowJobs}
-use Rattle.puffin.proofs.ShownCode.{under_itself, under_others, no_frames, more_under, more_frames, spelled_once, at_most_one}
-use Rattle.puffin.proofs.ShownCode.{contained, every, here, is_here}
+use Rattle.puffin.proofs.ShownCode.{under_itself, under_others, no_frames, more_under, more_frames, spelled_once, at_most_one, contained}
+use Rattle.puffin.proofs.ShownCode.{every, here, is_here}
 use Rattle.puffin.proofs.TellingShares.{none_in}
 
 abbrev names_of : List Job → List (List ℕ)
@@ -102,8 +102,7 @@ module _ (is : List ℕ → Code → Type 0) (known : ℕ) where
       → Found name jobs after
   present name [] before after once ran none = absurd cc
   present name (job ∷ jobs) before after once (mid, it, ran, rest) none = at (which name job.name) (λ zero_here.
-      present name jobs mid after (let sum = times-cons name job.name (names_of jobs) in
-      omega (arith, once, sum, zero_here)) rest
+      present name jobs mid after (let sum = times-cons name job.name (names_of jobs) in omega (arith, once, sum, zero_here)) rest
       (λ start. apart name job before mid (not_here name job.name zero_here) ran start ∙ none start))
     where
       sum : times name (names_of (job ∷ jobs)) ≡ here name job.name + times name (names_of jobs)
@@ -125,8 +124,7 @@ module _ (is : List ℕ → Code → Type 0) (known : ℕ) where
             alone =
                 absent name jobs mid after (omega (arith, once, sum, one)) rest mine.start
                 ∙ more_under i before mid (map (reported i) mine.streams) mine.told
-                ∙ ap (λ (rs : List StreamFacts). rs ++ reports_under i (map (reported i) mine.streams))
-                (none mine.start)
+                ∙ ap (λ (rs : List StreamFacts). rs ++ reports_under i (map (reported i) mine.streams)) (none mine.start)
                 ∙ under_itself i mine.streams;
           }
       at (is_none zero_here) later =
@@ -137,9 +135,9 @@ module _ (is : List ℕ → Code → Type 0) (known : ℕ) where
             there = (suc c.0, omega arith, c.2);
             named = f.named;
             it = f.it;
-            before =
-                f.before;
-            mid = f.mid;
+            before = f.before;
+            mid =
+                f.mid;
             ran = f.ran;
             alone = f.alone;
           }
@@ -156,8 +154,7 @@ nowhere : (name : List ℕ) (threads : List (List Job)) → times name (names_in
 nowhere name [] none j jobs e = absurd cc
 nowhere name (x ∷ xs) none zero jobs e = let sum = times-in name x xs in let eq : x ≡ jobs = cc in
     subst (λ (js : List Job). times name (names_of js) ≡ 0) eq (omega (arith, none, sum))
-nowhere name (x ∷ xs) none (suc j) jobs e = let sum = times-in name x xs in
-    nowhere name xs (omega (arith, none, sum)) j jobs e
+nowhere name (x ∷ xs) none (suc j) jobs e = let sum = times-in name x xs in nowhere name xs (omega (arith, none, sum)) j jobs e
 
 record At (name : List ℕ) (threads : List (List Job)) : Type 0 where
   pub k : ℕ
@@ -187,8 +184,7 @@ find name (x ∷ xs) alone = by (times name (names_of x)) refl
       where
         elsewhere : (f : At name xs) (j : ℕ) (other : List Job) → slice_get (x ∷ xs) j ≡ Some other → j ≢ suc f.k
             → times name (names_of other) ≡ 0
-        elsewhere f zero other e apart = let eq : x ≡ other = cc in
-            subst (λ (js : List Job). times name (names_of js) ≡ 0) eq is
+        elsewhere f zero other e apart = let eq : x ≡ other = cc in subst (λ (js : List Job). times name (names_of js) ≡ 0) eq is
         elsewhere f (suc j) other e apart = f.others j other e (λ same. apart (ap suc same))
     by (suc zero) is later = record {
       k = 0;
@@ -198,8 +194,7 @@ find name (x ∷ xs) alone = by (times name (names_of x)) refl
       others = λ j other e apart. elsewhere j other e apart;
     }
       where
-        elsewhere : (j : ℕ) (other : List Job) → slice_get (x ∷ xs) j ≡ Some other → j ≢ 0
-            → times name (names_of other) ≡ 0
+        elsewhere : (j : ℕ) (other : List Job) → slice_get (x ∷ xs) j ≡ Some other → j ≢ 0 → times name (names_of other) ≡ 0
         elsewhere zero other e apart = absurd (apart refl)
         elsewhere (suc j) other e apart = nowhere name xs (omega (arith, alone, sum, is)) j other e
     by (suc (suc n)) is later = absurd (omega (arith, alone, sum, is))
@@ -236,8 +231,7 @@ frames_show_jobs known n is threads shares taker log pending did same quiet reco
           shown = t.0;
           waits = ran.waits;
           spelled = t.1;
-          began = subst (λ (x : Forest). AreScopesOf known Short found.job.code (append x ran.waits))
-              (sym one) ran.began;
+          began = subst (λ (x : Forest). AreScopesOf known Short found.job.code (append x ran.waits)) (sym one) ran.began;
           counted = ran.counted;
         })
       where
@@ -255,22 +249,18 @@ frames_show_jobs known n is threads shares taker log pending did same quiet reco
 
         reports : (j : ℕ) (m : Member) → slice_get all j ≡ Some m → Others (account_of m)
         reports zero m e other = let is_taker : taker ≡ m = cc in
-            subst (λ (x : Member). reports_under i x.own ≡ []) is_taker
-            (none_in (reports_under i taker.own) (quiet i))
+            subst (λ (x : Member). reports_under i x.own ≡ []) is_taker (none_in (reports_under i taker.own) (quiet i))
         reports (suc j) m e other =
             let its = did_at threads shares j m same e in
             let d = did j its.0 its.1 in
             let is_d : d.0 ≡ m = at_most_one (slice_get shares j) d.0 m d.1 e in
-            let none = at.others j its.0 its.1
-            (λ (here_too : j ≡ at.k). other
-            (ap (λ (x : Member). x.number)
-            (at_most_one (slice_get shares j) m share e (ap (slice_get shares) here_too ∙ there)))) in
-            subst (λ (x : Member). reports_under i x.own ≡ []) is_d
-            (absent (is j) known name its.0 [] d.0.own none d.2 ran.start)
+            let none = at.others j its.0 its.1 (λ (here_too : j ≡ at.k). other
+            (ap (λ (x : Member). x.number) (at_most_one (slice_get shares j) m share e
+            (ap (slice_get shares) here_too ∙ there)))) in
+            subst (λ (x : Member). reports_under i x.own ≡ []) is_d (absent (is j) known name its.0 [] d.0.own none d.2 ran.start)
 
         takes : (j : ℕ) (m : Member) → slice_get all j ≡ Some m → Untaken (account_of m)
-        takes zero m e other = let is_taker : taker ≡ m = cc in
-            absurd (other (ap (λ (x : Member). x.number) (sym is_taker)))
+        takes zero m e other = let is_taker : taker ≡ m = cc in absurd (other (ap (λ (x : Member). x.number) (sym is_taker)))
         takes (suc j) m e other =
             let its = did_at threads shares j m same e in
             let d = did j its.0 its.1 in

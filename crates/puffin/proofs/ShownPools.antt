@@ -1,6 +1,6 @@
 -- What a pool shows, by what its threads told.
-use Rattle.std.proofs.Common.{◌≡◌, ℕ, zero, suc, ◌<◌, Bool, true, false, List, [], ◌∷◌, Some, None, Result, Ok, Err, length}
-use Rattle.std.proofs.Common.{string_bytes, refl, sym, ap, subst, ◌∙◌, arith}
+use Rattle.std.proofs.Common.{◌≡◌, ℕ, zero, suc, ◌<◌, Bool, true, false, List, [], ◌∷◌, Some, None, Result, Ok, Err}
+use Rattle.std.proofs.Common.{length, string_bytes, refl, sym, ap, subst, ◌∙◌, arith}
 use Rattle.std.specs.Prelude.{slice_get, IsOk, IfOk, OnOk}
 use Rattle.puffin_data.specs.declared.data.form.Form.TheVariants.{Short}
 use Rattle.puffin_frames.specs.Frame.Contents.{Streams}
@@ -55,20 +55,17 @@ module _ (C : Type 0) {W : Type 0} (states : W → Bool) (does : W → List ℕ 
     (takes : W → List Streams → Type 0) where
   abbrev tells : Ready C → W → ℕ → ThreadEnd → List Happening → List Happening → Type 0
   tells ready pool number ended before after =
-      OnOk ended.result (HaveRunAs (states pool) (does pool)
-      (num_known ready.scopes) before after ended.left.unreported)
+      OnOk ended.result (HaveRunAs (states pool) (does pool) (num_known ready.scopes) before after ended.left.unreported)
 
   abbrev led_tells : Ready C → W → ℕ → List Happening → List Happening → Type 0
   led_tells ready pool unreported before after =
-      HasLedAs (states pool) (leads pool) (string_bytes ready.name) Short
-      (num_known ready.scopes) before after unreported
+      HasLedAs (states pool) (leads pool) (string_bytes ready.name) Short (num_known ready.scopes) before after unreported
 
   abbrev took : Ready C → W → List Happening → Type 0
   took ready pool told = takes pool (frames_in told)
 
   shown : (known : ℕ) (leader_name : List ℕ) (names : List (List ℕ)) (pool : W) (outcome : Outcome)
-      → NamedTold tells led_tells took known leader_name names pool outcome → states pool ≡ true
-      → outcome.failed ≡ None
+      → NamedTold tells led_tells took known leader_name names pool outcome → states pool ≡ true → outcome.failed ≡ None
       → ShowsPool (takes pool) known (leads pool) (does pool) leader_name outcome
   shown known leader_name names pool outcome told stated none = record {
     frames = frames_in a.taker.own;
@@ -83,17 +80,15 @@ module _ (C : Type 0) {W : Type 0} (states : W → Bool) (does : W → List ℕ 
     counted = λ k jobs e. let d = all.2 k jobs e in (d.count, d.count_is, d.unreported);
     each =
         frames_show_jobs known (length t.shares) (leader_before (leads pool) (does pool))
-        ((led ∷ []) ∷ all.0) (a.own ∷ a.rest) a.taker t.log t.pending did
-        (ap suc (a.as_many ∙ sym all.1)) a.took.quiet
-        (subst (λ (ms : List Member). Recounts (length t.shares) (accounts_of ms) t.log t.pending)
-        a.shares_are t.recounts);
+        ((led ∷ []) ∷ all.0) (a.own ∷ a.rest) a.taker t.log t.pending did (ap suc (a.as_many ∙ sym all.1)) a.took.quiet
+        (subst (λ (ms : List Member). Recounts (length t.shares) (accounts_of ms) t.log t.pending) a.shares_are t.recounts);
   }
     where
       t : HasTold tells led_tells took told.threads told.leader pool outcome
       t = told.told
 
-      a : AreTold tells led_tells took told.threads told.leader pool outcome.failed outcome.threads.items
-          outcome.leader outcome.frames t.shares
+      a : AreTold tells led_tells took told.threads told.leader pool outcome.failed outcome.threads.items outcome.leader
+          outcome.frames t.shares
       a = t.are
 
       its : HasLedAs true (leads pool) (string_bytes told.leader.name) Short
@@ -105,29 +100,25 @@ module _ (C : Type 0) {W : Type 0} (states : W → Bool) (does : W → List ℕ 
       led = record { name = leader_name; code = its.0; unreported = outcome.leader.unreported }
 
       led_ran : HasRun leader_name Short known its.0 [] a.own.own outcome.leader.unreported
-      led_ran = subst (λ (n : ℕ). HasRun leader_name Short n its.0 [] a.own.own outcome.leader.unreported)
-          told.leader_named.1
-          (subst (λ (x : List ℕ). HasRun x Short
-          (num_known told.leader.scopes) its.0 [] a.own.own outcome.leader.unreported) told.leader_named.0 its.2)
+      led_ran = subst (λ (n : ℕ). HasRun leader_name Short n its.0 [] a.own.own outcome.leader.unreported) told.leader_named.1
+          (subst (λ (x : List ℕ). HasRun x Short (num_known told.leader.scopes) its.0 [] a.own.own outcome.leader.unreported)
+          told.leader_named.0 its.2)
 
-      one : (k : ℕ) → k < length told.threads
-          → (jobs : List Job) × Did (does pool) known outcome.threads.items a.rest k jobs
+      one : (k : ℕ) → k < length told.threads → (jobs : List Job) × Did (does pool) known outcome.threads.items a.rest k jobs
       one k below =
           let thread = there told.threads k below in
           let it = a.each k thread.0 thread.1 in
           let known_there = num_known thread.0.scopes in
-          let ran = subst (λ (b : Bool). HaveRunAs b (does pool) known_there [] it.share.own it.ended.left.unreported)
-          stated
-          (well_so (HaveRunAs (states pool) (does pool) known_there [] it.share.own it.ended.left.unreported)
-          it.ended.result (it.went_well none) it.told) in (
+          let ran = subst (λ (b : Bool). HaveRunAs b (does pool) known_there [] it.share.own it.ended.left.unreported) stated
+          (well_so (HaveRunAs (states pool) (does pool) known_there [] it.share.own it.ended.left.unreported) it.ended.result
+          (it.went_well none) it.told) in (
             ran.0,
             record {
               share = it.share;
               count = it.count;
               share_is = it.share_is;
               count_is = it.count_is;
-              ran = subst (λ (n : ℕ). HaveRun (does pool) n ran.0 [] it.share.own)
-                  (told.named k thread.0 thread.1).1 ran.1;
+              ran = subst (λ (n : ℕ). HaveRun (does pool) n ran.0 [] it.share.own) (told.named k thread.0 thread.1).1 ran.1;
               unreported = it.unreported ∙ ran.2;
             },
           )
@@ -141,8 +132,7 @@ module _ (C : Type 0) {W : Type 0} (states : W → Bool) (does : W → List ℕ 
       did zero jobs e = let same : led ∷ [] ≡ jobs = cc in (
         a.own,
         refl,
-        subst (λ (js : List Job). HaveRun
-            (leader_before (leads pool) (does pool) 0) known js [] a.own.own) same
+        subst (λ (js : List Job). HaveRun (leader_before (leads pool) (does pool) 0) known js [] a.own.own) same
             (a.own.own, its.1, led_ran, refl),
       )
       did (suc k) jobs e = let d = all.2 k jobs e in (d.share, d.share_is, d.ran)
@@ -156,8 +146,7 @@ module _ (C : Type 0) {W : Type 0} (states : W → Bool) (does : W → List ℕ 
       by false is = tt
       by true is = shown known leader_name names pool outcome told is
 
-  pub pool_shows_if : {E : Type 0} (known : ℕ) (leader_name : List ℕ) (names : List (List ℕ))
-      (pool : W) (r : Result Outcome E)
+  pub pool_shows_if : {E : Type 0} (known : ℕ) (leader_name : List ℕ) (names : List (List ℕ)) (pool : W) (r : Result Outcome E)
       → IfOk r (λ outcome. NamedTold tells led_tells took known leader_name names pool outcome)
       → IfOk r (λ outcome. PoolShows (states pool) (takes pool) known (leads pool) (does pool) leader_name outcome)
   pool_shows_if known leader_name names pool (Ok outcome) told = shows known leader_name names pool outcome told

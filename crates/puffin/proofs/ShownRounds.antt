@@ -1,7 +1,7 @@
 -- What the frames of a program in rounds show, by what its threads told.
-use Rattle.std.proofs.Common.{◌≡◌, ◌≢◌, ℕ, zero, suc, ◌+◌, ◌*◌, ◌<◌, ◌≤◌, Bool, true, false, List, [], ◌∷◌, ◌++◌, Option}
-use Rattle.std.proofs.Common.{Some, None, Result, Ok, Err, length, map, take, string_bytes, refl, ap, sym, subst, ◌∙◌}
-use Rattle.std.proofs.Common.{append_assoc, length-append, arith}
+use Rattle.std.proofs.Common.{◌≡◌, ◌≢◌, ℕ, zero, suc, ◌+◌, ◌*◌, ◌<◌, ◌≤◌, Bool, true, false, List, []}
+use Rattle.std.proofs.Common.{◌∷◌, ◌++◌, Option, Some, None, Result, Ok, Err, length, map, take, string_bytes, refl, ap, sym}
+use Rattle.std.proofs.Common.{subst, ◌∙◌, append_assoc, length-append, arith}
 use mathlib.Core.Logic.{∥∥₁_map}
 use Rattle.std.specs.Prelude.{slice_get, IfOk, sum_by}
 use Rattle.std.specs.FinMap as fin_map
@@ -20,23 +20,23 @@ use Rattle.puffin.specs.declared.light.outcome.ThreadCounts.{ThreadCounts}
 use Rattle.puffin.specs.declared.light.ready.ThreadEnd.{ThreadEnd}
 use Rattle.puffin.specs.declared.light.ready.Ready.{Ready}
 use Rattle.puffin.specs.Code.{Code, AreTurns, AreRounds}
-use Rattle.puffin.specs.Happenings.{Happening, reported, framed, marked, arrived, released, saw_arrived, saw_released, left}
-use Rattle.puffin.specs.Happenings.{History, frame_of, frames_in, report_under, reports_under, if_marked, releases_of}
-use Rattle.puffin.specs.Happenings.{num_arrived, num_released, AreSeen, Stands}
+use Rattle.puffin.specs.Happenings.{Happening, reported, framed, marked, arrived, released, saw_arrived, saw_released, left, History}
+use Rattle.puffin.specs.Happenings.{frame_of, frames_in, report_under, reports_under, if_marked, releases_of, num_arrived, num_released}
+use Rattle.puffin.specs.Happenings.{AreSeen, Stands}
 use Rattle.puffin.specs.Joined.{AreTold, HasTold}
 use Rattle.puffin.specs.Leaving.{accounts_of}
 use Rattle.puffin.specs.Members.{Member, account_of}
 use Rattle.puffin.specs.Places.{num_known}
 use Rattle.puffin.specs.Recounted.{Recounts, ReportsNothing}
-use Rattle.puffin.specs.Rounds.{until, KeepsStep, HasRunRounds, HasRunRoundsAs, HasLedRoundsAs, TakesInTurn, TakesTurns}
-use Rattle.puffin.specs.Rounds.{in_round, ShowsRounds, RoundsShow}
+use Rattle.puffin.specs.Rounds.{until, KeepsStep, HasRunRounds, HasRunRoundsAs, HasLedRoundsAs, TakesInTurn, TakesTurns, in_round}
+use Rattle.puffin.specs.Rounds.{ShowsRounds, RoundsShow}
 use Rattle.puffin.specs.Shown.{NamedTold, RanEach, ShowsEach, leader_first}
 use Rattle.puffin.specs.Telling.{HasRun}
 use Rattle.puffin.proofs.CutHistory.{Split, FrameAt, cut, cut_authors, split_at, frame_at, stands_at, all_parts}
 use Rattle.puffin.proofs.CutHistory as history
 use Rattle.puffin.proofs.Growing.{released-both, arrived-both}
-use Rattle.puffin.proofs.KeptSteps.{AllSeen, all_seen, seen_by, seen_front, steps_front, releases_none, few_parts, cut_there}
-use Rattle.puffin.proofs.KeptSteps.{few_frames, Gathered, gathered, each_full}
+use Rattle.puffin.proofs.KeptSteps.{AllSeen, all_seen, seen_by, seen_front, steps_front, releases_none, few_parts, cut_there, few_frames}
+use Rattle.puffin.proofs.KeptSteps.{Gathered, gathered, each_full}
 use Rattle.puffin.proofs.ShownCode.{frames_show, at_most_one, contained, every}
 use Rattle.puffin.proofs.ShownPools.{chosen, well_so}
 use Rattle.puffin.proofs.ShownRuns.{there}
@@ -72,8 +72,8 @@ parts_cut log (m ∷ ms) =
 
 module _ (known rounds n : ℕ) (is : ℕ → ℕ → Code → Type 0) (names : List (List ℕ)) (shares : List Member)
     (taker : Member) (log : History) (pending : Streams)
-    (did : RanRoundsEach known rounds is names shares) (long : length shares ≡ length names)
-    (quiet : ReportsNothing taker.own) (takes : TakesInTurn (length shares) 0 0 0 taker.own)
+    (did : RanRoundsEach known rounds is names shares) (long : length shares ≡ length names) (quiet : ReportsNothing taker.own)
+    (takes : TakesInTurn (length shares) 0 0 0 taker.own)
     (recounts : Recounts n (accounts_of (taker ∷ shares)) log pending)
     (full : length (frames_in taker.own) ≡ num_released taker.own)
     (round : ℕ) (below : round < length (frames_in taker.own)) where
@@ -96,8 +96,7 @@ module _ (known rounds n : ℕ) (is : ℕ → ℕ → Code → Type 0) (names : 
   whole : log ≡ now ++ s.later
   whole = s.whole ∙ sym (append_assoc s.before ((taker.number, framed f.streams) ∷ []) s.later)
 
-  own_then : (j : ℕ) (m : Member) → slice_get all j ≡ Some m
-      → m.own ≡ entries_by m.number now ++ entries_by m.number s.later
+  own_then : (j : ℕ) (m : Member) → slice_get all j ≡ Some m → m.own ≡ entries_by m.number now ++ entries_by m.number s.later
   own_then j m e = own_of j m e ∙ ap (entries_by m.number) whole ∙ entries_by-append m.number now s.later
 
   taken_then : entries_by taker.number now ≡ f.before ++ framed f.streams ∷ []
@@ -109,12 +108,10 @@ module _ (known rounds n : ℕ) (is : ℕ → ℕ → Code → Type 0) (names : 
   events_now = events-append s.before ((taker.number, framed f.streams) ∷ [])
 
   authors : AreAllAuthors n (accounts_of (map (cut now) all)) now
-  authors = cut_authors n all now s.later
-      (subst (λ (l : History). AreAllAuthors n (accounts_of all) l) whole recounts.all)
+  authors = cut_authors n all now s.later (subst (λ (l : History). AreAllAuthors n (accounts_of all) l) whole recounts.all)
 
   events_whole : events log ≡ (events s.before ++ framed f.streams ∷ []) ++ events s.later
-  events_whole = ap events whole ∙ events-append now s.later
-      ∙ ap (λ (hs : List Happening). hs ++ events s.later) events_now
+  events_whole = ap events whole ∙ events-append now s.later ∙ ap (λ (hs : List Happening). hs ++ events s.later) events_now
 
   stands : ∥ Stands fin_map.empty (events now) ∥₁
   stands = ∥∥₁_map recounts.stands (λ (t : Stands pending (events log)).
@@ -139,11 +136,9 @@ module _ (known rounds n : ℕ) (is : ℕ → ℕ → Code → Type 0) (names : 
   Unclosed a = a.0 ≢ taker.number → flat_map (if_marked releases_of) a.1 ≡ []
 
   unclosed : (j : ℕ) (m : Member) → slice_get (map (cut now) all) j ≡ Some m → Unclosed (account_of m)
-  unclosed zero m e = λ other. let same : cut now taker ≡ m = cc in
-      absurd (other (ap (λ (x : Member). x.number) (sym same)))
+  unclosed zero m e = λ other. let same : cut now taker ≡ m = cc in absurd (other (ap (λ (x : Member). x.number) (sym same)))
   unclosed (suc j) m e = λ other.
-      let c = there shares j (subst (λ (k : ℕ). j < k) (long_cut now shares)
-      (slice_get_within (map (cut now) shares) j m e)) in
+      let c = there shares j (subst (λ (k : ℕ). j < k) (long_cut now shares) (slice_get_within (map (cut now) shares) j m e)) in
       let same : cut now c.0 ≡ m = at_most_one (slice_get (map (cut now) shares) j) (cut now c.0) m
       (cut_in now shares j c.0 c.1) e in
       subst (λ (x : Member). flat_map (if_marked releases_of) x.own ≡ []) same
@@ -178,8 +173,7 @@ module _ (known rounds n : ℕ) (is : ℕ → ℕ → Code → Type 0) (names : 
   this_round : num_released f.before ≡ round
   this_round =
       let frames : length (frames_in taker.own) ≡ length (frames_in f.before) + suc (length (frames_in f.later)) =
-      ap (λ hs. length (frames_in hs)) f.whole
-      ∙ ap length (flat_map-append frame_of f.before (framed f.streams ∷ f.later))
+      ap (λ hs. length (frames_in hs)) f.whole ∙ ap length (flat_map-append frame_of f.before (framed f.streams ∷ f.later))
       ∙ length-append (frames_in f.before) (f.streams ∷ frames_in f.later) in
       let closed : num_released taker.own ≡ num_released f.before + num_released f.later = ap num_released f.whole
       ∙ released-both f.before (framed f.streams ∷ f.later) in
@@ -192,8 +186,8 @@ module _ (known rounds n : ℕ) (is : ℕ → ℕ → Code → Type 0) (names : 
   most j m e = omega (
     arith,
     this_round,
-    few_parts (num_arrived (events now)) (num_released f.before) 0 0
-        (entries_by m.number now) (step_then j m e) (seen_in m.number) (omega arith) (omega arith),
+    few_parts (num_arrived (events now)) (num_released f.before) 0 0 (entries_by m.number now)
+        (step_then j m e) (seen_in m.number) (omega arith) (omega arith),
   )
 
   enough : length shares * suc round ≤ sum_by (λ (m : Member). parts m.number) shares
@@ -210,8 +204,7 @@ module _ (known rounds n : ℕ) (is : ℕ → ℕ → Code → Type 0) (names : 
       omega (arith, sum, none, split, all_of, gathered_parts)
     where
       takes_no_part : (threads r p frames : ℕ) (hs : List Happening) (streams : Streams) (later : List Happening)
-          → TakesInTurn threads r p frames (hs ++ framed streams ∷ later)
-          → num_arrived (hs ++ framed streams ∷ []) ≡ 0
+          → TakesInTurn threads r p frames (hs ++ framed streams ∷ later) → num_arrived (hs ++ framed streams ∷ []) ≡ 0
       takes_no_part threads r p frames [] streams later takes = refl
       takes_no_part threads r p frames (reported i x ∷ hs) streams later takes = absurd takes.0
       takes_no_part threads r p frames (framed x ∷ hs) streams later takes =
@@ -229,8 +222,8 @@ module _ (known rounds n : ℕ) (is : ℕ → ℕ → Code → Type 0) (names : 
 
   -- each thread had run just this and the earlier rounds
   ran : (k : ℕ) → k < length names → (count : ThreadCounts) × ((name : List ℕ) → slice_get names k ≡ Some name →
-      (share : Member) × (code : Code) × (slice_get (map (cut now) shares) k ≡ Some share)
-      × AreTurns (is k) (suc round) code × HasRun name Short known code [] share.own count.unreported)
+      (share : Member) × (code : Code) × (slice_get (map (cut now) shares) k ≡ Some share) × AreTurns (is k) (suc round) code
+      × HasRun name Short known code [] share.own count.unreported)
   ran k within =
       let its_name = there names k within in
       let d = did k its_name.0 its_name.1 in
@@ -244,9 +237,8 @@ module _ (known rounds n : ℕ) (is : ℕ → ℕ → Code → Type 0) (names : 
         done,
       )) in
       let cut_is : entries_by d.0.number now ≡ until (suc round) d.0.own =
-      cut_there (num_arrived (events now)) (num_released f.before) 0 0 (entries_by d.0.number now)
-      (entries_by d.0.number s.later) (subst (KeepsStep 0 0) own (step_of k d.0 d.2)) (seen_in d.0.number)
-      (omega arith) (omega (arith, done, this_round))
+      cut_there (num_arrived (events now)) (num_released f.before) 0 0 (entries_by d.0.number now) (entries_by d.0.number s.later)
+      (subst (KeepsStep 0 0) own (step_of k d.0 d.2)) (seen_in d.0.number) (omega arith) (omega (arith, done, this_round))
       ∙ ap (λ (m : ℕ). until m (entries_by d.0.number now ++ entries_by d.0.number s.later)) done
       ∙ ap (until (suc round)) (sym own) in (
         record { reported = 0; unreported = e.1; refused = 0; left_open = 0 },
@@ -261,18 +253,15 @@ module _ (known rounds n : ℕ) (is : ℕ → ℕ → Code → Type 0) (names : 
         ),
       )
 
-  shows_then : (counts : List ThreadCounts)
-      × ShowsEach known (λ number. AreTurns (is number) (suc round)) names counts
+  shows_then : (counts : List ThreadCounts) × ShowsEach known (λ number. AreTurns (is number) (suc round)) names counts
       (take (suc round) (frames_in taker.own)) fin_map.empty
   shows_then =
       let c = chosen (λ k (count : ThreadCounts). (name : List ℕ) → slice_get names k ≡ Some name →
-      (share : Member) × (code : Code) × (slice_get (map (cut now) shares) k ≡ Some share)
-      × AreTurns (is k) (suc round) code × HasRun name Short known code [] share.own count.unreported)
-      (length names) ran in (
+      (share : Member) × (code : Code) × (slice_get (map (cut now) shares) k ≡ Some share) × AreTurns (is k) (suc round) code
+      × HasRun name Short known code [] share.own count.unreported) (length names) ran in (
         c.0,
         subst (λ (frames : List Streams). ShowsEach known
-            (λ number. AreTurns (is number) (suc round)) names c.0 frames fin_map.empty)
-            (ap frames_in taken_then ∙ sym f.first)
+            (λ number. AreTurns (is number) (suc round)) names c.0 frames fin_map.empty) (ap frames_in taken_then ∙ sym f.first)
             (frames_show known n (λ number. AreTurns (is number) (suc round)) names (map (cut now) shares) c.0
             (cut now taker) now fin_map.empty
             (λ k name at.
@@ -280,11 +269,9 @@ module _ (known rounds n : ℕ) (is : ℕ → ℕ → Code → Type 0) (names : 
             let r = c.2 k at_k.0 at_k.1 name at in
             (r.0, at_k.0, r.1, r.2, at_k.1, r.3, r.4))
             (long_cut now shares ∙ long)
-            (λ i. let parts : reports_under i taker.own ≡ reports_under i
-            (entries_by taker.number now) ++ reports_under i (entries_by taker.number s.later) =
-            ap (reports_under i) (own_then 0 taker refl)
-            ∙ flat_map-append (report_under i) (entries_by taker.number now)
-            (entries_by taker.number s.later) in
+            (λ i. let parts : reports_under i taker.own ≡ reports_under i (entries_by taker.number now) ++ reports_under i
+            (entries_by taker.number s.later) = ap (reports_under i) (own_then 0 taker refl)
+            ∙ flat_map-append (report_under i) (entries_by taker.number now) (entries_by taker.number s.later) in
             omega (
               arith,
               quiet i,
@@ -313,15 +300,13 @@ module _ (C : Type 0) {W : Type 0} (states : W → Bool) (runs : W → ℕ → �
   took ready program told = TakesTurns (threads program) (rounds program) told
 
   module _ (known : ℕ) (leader_name : List ℕ) (names : List (List ℕ))
-      (program : W) (outcome : Outcome)
-      (told : NamedTold tells led_tells took known leader_name names program outcome)
-      (stated : states program ≡ true) (none : outcome.failed ≡ None)
-      (as_many : threads program ≡ suc (length names)) where
+      (program : W) (outcome : Outcome) (told : NamedTold tells led_tells took known leader_name names program outcome)
+      (stated : states program ≡ true) (none : outcome.failed ≡ None) (as_many : threads program ≡ suc (length names)) where
     t : HasTold tells led_tells took told.threads told.leader program outcome
     t = told.told
 
-    a : AreTold tells led_tells took told.threads told.leader program outcome.failed outcome.threads.items
-        outcome.leader outcome.frames t.shares
+    a : AreTold tells led_tells took told.threads told.leader program outcome.failed outcome.threads.items outcome.leader
+        outcome.frames t.shares
     a = t.are
 
     abbrev is : ℕ → ℕ → Code → Type 0
@@ -334,9 +319,8 @@ module _ (C : Type 0) {W : Type 0} (states : W → Bool) (runs : W → ℕ → �
     counts = outcome.leader ∷ outcome.threads.items
 
     -- what each ran, and how much of it waits
-    ran_of : (k : ℕ) (name : List ℕ) → slice_get its_names k ≡ Some name
-        → (share : Member) × (count : ThreadCounts) × (slice_get (a.own ∷ a.rest) k ≡ Some share)
-        × (slice_get counts k ≡ Some count)
+    ran_of : (k : ℕ) (name : List ℕ) → slice_get its_names k ≡ Some name → (share : Member) × (count : ThreadCounts)
+        × (slice_get (a.own ∷ a.rest) k ≡ Some share) × (slice_get counts k ≡ Some count)
         × HasRunRounds (is k) (rounds program) name known share.own count.unreported
     ran_of zero name at =
         let same : leader_name ≡ name = cc in
@@ -352,25 +336,22 @@ module _ (C : Type 0) {W : Type 0} (states : W → Bool) (runs : W → ℕ → �
               (num_known told.leader.scopes) a.own.own outcome.leader.unreported) (told.leader_named.0 ∙ same) l),
         )
     ran_of (suc k) name at =
-        let thread = there told.threads k
-        (subst (λ (n : ℕ). k < n) (sym told.as_many) (slice_get_within names k name at)) in
+        let thread = there told.threads k (subst (λ (n : ℕ). k < n) (sym told.as_many) (slice_get_within names k name at)) in
         let it = a.each k thread.0 thread.1 in
         let named = told.named k thread.0 thread.1 in
         let its_name : string_bytes thread.0.name ≡ name =
         at_most_one (slice_get names k) (string_bytes thread.0.name) name named.0 at in
-        let so = well_so (HasLedRoundsAs (states program) (runs program k) (rounds program)
-        (string_bytes thread.0.name) (num_known thread.0.scopes) it.share.own it.ended.left.unreported)
-        it.ended.result (it.went_well none) (it.told refl) in
+        let so = well_so (HasLedRoundsAs (states program) (runs program k) (rounds program) (string_bytes thread.0.name)
+        (num_known thread.0.scopes) it.share.own it.ended.left.unreported) it.ended.result (it.went_well none) (it.told refl) in
         let l = subst (λ (b : Bool). HasLedRoundsAs b (runs program k) (rounds program) (string_bytes thread.0.name)
         (num_known thread.0.scopes) it.share.own it.ended.left.unreported) stated so in (
           it.share,
           it.count,
           it.share_is,
           it.count_is,
-          subst (λ (w : ℕ). HasRunRounds (runs program k) (rounds program) name known it.share.own w)
-              (sym it.unreported)
-              (subst (λ (m : ℕ). HasRunRounds (runs program k)
-              (rounds program) name m it.share.own it.ended.left.unreported) named.1
+          subst (λ (w : ℕ). HasRunRounds (runs program k) (rounds program) name known it.share.own w) (sym it.unreported)
+              (subst (λ (m : ℕ). HasRunRounds (runs program k) (rounds program) name m it.share.own it.ended.left.unreported)
+              named.1
               (subst (λ (x : List ℕ). HasRunRounds (runs program k) (rounds program) x
               (num_known thread.0.scopes) it.share.own it.ended.left.unreported) its_name l)),
         )
@@ -384,8 +365,7 @@ module _ (C : Type 0) {W : Type 0} (states : W → Bool) (runs : W → ℕ → �
     long = ap suc (a.as_many ∙ told.as_many)
 
     recounts : Recounts (length t.shares) (accounts_of (a.taker ∷ a.own ∷ a.rest)) t.log t.pending
-    recounts = subst (λ (ms : List Member). Recounts (length t.shares) (accounts_of ms) t.log t.pending) a.shares_are
-        t.recounts
+    recounts = subst (λ (ms : List Member). Recounts (length t.shares) (accounts_of ms) t.log t.pending) a.shares_are t.recounts
 
     turns : TakesInTurn (length (a.own ∷ a.rest)) 0 0 0 a.taker.own
     turns = subst (λ (n : ℕ). TakesInTurn n 0 0 0 a.taker.own) (as_many ∙ sym long) a.taken.1
@@ -400,33 +380,31 @@ module _ (C : Type 0) {W : Type 0} (states : W → Bool) (runs : W → ℕ → �
         handed = t.handed ∙ a.handed ∙ a.took.handed;
         left = t.left;
         each = frames_show known (length t.shares)
-            (leader_first (AreRounds (rounds program) (leads program))
-            (λ number. AreRounds (rounds program) (runs program number))) its_names
-            (a.own ∷ a.rest) counts a.taker t.log t.pending all_ran long a.took.quiet recounts;
+            (leader_first (AreRounds (rounds program) (leads program)) (λ number. AreRounds (rounds program) (runs program number)))
+            its_names (a.own ∷ a.rest) counts a.taker t.log t.pending all_ran long a.took.quiet recounts;
       };
       turns = num_released a.taker.own;
       within = a.taken.0;
       few = let f = few_frames (length (a.own ∷ a.rest)) 0 0 0 a.taker.own turns (omega arith) in omega (arith, f);
       each = λ full round below.
           shows_then known (rounds program) (length t.shares) is its_names (a.own ∷ a.rest) a.taker t.log t.pending
-          (λ k name at. let p = ran_of k name at in (p.0, p.1.unreported, p.2, p.4)) long a.took.quiet turns
-          recounts full round (omega (arith, full, below));
+          (λ k name at. let p = ran_of k name at in (p.0, p.1.unreported, p.2, p.4)) long a.took.quiet turns recounts full round
+          (omega (arith, full, below));
     }
 
   shows : (known : ℕ) (leader_name : List ℕ) (names : List (List ℕ)) (program : W) (outcome : Outcome)
       → threads program ≡ suc (length names)
       → NamedTold tells led_tells took known leader_name names program outcome
-      → RoundsShow (states program) known (rounds program) (leads program) (runs program)
-      (leader_name ∷ names) outcome
+      → RoundsShow (states program) known (rounds program) (leads program) (runs program) (leader_name ∷ names) outcome
   shows known leader_name names program outcome as_many told = by (states program) refl
     where
-      by : (b : Bool) → states program ≡ b
-          → RoundsShow b known (rounds program) (leads program) (runs program) (leader_name ∷ names) outcome
+      by : (b : Bool) → states program ≡ b → RoundsShow b known (rounds program) (leads program) (runs program)
+          (leader_name ∷ names) outcome
       by false is = tt
       by true is = λ none. shown known leader_name names program outcome told is none as_many
 
-  pub rounds_show_if : {E : Type 0} (known : ℕ) (leader_name : List ℕ) (names : List (List ℕ))
-      (program : W) (r : Result Outcome E) → threads program ≡ suc (length names)
+  pub rounds_show_if : {E : Type 0} (known : ℕ) (leader_name : List ℕ) (names : List (List ℕ)) (program : W) (r : Result Outcome E)
+      → threads program ≡ suc (length names)
       → IfOk r (λ outcome. NamedTold tells led_tells took known leader_name names program outcome)
       → IfOk r (λ outcome. RoundsShow (states program) known (rounds program) (leads program) (runs program)
       (leader_name ∷ names) outcome)

@@ -14,8 +14,8 @@ use Rattle.puffin_threads.proofs.lemmas.ThreadKeys.{key_cmp_total, key_cmp-one}
 use Rattle.puffin_frames.specs.Frame.Contents.{Streams, no_scopes, stream_under, reported_to}
 use Rattle.history.specs.Entries.{events, entries_by, AreAllAuthors}
 use Rattle.history.proofs.lemmas.AllAuthors.{only_one}
-use Rattle.puffin.specs.Happenings.{Happening, reported, framed, marked, History, pending_after, due_after, frame_of}
-use Rattle.puffin.specs.Happenings.{frames_in, AreReports, report_under, reports_under, Stands, AreSeen}
+use Rattle.puffin.specs.Happenings.{Happening, reported, framed, marked, History, pending_after, due_after, frame_of, frames_in}
+use Rattle.puffin.specs.Happenings.{AreReports, report_under, reports_under, Stands, AreSeen}
 use Rattle.puffin.specs.Recounted.{SpellInTurn, streams_under, SpellReports, Recounts}
 
 pub append_append : (f g h : Forest) → append (append f g) h ≡ append f (append g h)
@@ -30,10 +30,9 @@ none_honest = record {
 
 -- what is in a map after a report
 under_report : (s : Streams) (i j : ThreadKey) (r : StreamFacts)
-    → stream_under (reported_to s j r) i
-    ≡ unwrap_or (cond (has_same_key i j) (Some (joined_facts (stream_under s j) r)) (fm.get s i)) no_scopes
-under_report s i j r = ap (λ o. unwrap_or o no_scopes)
-    (get-insert key_cmp_total s j (joined_facts (stream_under s j) r) i)
+    → stream_under (reported_to s j r) i ≡ unwrap_or
+    (cond (has_same_key i j) (Some (joined_facts (stream_under s j) r)) (fm.get s i)) no_scopes
+under_report s i j r = ap (λ o. unwrap_or o no_scopes) (get-insert key_cmp_total s j (joined_facts (stream_under s j) r) i)
 
 same_key : (i j : ThreadKey) → has_same_key i j ≡ true → i ≡ j
 same_key i j e = equal_by (key_cmp i j) refl e
@@ -68,21 +67,18 @@ more_reported i j r s hs f g honest its like rest true is later =
     let joined : AreHonestFacts (joined_facts (stream_under s i) r) (append f g) =
     honest_joined (stream_under s i) r f g
     (λ u. like (subst (λ (k : ThreadKey). AreUnlike (stream_under s k) r) same u)) honest its in
-    ∥∥₁_map (rest (append f g) (subst (λ (x : StreamFacts). AreHonestFacts x (append f g)) (sym there) joined) later)
-    (λ t. (
+    ∥∥₁_map (rest (append f g) (subst (λ (x : StreamFacts). AreHonestFacts x (append f g)) (sym there) joined) later) (λ t. (
       append g t.0,
       (
-        subst (λ (x : Forest). SpellInTurn
-            (streams_under i (due_after (reported_to s j r) hs ++ pending_after (reported_to s j r) hs ∷ [])) x)
-            (append_append f g t.0) t.1.0,
+        subst (λ (x : Forest). SpellInTurn (streams_under i
+            (due_after (reported_to s j r) hs ++ pending_after (reported_to s j r) hs ∷ [])) x) (append_append f g t.0) t.1.0,
         subst (λ (b : Bool). SpellInTurn ((cond b (r ∷ []) []) ++ reports_under i hs) (append g t.0)) (sym is)
             (g, t.0, its, t.1.1, refl),
       ),
     ))
 more_reported i j r s hs f g honest its like rest false is later =
     let there : stream_under (reported_to s j r) i ≡ stream_under s i = under_report s i j r
-    ∙ ap (λ (b : Bool). unwrap_or (cond b (Some (joined_facts (stream_under s j) r)) (fm.get s i)) no_scopes)
-    is in
+    ∙ ap (λ (b : Bool). unwrap_or (cond b (Some (joined_facts (stream_under s j) r)) (fm.get s i)) no_scopes) is in
     ∥∥₁_map (rest f (subst (λ (x : StreamFacts). AreHonestFacts x f) (sym there) honest) later) (λ t.
     (t.0, (t.1.0, subst (λ (b : Bool). SpellInTurn ((cond b (r ∷ []) []) ++ reports_under i hs) t.0) (sym is) t.1.1)))
 
@@ -93,8 +89,7 @@ spells_after i (reported j r ∷ hs) s f honest reports = ∥∥₁_elim reports
     more_reported i j r s hs f its.0 honest its.1 reports.0.1 (λ h. spells_after i hs (reported_to s j r) h)
     (has_same_key i j) refl reports.1)
 spells_after i (framed x ∷ hs) s f honest reports =
-    ∥∥₁_map (spells_after i hs fm.empty empty (honest_empty i) reports.1)
-    (λ t. (t.0, ((f, t.0, honest, t.1.0, refl), t.1.1)))
+    ∥∥₁_map (spells_after i hs fm.empty empty (honest_empty i) reports.1) (λ t. (t.0, ((f, t.0, honest, t.1.0, refl), t.1.1)))
 spells_after i (marked mark ∷ hs) s f honest reports = spells_after i hs s f honest reports.1
 
 whole : (i : ThreadKey) (pending : Streams) (hs : List Happening) → Stands pending hs

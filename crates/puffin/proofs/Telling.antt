@@ -1,6 +1,7 @@
 -- What a thread's calls add to what its reporter tells, and to what waits.
-use Rattle.std.proofs.Common.{◌≡◌, ℕ, ◌+◌, ◌<◌, ℤ, Bool, List, [], ◌∷◌, ◌++◌, ◌^◌, length, map, Option, Some, None, Result}
-use Rattle.std.proofs.Common.{Ok, Err, true, false, ◌⊎◌, inl, inr, refl, sym, ap, ◌∙◌, subst, append_assoc, arith}
+use Rattle.std.proofs.Common.{◌≡◌, ℕ, ◌+◌, ◌<◌, ℤ, Bool, List, [], ◌∷◌, ◌++◌, ◌^◌, length, map, Option}
+use Rattle.std.proofs.Common.{Some, None, Result, Ok, Err, true, false, ◌⊎◌, inl, inr, refl, sym, ap, ◌∙◌, subst}
+use Rattle.std.proofs.Common.{append_assoc, arith}
 use Rattle.std.specs.Prelude.{slice_get}
 use Rattle.std.specs.Option.{option_or}
 use Rattle.std.proofs.lemmas.List.{append-nil, map-append}
@@ -78,21 +79,12 @@ kept_both : {A : Type 0} (r s o m n d e : List A) → r ++ m ≡ o ++ d → s ++
 kept_both r s o m n d e p q = append_assoc r s n ∙ ap (λ x. r ++ x) q ∙ sym (append_assoc r m e) ∙ ap (λ x. x ++ e) p
     ∙ append_assoc o d e
 
-tell_both : (rs ss : List StreamFacts) (u v : List Event) → TellEvents rs u → TellEvents ss v
-    → TellEvents (rs ++ ss) (u ++ v)
+tell_both : (rs ss : List StreamFacts) (u v : List Event) → TellEvents rs u → TellEvents ss v → TellEvents (rs ++ ss) (u ++ v)
 tell_both [] ss u v h k = subst (λ (w : List Event). TellEvents ss (w ++ v)) (sym h) k
-tell_both (r ∷ rs) ss u v (f, later, honest, fit, h, is) k = (
-  f,
-  later ++ v,
-  honest,
-  fit,
-  tell_both rs ss later v h k,
-  ap (λ (w : List Event). w ++ v) is
-      ∙ append_assoc (tour f) later v,
-)
+tell_both (r ∷ rs) ss u v (f, later, honest, fit, h, is) k =
+    (f, later ++ v, honest, fit, tell_both rs ss later v h k, ap (λ (w : List Event). w ++ v) is ∙ append_assoc (tour f) later v)
 
-pub quiet : (a b : Stage) (f : Forest) → b.thread.word ≡ a.thread.word ++ tour f → b.told ≡ a.told
-    → Passes a b (tour f)
+pub quiet : (a b : Stage) (f : Forest) → b.thread.word ≡ a.thread.word ++ tour f → b.told ≡ a.told → Passes a b (tour f)
 quiet a b f word same = record {
   streams = [];
   reported = [];
@@ -125,9 +117,8 @@ not_yet m n started none = at_start m.thread.first_start refl
     at_start (Some t) is = absurd (let later = started t is in cc)
 
 module _ (o m n : Stage) (f g : List Event)
-    (name : n.thread.name ≡ m.thread.name)
-    (started : (t : ℤ) → m.thread.first_start ≡ Some t → n.thread.first_start ≡ Some t) (p : Passes o m f)
-    (q : Passes m n g) where
+    (name : n.thread.name ≡ m.thread.name) (started : (t : ℤ) → m.thread.first_start ≡ Some t → n.thread.first_start ≡ Some t)
+    (p : Passes o m f) (q : Passes m n g) where
   earlier : n.thread.first_start ≡ None → m.thread.first_start ≡ None
   earlier = not_yet m n started
 
@@ -153,8 +144,7 @@ module _ (o m n : Stage) (f g : List Event)
     spelled = tell_both p.streams q.streams p.reported q.reported p.spelled q.spelled;
     kept = kept_both p.reported q.reported o.thread.word m.thread.word n.thread.word f g p.kept q.kept;
     balanced = λ h. q.balanced (p.balanced h);
-    unstarted = λ none. ap (λ (rs : List StreamFacts). rs ++ q.streams) (p.unstarted (earlier none))
-        ∙ q.unstarted none;
+    unstarted = λ none. ap (λ (rs : List StreamFacts). rs ++ q.streams) (p.unstarted (earlier none)) ∙ q.unstarted none;
   }
 
 pub adds_both : (o m n : Stage) (f g : Forest) → Adds o m f → Adds m n g → Adds o n (append f g)
@@ -164,14 +154,12 @@ adds_both o m n f g p q = record {
   known = q.known ∙ p.known;
   started = λ t h. q.started t (p.started t h);
   word = λ some. q.word (still some) ∙ ap (λ (w : List Event). w ++ tour g) (p.word some)
-      ∙ append_assoc o.thread.word (tour f) (tour g)
-      ∙ ap (λ (w : List Event). o.thread.word ++ w) (sym (tour-append f g));
+      ∙ append_assoc o.thread.word (tour f) (tour g) ∙ ap (λ (w : List Event). o.thread.word ++ w) (sym (tour-append f g));
   told = λ some. q.told (still some) ∙ p.told some;
   none_open = λ none. q.none_open (p.none_open none);
   passed = λ none. subst (λ (w : List Event). Passes o n w) (sym (tour-append f g))
       (passes_both o m n (tour f) (tour g) q.name q.started (p.passed none) (q.passed (p.none_open none)));
-  none = λ none. tour-append f g ∙ ap (λ (w : List Event). w ++ tour g) (p.none (not_yet m n q.started none))
-      ∙ q.none none;
+  none = λ none. tour-append f g ∙ ap (λ (w : List Event). w ++ tour g) (p.none (not_yet m n q.started none)) ∙ q.none none;
 }
   where
     still : 0 < num_open o → 0 < num_open m
@@ -226,8 +214,7 @@ module _ (a b n d : Stage) (id : ℕ) (text : List ℕ) (at at2 : ℤ) (f : Fore
       ap (λ (x : Form). slice_get (open_offsets x n.thread.word) 0) form
       ∙ ap (λ (w : List Event). slice_get (open_offsets a.thread.form w) 0) (body.word deep)
       ∙ ap (λ (xs : List ℕ). slice_get xs 0)
-      (offsets-tour a.thread.form b.thread.word f
-      ∙ ap (λ (t : calls.Thread). open_offsets a.thread.form t.word) begun
+      (offsets-tour a.thread.form b.thread.word f ∙ ap (λ (t : calls.Thread). open_offsets a.thread.form t.word) begun
       ∙ offsets-open a.thread.form a.thread.word id text (time_of a.thread at))
 
   -- it has begun
@@ -235,8 +222,8 @@ module _ (a b n d : Stage) (id : ℕ) (text : List ℕ) (at at2 : ℤ) (f : Fore
   has_begun = let first = some_first a.thread.first_start (time_of a.thread at) in
       (first.0, body.started first.0 (ap (λ (t : calls.Thread). t.first_start) begun ∙ first.1))
 
-  pub around : d.known ≡ n.known → (closed : Closed)
-      → Closes Accepts Refuses n.thread d.thread at2 n.told d.told closed → Adds a d whole
+  pub around : d.known ≡ n.known → (closed : Closed) → Closes Accepts Refuses n.thread d.thread at2 n.told d.told closed
+      → Adds a d whole
   around later_known = at_close
     where
       word_full : n.thread.word ++ (closing ∷ []) ≡ a.thread.word ++ tour whole
@@ -249,8 +236,7 @@ module _ (a b n d : Stage) (id : ℕ) (text : List ℕ) (at at2 : ℤ) (f : Fore
 
       quiet_end : d.thread ≡ after_end n.thread at2 → d.told ≡ n.told → Adds a d whole
       quiet_end ended same =
-          let word : d.thread.word ≡ a.thread.word ++ tour whole = ap (λ (t : calls.Thread). t.word) ended
-          ∙ word_full in
+          let word : d.thread.word ≡ a.thread.word ++ tour whole = ap (λ (t : calls.Thread). t.word) ended ∙ word_full in
           record {
             name = ap (λ (t : calls.Thread). t.name) ended ∙ body.name ∙ ap (λ (t : calls.Thread). t.name) begun;
             form = ap (λ (t : calls.Thread). t.form) ended ∙ body.form ∙ ap (λ (t : calls.Thread). t.form) begun;
@@ -260,13 +246,12 @@ module _ (a b n d : Stage) (id : ℕ) (text : List ℕ) (at at2 : ℤ) (f : Fore
             told = λ some. same ∙ told_then;
             none_open = λ none. ap (open_after 0) word ∙ depth-tour a.thread.word whole ∙ none;
             passed = λ none. quiet a d whole word (same ∙ told_then);
-            none = λ not. absurd (let first = has_begun.1 in
-                let same_first : d.thread.first_start ≡ n.thread.first_start =
+            none = λ not. absurd (let first = has_begun.1 in let same_first : d.thread.first_start ≡ n.thread.first_start =
                 ap (λ (u : calls.Thread). u.first_start) ended in cc);
           }
 
-      reported_end : open_after 0 n.thread.word ≡ 1 → d.thread ≡ after_handing (after_end n.thread at2)
-          → (r : StreamFacts) → IsReportOf (after_end n.thread at2) r
+      reported_end : open_after 0 n.thread.word ≡ 1 → d.thread ≡ after_handing (after_end n.thread at2) → (r : StreamFacts)
+          → IsReportOf (after_end n.thread at2) r
           → Accepts n.told (key_of_thread (after_end n.thread at2)) n.thread.details r d.told → Adds a d whole
       reported_end one handed r is accepted =
           let outer : 0 < num_open a → ⊥ = λ some. let h = same_depth in omega arith in
@@ -281,23 +266,20 @@ module _ (a b n d : Stage) (id : ℕ) (text : List ℕ) (at at2 : ℤ) (f : Fore
             passed = λ none. record {
               streams = r ∷ [];
               reported = n.thread.word ++ (closing ∷ []);
-              told = accepted.0 ∙ ap (λ (hs : List Happening).
-                  hs ++ reported (key_of_thread (after_end n.thread at2)) r ∷ []) told_then
-                  ∙ ap (λ (k : ThreadKey). a.told ++ reported k r ∷ []) (sym (ap key_of_thread handed));
+              told = accepted.0 ∙ ap (λ (hs : List Happening). hs ++ reported (key_of_thread (after_end n.thread at2)) r ∷ [])
+                  told_then ∙ ap (λ (k : ThreadKey). a.told ++ reported k r ∷ []) (sym (ap key_of_thread handed));
               spelled = (is.forest, [], is.honest, accepted.1, refl, is.word ∙ sym (append-nil (tour is.forest)));
               kept = ap (λ (t : calls.Thread). (n.thread.word ++ (closing ∷ [])) ++ t.word) handed
                   ∙ append-nil (n.thread.word ++ (closing ∷ [])) ∙ word_full;
               balanced = λ h. (empty, ap (λ (t : calls.Thread). t.word) handed);
-              unstarted = λ not. absurd (let first = has_begun.1 in
-                  let same : d.thread.first_start ≡ n.thread.first_start =
+              unstarted = λ not. absurd (let first = has_begun.1 in let same : d.thread.first_start ≡ n.thread.first_start =
                   ap (λ (u : calls.Thread). u.first_start) handed in cc);
             };
             none = λ not. absurd (let first = has_begun.1 in let same : d.thread.first_start ≡ n.thread.first_start =
                 ap (λ (u : calls.Thread). u.first_start) handed in cc);
           }
 
-      at_close : (closed : Closed) → Closes Accepts Refuses n.thread d.thread at2 n.told d.told closed
-          → Adds a d whole
+      at_close : (closed : Closed) → Closes Accepts Refuses n.thread d.thread at2 n.told d.told closed → Adds a d whole
       at_close Inner h = quiet_end h.1 h.2
       at_close Reported h = reported_end h.0 h.1 h.2.0 h.2.1 h.2.2
       at_close (Kept e) h = quiet_end h.1 h.2.2
@@ -311,8 +293,8 @@ reports_pass m n (Ok false) some h = same m n (ap (λ (t : calls.Thread). t.word
   where
     same : (m n : Stage) → n.thread.word ≡ m.thread.word → n.told ≡ m.told → Passes m n []
     same m n word told = quiet m n empty (word ∙ sym (append-nil m.thread.word)) told
-reports_pass m n (Err e) some h = quiet m n empty
-    (ap (λ (t : calls.Thread). t.word) h.0 ∙ sym (append-nil m.thread.word)) (at_cause h.1)
+reports_pass m n (Err e) some h = quiet m n empty (ap (λ (t : calls.Thread). t.word) h.0 ∙ sym (append-nil m.thread.word))
+    (at_cause h.1)
   where
     at_cause : ((0 < open_after 0 m.thread.word) × (e ≡ ScopesOpen) × (n.told ≡ m.told))
         ⊎ (Waits m.thread × (((e ≡ Memory) × (n.told ≡ m.told))
@@ -332,20 +314,17 @@ reports_pass m n (Ok true) some (waits, handed, (r, is, accepted)) = record {
 
 -- the thread's name and first start stay
 pub reports_stay : (old new : calls.Thread) (before after : List Happening) (result : Result Bool Error)
-    → Reports Accepts Refuses old new before after result → (new.name ≡ old.name)
-    × (new.first_start ≡ old.first_start)
+    → Reports Accepts Refuses old new before after result → (new.name ≡ old.name) × (new.first_start ≡ old.first_start)
 reports_stay old new before after (Ok false) h =
     (ap (λ (t : calls.Thread). t.name) h.1, ap (λ (t : calls.Thread). t.first_start) h.1)
 reports_stay old new before after (Ok true) h =
     (ap (λ (t : calls.Thread). t.name) h.1, ap (λ (t : calls.Thread). t.first_start) h.1)
-reports_stay old new before after (Err e) h =
-    (ap (λ (t : calls.Thread). t.name) h.0, ap (λ (t : calls.Thread). t.first_start) h.0)
+reports_stay old new before after (Err e) h = (ap (λ (t : calls.Thread). t.name) h.0, ap (λ (t : calls.Thread). t.first_start) h.0)
 
 -- after code, what waits has begun, if it had before
 pub adds_started : (o m : Stage) (f : Forest) → HasStarted o.thread → Adds o m f → HasStarted m.thread
 adds_started o m f started adds =
-    stays_started o.thread m.thread (tour f) started
-    (λ none. (not_yet o m adds.started none, adds.none none)) adds.word
+    stays_started o.thread m.thread (tour f) started (λ none. (not_yet o m adds.started none, adds.none none)) adds.word
     (λ shut. let p = adds.passed shut in (p.reported, p.kept))
 
 -- a report of what waits adds nothing
@@ -372,8 +351,8 @@ adds_report m n result started known h = record {
     form_stays old new before after (Ok true) h = ap (λ (t : calls.Thread). t.form) h.1
     form_stays old new before after (Err e) h = ap (λ (t : calls.Thread). t.form) h.0
 
-    same_word : (result : Result Bool Error) → Reports Accepts Refuses m.thread n.thread m.told n.told result
-        → 0 < num_open m → n.thread.word ≡ m.thread.word
+    same_word : (result : Result Bool Error) → Reports Accepts Refuses m.thread n.thread m.told n.told result → 0 < num_open m
+        → n.thread.word ≡ m.thread.word
     same_word (Ok false) h some = ap (λ (t : calls.Thread). t.word) h.1
     same_word (Ok true) h some = absurd (let none = h.0.none_open in omega arith)
     same_word (Err e) h some = ap (λ (t : calls.Thread). t.word) h.0
@@ -381,16 +360,16 @@ adds_report m n result started known h = record {
     open_stays : 0 < num_open m → n.thread.word ≡ m.thread.word
     open_stays some = same_word result h some
 
-    untold : (result : Result Bool Error) → Reports Accepts Refuses m.thread n.thread m.told n.told result
-        → 0 < num_open m → n.told ≡ m.told
+    untold : (result : Result Bool Error) → Reports Accepts Refuses m.thread n.thread m.told n.told result → 0 < num_open m
+        → n.told ≡ m.told
     untold (Ok false) h some = h.2
     untold (Ok true) h some = absurd (let none = h.0.none_open in omega arith)
     untold (Err e) (same, inl opened) some = opened.2
     untold (Err e) (same, inr (waits, inl memory)) some = memory.1
     untold (Err e) (same, inr (waits, inr refused)) some = refused.2
 
-    shut : (result : Result Bool Error) → Reports Accepts Refuses m.thread n.thread m.told n.told result
-        → num_open m ≡ 0 → num_open n ≡ 0
+    shut : (result : Result Bool Error) → Reports Accepts Refuses m.thread n.thread m.told n.told result → num_open m ≡ 0
+        → num_open n ≡ 0
     shut (Ok false) h none = ap (λ (t : calls.Thread). open_after 0 t.word) h.1 ∙ none
     shut (Ok true) h none = ap (λ (t : calls.Thread). open_after 0 t.word) h.1
     shut (Err e) h none = ap (λ (t : calls.Thread). open_after 0 t.word) h.0 ∙ none
@@ -418,10 +397,8 @@ told_passed o n f name form first its_name all =
     let word : o.thread.word ≡ [] = ap (λ (t : calls.Thread). t.word) first in
     let g = told_forest all.streams all.reported all.spelled in
     let rest = all.balanced (empty, word) in
-    let whole : tour (append g.0 rest.0) ≡ tour f = tour-append g.0 rest.0
-    ∙ ap (λ (w : List Event). w ++ tour rest.0) (sym g.2)
-    ∙ ap (λ (w : List Event). all.reported ++ w) (sym rest.1) ∙ all.kept
-    ∙ ap (λ (w : List Event). w ++ tour f) word in (
+    let whole : tour (append g.0 rest.0) ≡ tour f = tour-append g.0 rest.0 ∙ ap (λ (w : List Event). w ++ tour rest.0) (sym g.2)
+    ∙ ap (λ (w : List Event). all.reported ++ w) (sym rest.1) ∙ all.kept ∙ ap (λ (w : List Event). w ++ tour f) word in (
       n.thread.first_start,
       all.streams,
       all.told
@@ -456,7 +433,6 @@ told_all o m n f name form result first adds reports =
     nothing_waits : (p : Passes o m (tour f)) → m.thread.first_start ≡ None → tour f ≡ [] → o.thread.word ≡ []
         → m.thread.word ≡ []
     nothing_waits p none no_scopes word =
-        let none_told : p.reported ≡ [] =
-        subst (λ (rs : List StreamFacts). TellEvents rs p.reported) (p.unstarted none) p.spelled in
-        sym (ap (λ (w : List Event). w ++ m.thread.word) none_told) ∙ p.kept
-        ∙ ap (λ (w : List Event). w ++ tour f) word ∙ no_scopes
+        let none_told : p.reported ≡ [] = subst (λ (rs : List StreamFacts). TellEvents rs p.reported)
+        (p.unstarted none) p.spelled in
+        sym (ap (λ (w : List Event). w ++ m.thread.word) none_told) ∙ p.kept ∙ ap (λ (w : List Event). w ++ tour f) word ∙ no_scopes

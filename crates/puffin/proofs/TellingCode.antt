@@ -1,6 +1,6 @@
 -- Code on a light thread, by what its reporter tells.
-use Rattle.std.proofs.Common.{◌≡◌, ◌⊎◌, ℕ, ℤ, pos, Bool, true, false, List, [], ◌∷◌, ◌++◌, map, Some, Result, Ok, Err, inl}
-use Rattle.std.proofs.Common.{inr, refl, sym, ap, ◌∙◌, subst}
+use Rattle.std.proofs.Common.{◌≡◌, ◌⊎◌, ℕ, ℤ, pos, Bool, true, false, List, [], ◌∷◌, ◌++◌, map, Some, Result}
+use Rattle.std.proofs.Common.{Ok, Err, inl, inr, refl, sym, ap, ◌∙◌, subst}
 use Rattle.puffin_data.specs.declared.error.Error.{Error}
 use Rattle.puffin_data.specs.declared.data.form.Form.{Form}
 use Rattle.std.proofs.lemmas.Grind.{flat_map-append}
@@ -31,8 +31,8 @@ use Rattle.puffin.specs.Happenings.{Happening, reported, unless_marked, unmarked
 use Rattle.puffin.specs.Telling.{KeepsReports, HasRun, RunsAs, HasRunAs, LeadsAs, HasLedAs}
 use Rattle.puffin.proofs.lemmas.Waiting.{num_ended-tour}
 use Rattle.puffin.proofs.lemmas.StartedThreads.{HasStarted}
-use Rattle.puffin.proofs.Telling.{Stage, Adds, Accepts, Refuses, some_first, adds_started, adds_report, adds_nothing}
-use Rattle.puffin.proofs.Telling.{adds_both, innermost, around, told_passed, told_all, num_open}
+use Rattle.puffin.proofs.Telling.{Stage, Adds, Accepts, Refuses, some_first, adds_started, adds_report, adds_nothing, adds_both}
+use Rattle.puffin.proofs.Telling.{innermost, around, told_passed, told_all, num_open}
 
 begins_form : {C R : Type 0} (answers : C → ℤ → C → Type 0) (old new : Thread C R) (place : Place) (text : List ℕ)
     (state : GuardState) → BeginsThere answers old place text state new
@@ -42,8 +42,7 @@ begins_form answers old new place text Off begins = ap (λ p. (thread_of p).form
 begins_form answers old new place text (Refused e) begins = ap (λ p. (thread_of p).form) begins.begins.0
 
 may_be : {C R : Type 0} (answers : C → ℤ → C → Type 0) (old new : Thread C R) (place : Place) (text : List ℕ)
-    (state : GuardState) → BeginsThere answers old place text state new
-    → MayBe (num_known (scopes_of old)) place state
+    (state : GuardState) → BeginsThere answers old place text state new → MayBe (num_known (scopes_of old)) place state
 may_be answers old new place text (On offset) begins = begins.begins.0
 may_be answers old new place text Off begins = tt
 may_be answers old new place text (Refused e) begins = begins.begins.1
@@ -52,8 +51,7 @@ may_be answers old new place text (Refused e) begins = begins.begins.1
 pub moved : {k known : ℕ} {x form : Form} (code : Code) (f : Forest) → k ≡ known → x ≡ form → AreScopesOf k x code f
     → AreScopesOf known form code f
 moved {k} {known} {x} {form} code f same_known same_form is =
-    subst (λ (y : Form). AreScopesOf known y code f) same_form
-    (subst (λ (n : ℕ). AreScopesOf n x code f) same_known is)
+    subst (λ (y : Form). AreScopesOf known y code f) same_form (subst (λ (n : ℕ). AreScopesOf n x code f) same_known is)
 
 -- the same of what is told without marks
 pub keeps_unmarked : {R : Type 0} (accepts : R → ThreadKey → List Details → StreamFacts → R → Type 0)
@@ -71,16 +69,10 @@ module _ {C R : Type 0} (answers : C → ℤ → C → Type 0)
     (refuses : R → ThreadKey → List Details → StreamFacts → Error → R → Type 0) (told : R → List Happening)
     (keeps : KeepsReports accepts refuses told) where
   abbrev pub stage : Thread C R → Stage
-  stage t = record {
-    known = num_known (scopes_of t);
-    thread = thread_of (profiler_of t);
-    told =
-        told (reporter_of t);
-  }
+  stage t = record { known = num_known (scopes_of t); thread = thread_of (profiler_of t); told = told (reporter_of t) }
 
   closes_by : (old new : calls.Thread) (at : ℤ) (before after : R) (closed : Closed)
-      → Closes accepts refuses old new at before after closed
-      → Closes Accepts Refuses old new at (told before) (told after) closed
+      → Closes accepts refuses old new at before after closed → Closes Accepts Refuses old new at (told before) (told after) closed
   closes_by old new at before after Inner h = (h.0, h.1, ap told h.2)
   closes_by old new at before after Reported h = (
     h.0,
@@ -104,8 +96,7 @@ module _ {C R : Type 0} (answers : C → ℤ → C → Type 0)
   )
 
   pub reports_by : (old new : calls.Thread) (before after : R) (result : Result Bool Error)
-      → Reports accepts refuses old new before after result
-      → Reports Accepts Refuses old new (told before) (told after) result
+      → Reports accepts refuses old new before after result → Reports Accepts Refuses old new (told before) (told after) result
   reports_by old new before after (Ok false) h = (h.0, h.1, ap told h.2)
   reports_by old new before after (Ok true) h =
       (h.0, h.1, (h.2.0, h.2.1, keeps.accepted before (key_of_thread old) old.details h.2.0 after h.2.2))
@@ -126,8 +117,8 @@ module _ {C R : Type 0} (answers : C → ℤ → C → Type 0)
   abbrev stage_with : ThreadProfiler C → R → ℕ → Stage
   stage_with p r known = record { known = known; thread = thread_of p; told = told r }
 
-  same_stage : (a b : Thread C R) → profiler_of b ≡ profiler_of a → reporter_of b ≡ reporter_of a
-      → scopes_of b ≡ scopes_of a → stage b ≡ stage a
+  same_stage : (a b : Thread C R) → profiler_of b ≡ profiler_of a → reporter_of b ≡ reporter_of a → scopes_of b ≡ scopes_of a
+      → stage b ≡ stage a
   same_stage a b profiler reporter scopes =
       ap (λ p. stage_with p (reporter_of b) (num_known (scopes_of b))) profiler
       ∙ ap (λ r. stage_with (profiler_of a) r (num_known (scopes_of b))) reporter
@@ -153,13 +144,12 @@ module _ {C R : Type 0} (answers : C → ℤ → C → Type 0)
       let h = begins.begins.1 in
       let still : told (reporter_of b) ≡ told (reporter_of a) = ap told begins.reporter in
       let stored = cut_text (thread_of (profiler_of a)).form text in
-      let end = left.ends.innermost (innermost (stage a) (stage b) (stage c)
-      (stage d) place.id stored h.at h.at f h.begun still (ap num_known begins.scopes) body
-      ∙ ap Some (sym h.offset_is)) in (
+      let end = left.ends.innermost (innermost (stage a) (stage b) (stage c) (stage d) place.id stored h.at h.at f h.begun still
+      (ap num_known begins.scopes) body ∙ ap Some (sym h.offset_is)) in (
         time_of (thread_of (profiler_of a)) h.at,
         time_of (thread_of (profiler_of c)) end.at,
-        around (stage a) (stage b) (stage c) (stage d) place.id stored h.at end.at f h.begun still
-            (ap num_known begins.scopes) body (ap num_known left.scopes) end.closed
+        around (stage a) (stage b) (stage c) (stage d) place.id stored h.at end.at f h.begun still (ap num_known begins.scopes) body
+            (ap num_known left.scopes) end.closed
             (closes_by (thread_of (profiler_of c)) (thread_of (profiler_of d)) end.at (reporter_of c)
             (reporter_of d) end.closed end.closes),
       )
@@ -173,8 +163,8 @@ module _ {C R : Type 0} (answers : C → ℤ → C → Type 0)
       (reports_by (thread_of (profiler_of a)) (thread_of (profiler_of b)) (reporter_of a)
       (reporter_of b) room.answer room.reports)
 
-  begun_started : (a b : Thread C R) (place : Place) (text : List ℕ) (state : GuardState)
-      → BeginsThere answers a place text state b → HasStarted (stage a).thread → HasStarted (stage b).thread
+  begun_started : (a b : Thread C R) (place : Place) (text : List ℕ) (state : GuardState) → BeginsThere answers a place text state b
+      → HasStarted (stage a).thread → HasStarted (stage b).thread
   begun_started a b place text (On offset) begins started none =
       absurd (let first = some_first (thread_of (profiler_of a)).first_start
       (time_of (thread_of (profiler_of a)) begins.begins.1.at) in
@@ -197,8 +187,8 @@ module _ {C R : Type 0} (answers : C → ℤ → C → Type 0)
       let i = adds_code within begun left (begun_started ready begun place text state begins ready_started) inner in
       let w = adds_scope ready begun left ended place text state i.0 begins i.2 leaves in
       let span = span_at place (cut_text (thread_of (profiler_of ready)).form text) w.0 w.1 in
-      let l = adds_code after ended new
-      (adds_started (stage ready) (stage ended) (scope_if state span i.0) ready_started w.2) later in
+      let l = adds_code after ended new (adds_started (stage ready) (stage ended) (scope_if state span i.0) ready_started w.2)
+      later in
       let whole = adds_both (stage old) (stage ready) (stage ended) empty (scope_if state span i.0) made w.2 in
       let form = begins_form answers ready begun place text state begins ∙ made.form in
       let known = ap num_known begins.scopes ∙ made.known in
@@ -219,12 +209,10 @@ module _ {C R : Type 0} (answers : C → ℤ → C → Type 0)
       )
 
   -- code added scopes to a new thread, and then what waited was reported, or not
-  pub has_added : (code : Code) (f : Forest) (o : Stage) (mid : Thread C R)
-      (last : calls.Thread) (after : R) (name : List ℕ) (form : Form) (result : Result Bool Error)
-      (waiting : ℕ) (before now : List Happening) → o.thread ≡ new_thread name form
+  pub has_added : (code : Code) (f : Forest) (o : Stage) (mid : Thread C R) (last : calls.Thread) (after : R) (name : List ℕ)
+      (form : Form) (result : Result Bool Error) (waiting : ℕ) (before now : List Happening) → o.thread ≡ new_thread name form
       → AreScopesOf o.known form code f → Adds o (stage mid) f
-      → Reports accepts refuses (thread_of (profiler_of mid)) last (reporter_of mid) after result
-      → waiting ≡ num_ended last.word
+      → Reports accepts refuses (thread_of (profiler_of mid)) last (reporter_of mid) after result → waiting ≡ num_ended last.word
       → o.told ≡ unmarked before → told after ≡ unmarked now
       → HasRun name form o.known code before now waiting
   has_added code f o mid last after name form result waiting before now first scopes adds reports counted began is =
@@ -234,8 +222,7 @@ module _ {C R : Type 0} (answers : C → ℤ → C → Type 0)
       record {
         start = t.0;
         streams = t.1;
-        told = sym is ∙ t.2 ∙ ap (λ (hs : List Happening).
-            hs ++ map (reported (record { start = t.0; name = name })) t.1) began;
+        told = sym is ∙ t.2 ∙ ap (λ (hs : List Happening). hs ++ map (reported (record { start = t.0; name = name })) t.1) began;
         shown = t.3;
         waits = t.4;
         spelled = t.5.0;
@@ -258,8 +245,7 @@ module _ {C R : Type 0} (answers : C → ℤ → C → Type 0)
         record {
           start = t.0;
           streams = t.1;
-          told = sym is ∙ t.2 ∙ ap (λ (hs : List Happening).
-              hs ++ map (reported (record { start = t.0; name = name })) t.1) began;
+          told = sym is ∙ t.2 ∙ ap (λ (hs : List Happening). hs ++ map (reported (record { start = t.0; name = name })) t.1) began;
           shown = t.3;
           waits = t.4;
           spelled = t.5.0;
@@ -274,51 +260,35 @@ module _ {C R : Type 0} (answers : C → ℤ → C → Type 0)
       (form : Form) (result : Result Bool Error) (waiting : ℕ) (before now : List Happening)
       → thread_of (profiler_of old) ≡ new_thread name form
       → Runs (BeginsAt answers accepts refuses) (EndsIn answers accepts refuses) code old mid
-      → Reports accepts refuses (thread_of (profiler_of mid)) last (reporter_of mid) after result
-      → waiting ≡ num_ended last.word
+      → Reports accepts refuses (thread_of (profiler_of mid)) last (reporter_of mid) after result → waiting ≡ num_ended last.word
       → told (reporter_of old) ≡ unmarked before → told after ≡ unmarked now
       → HasRun name form (num_known (scopes_of old)) code before now waiting
   has_run code old mid last after name form result waiting before now first runs reports counted began is =
       let a = adds_code code old mid (λ none. ap (λ (x : calls.Thread). x.word) first) runs in
       let its_form : (thread_of (profiler_of old)).form ≡ form = ap (λ (x : calls.Thread). x.form) first in
       has_added code a.0 (stage old) mid last after name form result waiting before now first
-      (subst (λ (x : Form). AreScopesOf (num_known (scopes_of old)) x code a.0) its_form a.1) a.2 reports counted
-      began is
+      (subst (λ (x : Form). AreScopesOf (num_known (scopes_of old)) x code a.0) its_form a.1) a.2 reports counted began is
 
   pub has_run_as : {X E : Type 0} (states : Bool) (is : Code → Type 0) (old mid : Thread C R)
       (last : calls.Thread) (after : R) (name : List ℕ) (form : Form) (r : Result X E) (result : Result Bool Error)
       (waiting : ℕ) (before now : List Happening) → thread_of (profiler_of old) ≡ new_thread name form
       → RunsAs states is (BeginsAt answers accepts refuses) (EndsIn answers accepts refuses) old r mid
-      → Reports accepts refuses (thread_of (profiler_of mid)) last (reporter_of mid) after result
-      → waiting ≡ num_ended last.word
+      → Reports accepts refuses (thread_of (profiler_of mid)) last (reporter_of mid) after result → waiting ≡ num_ended last.word
       → told (reporter_of old) ≡ unmarked before → told after ≡ unmarked now
       → HasRunAs states is name form (num_known (scopes_of old)) r before now waiting
-  has_run_as false is old mid last after name form r result waiting before now first runs reports counted began
-      is_now = tt
+  has_run_as false is old mid last after name form r result waiting before now first runs reports counted began is_now = tt
   has_run_as true is old mid last after name form (Ok x) result waiting before now first
-      (code, it, runs) reports counted began is_now = (
-        code,
-        it,
-        has_run code old mid last after name form result waiting before now first runs reports counted
-            began is_now,
-      )
-  has_run_as true is old mid last after name form
-      (Err e) result waiting before now first runs reports counted began is_now = tt
+      (code, it, runs) reports counted began is_now =
+      (code, it, has_run code old mid last after name form result waiting before now first runs reports counted began is_now)
+  has_run_as true is old mid last after name form (Err e) result waiting before now first runs reports counted began is_now = tt
 
-  pub has_led_as : (states : Bool) (is : Code → Type 0) (old mid : Thread C R)
-      (last : calls.Thread) (after : R) (name : List ℕ) (form : Form) (result : Result Bool Error)
-      (waiting : ℕ) (before now : List Happening) → thread_of (profiler_of old) ≡ new_thread name form
+  pub has_led_as : (states : Bool) (is : Code → Type 0) (old mid : Thread C R) (last : calls.Thread) (after : R) (name : List ℕ)
+      (form : Form) (result : Result Bool Error) (waiting : ℕ) (before now : List Happening)
+      → thread_of (profiler_of old) ≡ new_thread name form
       → LeadsAs states is (BeginsAt answers accepts refuses) (EndsIn answers accepts refuses) old mid
-      → Reports accepts refuses (thread_of (profiler_of mid)) last (reporter_of mid) after result
-      → waiting ≡ num_ended last.word
+      → Reports accepts refuses (thread_of (profiler_of mid)) last (reporter_of mid) after result → waiting ≡ num_ended last.word
       → told (reporter_of old) ≡ unmarked before → told after ≡ unmarked now
       → HasLedAs states is name form (num_known (scopes_of old)) before now waiting
-  has_led_as false is old mid last after name form result waiting before now first runs reports counted began is_now =
-      tt
-  has_led_as true is old mid last after name form result waiting before now first
-      (code, it, runs) reports counted began is_now = (
-        code,
-        it,
-        has_run code old mid last after name form result waiting before now first runs reports counted
-            began is_now,
-      )
+  has_led_as false is old mid last after name form result waiting before now first runs reports counted began is_now = tt
+  has_led_as true is old mid last after name form result waiting before now first (code, it, runs) reports counted began is_now =
+      (code, it, has_run code old mid last after name form result waiting before now first runs reports counted began is_now)

@@ -19,8 +19,7 @@ pub unpacked_is : {A : Type 0} (f : Arc FrameData A) (old new : Collected) → C
     → unpacked_in (arc_value f) ≡ old.streams
 unpacked_is f old new h = ap (λ x. Rattle.std.specs.Option.unwrap_or x.unpacked map.empty) h.0.held
 
-pub none_pending : {A : Type 0} (f : Arc FrameData A) (old new : Collected) → Collects old (Some f) new
-    → new.streams ≡ map.empty
+pub none_pending : {A : Type 0} (f : Arc FrameData A) (old new : Collected) → Collects old (Some f) new → new.streams ≡ map.empty
 none_pending f old new h = ap (λ (c : Collected). c.streams) h.2
 
 pub told_frame : (m new : Member) (a b : Streams) (before : History) → Tells m (framed a) before new → a ≡ b

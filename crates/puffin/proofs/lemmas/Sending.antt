@@ -93,5 +93,4 @@ module _ (L M : RattleType) (l : led.Ghosts L.Denot) (h : hist.Ghosts L.Denot) (
 -- what a closure captures
 module _ (ν : Sym) (Ts : List RattleType) where
   pub captures_send : AllSend (struct_shape (type_at ν Ts)).fields → IsSend (TupleAt ν Ts)
-  captures_send s = recorded_send (field_at ν Ts).row _ _ (type_at ν Ts).to_one
-      (struct_send (struct_shape (type_at ν Ts)) s)
+  captures_send s = recorded_send (field_at ν Ts).row _ _ (type_at ν Ts).to_one (struct_send (struct_shape (type_at ν Ts)) s)

@@ -12,5 +12,4 @@ num_ended-append (Close stop ∷ u) v = omega (arith, num_ended-append u v)
 
 pub num_ended-tour : (f : Forest) → num_ended (tour f) ≡ scope_count f
 num_ended-tour empty = refl
-num_ended-tour (node s c o) = omega
-    (arith, num_ended-append (tour c) (Close s.stop ∷ tour o), num_ended-tour c, num_ended-tour o)
+num_ended-tour (node s c o) = omega (arith, num_ended-append (tour c) (Close s.stop ∷ tour o), num_ended-tour c, num_ended-tour o)

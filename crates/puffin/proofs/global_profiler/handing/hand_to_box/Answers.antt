@@ -4,9 +4,8 @@ use Rattle.std.specs.DynBox.{dyn_box_with}
 use Rattle.puffin.proofs.global_profiler.handing.hand_to_box.Goals as goal
 
 -- what is related at one index is related at an index that is the same
-moved : {I B : Type 0} {F : I → Type 0} (A : (i : I) → F i → F i → Type 0)
-    (make : (i : I) → F i → B) (p q : (i : I) × F i) → p ≡ q → (x : F p.0) → A p.0 p.1 x
-    → (y : F q.0) × A q.0 q.1 y × (make p.0 x ≡ make q.0 y)
+moved : {I B : Type 0} {F : I → Type 0} (A : (i : I) → F i → F i → Type 0) (make : (i : I) → F i → B) (p q : (i : I) × F i)
+    → p ≡ q → (x : F p.0) → A p.0 p.1 x → (y : F q.0) × A q.0 q.1 y × (make p.0 x ≡ make q.0 y)
 moved {I} {B} {F} A make p q same x a =
     let P : (i : I) × F i → Type 0 = λ r. (y : F r.0) × A r.0 r.1 y × (make p.0 x ≡ make r.0 y) in
     subst P same (x, a, refl)

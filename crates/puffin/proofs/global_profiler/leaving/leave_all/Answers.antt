@@ -28,19 +28,18 @@ returns-clause-authors g c =
     let i = c.loop-share.invariant in let l = c.leave-2.ensures in let log = c.args.log.now in
     let b = c.into_iter-share-iterator.ensures.into_iter_gives in
     let all = YieldsList-end (YieldsList-from_vec {s = c.into_iter-share-iterator.result} c.args.shares.items b.0
-    (b.1 ∙ c.args.shares.ok.0)) c.loop-share.yielded c.loop-share.share-iterator c.loop-share.yielded_by
-    c.next.result c.next.new.self c.in-None.is c.next.ensures.steps in
+    (b.1 ∙ c.args.shares.ok.0)) c.loop-share.yielded c.loop-share.share-iterator c.loop-share.yielded_by c.next.result
+    c.next.new.self c.in-None.is c.next.ensures.steps in
     let last : Member = c.no_parts-reported.new.share in
     let same : last ≡ c.args.last = c.no_parts-reported.ensures.same in
     subst (λ (m : Member). AreAuthors log.authors (accounts_of (c.args.shares.items ++ m ∷ [])) log.entries) same
     (subst (λ (ms : List Member). AreAuthors log.authors (accounts_of (ms ++ last ∷ [])) log.entries)
     (sym (map-id c.loop-share.yielded) ∙ all.0)
-    (authors_more log.authors log.entries c.loop-share.log.entries c.loop-share.yielded last i.authors i.entries l.own
-    l.stays (subst (λ (n : ℕ). last.number < n) i.log_authors l.authors.0)))
+    (authors_more log.authors log.entries c.loop-share.log.entries c.loop-share.yielded last i.authors i.entries l.own l.stays
+    (subst (λ (n : ℕ). last.number < n) i.log_authors l.authors.0)))
 
 pub returns-clause-has : goal.returns-clause-has
 returns-clause-has g c =
     let i = c.loop-share.invariant in let log = c.args.log.now in
-    has_before log.authors log.entries
-    (last_entries (accounts_of c.loop-share.yielded)) c.loop-share.log.entries i.entries
+    has_before log.authors log.entries (last_entries (accounts_of c.loop-share.yielded)) c.loop-share.log.entries i.entries
     (subst (λ (n : ℕ). HasAuthors n c.loop-share.log.entries) i.log_authors c.leave-2.ensures.authors.1)

@@ -10,6 +10,5 @@ invariant-loop-thread g l = record {
   counted : all_reported l.shares.items < 2 ^ 64
       → l.leader.reported + sum_by (λ t. t.reported) l.counts.items ≡ all_reported l.shares.items;
   handed : all_handed l.shares.items ≡ l.fn.taker.share.counts.handed;
-  each : AreJoined g.W.AnyProgram.tells l.yielded l.fn.taker.share l.fn.counted.share l.failed
-      l.counts.items l.shares.items;
+  each : AreJoined g.W.AnyProgram.tells l.yielded l.fn.taker.share l.fn.counted.share l.failed l.counts.items l.shares.items;
 }

@@ -15,8 +15,7 @@ pub loop-name-preserved : goal.loop-name-preserved
 loop-name-preserved g c =
     let i = c.loop-name.invariant in let thread = c.in_ok-ready.field-0 in let e = c.in_ok-ready.ensures in
     let names = c.args.names.now in
-    let place : length c.loop-name.threads.items ≡ c.loop-name.name-index = sym c.loop-name.threads.ok.0
-    ∙ i.threads in
+    let place : length c.loop-name.threads.items ≡ c.loop-name.name-index = sym c.loop-name.threads.ok.0 ∙ i.threads in
     let named : slice_get (map (λ name. name.now) names) c.loop-name.name-index ≡ Some (string_bytes thread.name) =
     mapped_there (λ name. name.now) names c.loop-name.name-index _ c.loop-name-test.true ∙ ap Some (sym e.name) in
     record {
@@ -32,10 +31,10 @@ loop-name-preserved g c =
             e.scopes,
           ));
       clocks =
-          subst (All (λ thread. StartsAt (clock_start c.in_ok-clock.clock)
-          (clock_begun c.in_ok-clock.clock) thread.clock)) (sym c.in_ok-push.ensures.items)
-          (All-push (λ thread. StartsAt (clock_start c.in_ok-clock.clock)
-          (clock_begun c.in_ok-clock.clock) thread.clock) c.loop-name.threads.items thread i.clocks e.clock);
+          subst (All (λ thread. StartsAt (clock_start c.in_ok-clock.clock) (clock_begun c.in_ok-clock.clock) thread.clock))
+          (sym c.in_ok-push.ensures.items)
+          (All-push (λ thread. StartsAt (clock_start c.in_ok-clock.clock) (clock_begun c.in_ok-clock.clock) thread.clock)
+          c.loop-name.threads.items thread i.clocks e.clock);
     }
 
 pub returns-clause-clocks : goal.returns-clause-clocks

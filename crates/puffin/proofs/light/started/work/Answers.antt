@@ -11,7 +11,6 @@ returns-clause-tells g c =
     ∙ ap (λ (m : Member). m.own) c.new.ensures ∙ nothing_told c.args.share c.requires in
     subst (λ (own : List Happening). g.W.AnyProgram.tells c.args.thread c.args.program.now c.args.number
     c.run-reporter.result.0 [] own) (sym (ap (λ (m : Member). m.own) c.into_share.ensures.share))
-    (subst (λ (before : List Happening).
-    g.W.AnyProgram.tells c.args.thread c.args.program.now c.args.number c.run-reporter.result.0
+    (subst (λ (before : List Happening). g.W.AnyProgram.tells c.args.thread c.args.program.now c.args.number c.run-reporter.result.0
     before c.run-reporter.result.1.reporter.share.own) first
     c.run-reporter.ensures)

@@ -8,8 +8,7 @@ use Rattle.puffin.proofs.global_profiler.booked.Booked.emit_scope_snapshot.Goals
 pub invariant_of-self : goal.invariant_of-self
 invariant_of-self g c =
     let old = c.args.self.now in
-    let a : Collected = collected_of old.profiler in let b : Collected =
-    collected_of c.emit_scope_snapshot.new.self in
+    let a : Collected = collected_of old.profiler in let b : Collected = collected_of c.emit_scope_snapshot.new.self in
     let keeps : Keeps a b = wanting_keeps a b (after_wanting a) refl refl refl c.emit_scope_snapshot.ensures.wants in
     record {
       reported_is = old.reported_is ∙ sym keeps.0;

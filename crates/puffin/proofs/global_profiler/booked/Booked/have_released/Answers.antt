@@ -13,8 +13,7 @@ invariant_of-self g c =
       authors_are = c.add.ensures.log.0 ∙ old.authors_are;
       stands = grows_by _ _ old.log.entries c.add.new.self.entries _
           (marked (saw_released c.args.rounds)) old.stands longer refl refl tt;
-      met = still_met _ _ _ (marked (saw_released c.args.rounds)) old.log.entries c.add.new.self.entries
-          longer old.met;
+      met = still_met _ _ _ (marked (saw_released c.args.rounds)) old.log.entries c.add.new.self.entries longer old.met;
       seen = still_seen _ (marked (saw_released c.args.rounds)) old.log.entries c.add.new.self.entries longer
           (omega (arith, so, old.met.released)) old.seen;
     }

@@ -26,8 +26,8 @@ invariant_of-self-2 g c =
           (none_pending f a b collects) (ap (λ (s : Streams). s ∷ []) (unpacked_is f a b collects)) tt;
       met = still_met _ _ _ (framed (unpacked_in (arc_value f))) old.log.entries c.add-2.new.self.entries
           c.add-2.ensures.log.1 old.met;
-      seen = still_seen _ (framed (unpacked_in (arc_value f))) old.log.entries c.add-2.new.self.entries
-          c.add-2.ensures.log.1 tt old.seen;
+      seen = still_seen _ (framed (unpacked_in (arc_value f))) old.log.entries c.add-2.new.self.entries c.add-2.ensures.log.1
+          tt old.seen;
     }
 
 pub returns-clause-taken : goal.returns-clause-taken
@@ -42,6 +42,6 @@ returns-clause-taken g c =
       a.streams,
       due,
       frame_due f a b collects,
-      told_frame _ _ (unpacked_in (arc_value f)) _ _
-          (search rules) (unpacked_is f a b collects),
+      told_frame _ _ (unpacked_in (arc_value f)) _ _ (search rules)
+          (unpacked_is f a b collects),
     )

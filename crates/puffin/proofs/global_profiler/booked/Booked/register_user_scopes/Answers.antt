@@ -9,8 +9,7 @@ use Rattle.puffin.proofs.global_profiler.booked.Booked.register_user_scopes.Goal
 pub invariant_of-self : goal.invariant_of-self
 invariant_of-self g c =
     let old = c.args.self.now in
-    let a : Collected = collected_of old.profiler in let b : Collected =
-    collected_of c.register_user_scopes.new.self in
+    let a : Collected = collected_of old.profiler in let b : Collected = collected_of c.register_user_scopes.new.self in
     let keeps : Keeps a b = adding_keeps (λ v. v.items) c.register_user_scopes.result a b
     (details_seen c.args.details.now) c.register_user_scopes.ensures.ok c.register_user_scopes.ensures.err in
     record {

@@ -23,14 +23,8 @@ invariant_of-self-2 g c =
       authors_are = c.add-2.ensures.log.0 ∙ old.authors_are;
       stands = grows_by pending (collected_of c.report.new.self).streams old.log.entries c.add-2.new.self.entries _
           (reported (key_of info) r) old.stands c.add-2.ensures.log.1
-          (ap (λ (x : Collected). x.streams) ok.0
-          ∙ ap (λ (t : ThreadInfo). reported_to pending (key_of t) r) (sym same)) refl (
-            merely c.requires,
-            subst (λ (t : ThreadInfo). ¬ AreUnlike (stream_under pending (key_of t)) r)
-                (sym same) ok.2,
-          );
-      met = still_met _ _ _ (reported (key_of info) r) old.log.entries c.add-2.new.self.entries
-          c.add-2.ensures.log.1 old.met;
-      seen = still_seen _ (reported (key_of info) r) old.log.entries c.add-2.new.self.entries c.add-2.ensures.log.1
-          tt old.seen;
+          (ap (λ (x : Collected). x.streams) ok.0 ∙ ap (λ (t : ThreadInfo). reported_to pending (key_of t) r) (sym same)) refl
+          (merely c.requires, subst (λ (t : ThreadInfo). ¬ AreUnlike (stream_under pending (key_of t)) r) (sym same) ok.2);
+      met = still_met _ _ _ (reported (key_of info) r) old.log.entries c.add-2.new.self.entries c.add-2.ensures.log.1 old.met;
+      seen = still_seen _ (reported (key_of info) r) old.log.entries c.add-2.new.self.entries c.add-2.ensures.log.1 tt old.seen;
     }

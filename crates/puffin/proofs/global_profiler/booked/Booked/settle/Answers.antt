@@ -29,8 +29,7 @@ invariant_of-self g c =
 
 pub returns-clause-history : goal.returns-clause-history
 returns-clause-history g c =
-    let old = c.args.self.now in let e = c.leave_all-all_reported.ensures in
-    let items : List Member = c.args.shares.items in
+    let old = c.args.self.now in let e = c.leave_all-all_reported.ensures in let items : List Member = c.args.shares.items in
     let n : ℕ = vec_len c.args.shares in
     let many : old.log.authors ≡ n = search rules in
     let split : c.args.shares.items ≡ c.pop.new.self.items ++ c.in-Some.last ∷ [] = search rules in

@@ -5,8 +5,8 @@ use Rattle.puffin.proofs.global_profiler.sinks.Sinks.hand_on.Goals as goal
 pub returns-clause-handed : goal.returns-clause-handed
 returns-clause-handed g c =
     let entries = c.args.self.now.entries in
-    handed-back (λ b. (goal.FrameSink-dyn g (b.vtable, b.value)).accepts)
-    (arc_value c.args.frame.now) entries.items _ c.hand_all.new.sinks entries.len c.hand_all.result
+    handed-back (λ b. (goal.FrameSink-dyn g (b.vtable, b.value)).accepts) (arc_value c.args.frame.now) entries.items _
+    c.hand_all.new.sinks entries.len c.hand_all.result
     c.deref_mut.ensures.value c.hand_all.auto.sinks entries.ok.0 c.hand_all.ensures
 
 pub invariant_of-self : goal.invariant_of-self

@@ -16,9 +16,9 @@ loop-init g c =
     let known = num_known c.args.thread.scopes in
     record {
       known = λ stated. refl;
-      ran = let told = g.P.Meets.told in
-          subst (λ (n : ℕ). HaveRunAs (W.states pool) is known (told c.args.reporter) (told c.args.reporter) n)
-          (sym c.none-left.ensures) (none_run is known (W.states pool) (told c.args.reporter));
+      ran = let told = g.P.Meets.told in subst
+          (λ (n : ℕ). HaveRunAs (W.states pool) is known (told c.args.reporter) (told c.args.reporter) n) (sym c.none-left.ensures)
+          (none_run is known (W.states pool) (told c.args.reporter));
     }
 
 pub returns-in-Ok-None : goal.returns-in-Ok-None
@@ -32,8 +32,7 @@ loop-preserved g c =
     let known = num_known c.args.thread.scopes in let own = c.end-back.result.0.unreported in
     let at_first : W.states pool ≡ true → scopes_of c.start-thread.result ≡ c.args.thread.scopes = λ stated. s.scopes
     ∙ c.new-ready.ensures.scopes ∙ c.loop.invariant.known stated in
-    let told_next = subst (λ o. IfSome o (λ n. W.names pool n.1 (string_bytes n.0))) c.in-Ok-Some.field-0-is
-    c.in-Ok-Some.ensures in
+    let told_next = subst (λ o. IfSome o (λ n. W.names pool n.1 (string_bytes n.0))) c.in-Ok-Some.field-0-is c.in-Ok-Some.ensures in
     let named = subst (λ n. W.names pool next.1 (string_bytes n)) (sym c.new-ready.ensures.name) told_next in
     let well = ap is_ok c.in-Ok.is in
     record {
@@ -46,14 +45,11 @@ loop-preserved g c =
           let after = told c.end-back.result.1 in
           let has = subst (λ (before : List Happening). HasRunAs (W.states pool) its name Short
           (num_known (scopes_of c.start-thread.result)) r before after own) (ap told s.reporter)
-          (has_run_as _ accepts refuses (λ r. unmarked (told r))
-          (keeps_unmarked accepts refuses told g.met.P.Meets.keeps)
-          (W.states pool) its c.start-thread.result c.work-result.new.thread e.1 c.end-back.result.1 name
-          Short r e.0 own (told (reporter_of c.start-thread.result)) after s.thread c.work-result.ensures
-          e.2 e.3 refl refl) in
-          job_run is known (W.states pool) name its r (num_known (scopes_of c.start-thread.result))
-          (told c.args.reporter) (told c.loop.reporter) after c.loop.left.unreported own
-          c.and-left.result.unreported (λ code it. (next.1, named, it)) well
-          (λ stated. ap num_known (at_first stated)) c.loop.invariant.ran
-          has c.and-left.ensures.unreported;
+          (has_run_as _ accepts refuses (λ r. unmarked (told r)) (keeps_unmarked accepts refuses told g.met.P.Meets.keeps)
+          (W.states pool) its c.start-thread.result c.work-result.new.thread e.1 c.end-back.result.1 name Short r e.0 own
+          (told (reporter_of c.start-thread.result)) after s.thread c.work-result.ensures e.2 e.3 refl refl) in
+          job_run is known (W.states pool) name its r (num_known (scopes_of c.start-thread.result)) (told c.args.reporter)
+          (told c.loop.reporter) after c.loop.left.unreported own c.and-left.result.unreported
+          (λ code it. (next.1, named, it)) well
+          (λ stated. ap num_known (at_first stated)) c.loop.invariant.ran has c.and-left.ensures.unreported;
     }

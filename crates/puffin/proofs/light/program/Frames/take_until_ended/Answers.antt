@@ -20,5 +20,4 @@ returns-then-not-works-clause-last g c =
 pub returns-then-not-works-clause-refused : goal.returns-then-not-works-clause-refused
 returns-then-not-works-clause-refused g c =
     let taken = g.Self.Frames.taken in let n = c.new_frame-taken in
-    takes_refused n.result (taken c.args.self.now) (taken c.loop.self)
-    (taken n.new.self) c.loop.invariant n.ensures.unchanged
+    takes_refused n.result (taken c.args.self.now) (taken c.loop.self) (taken n.new.self) c.loop.invariant n.ensures.unchanged

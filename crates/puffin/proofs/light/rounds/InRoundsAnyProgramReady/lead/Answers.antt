@@ -14,8 +14,7 @@ loop-round-init g c =
     let told = g.P.Meets.told in let s = c.start-thread.ensures in
     record {
       ran = λ stated none. first_turn told _ (string_bytes c.args.thread.name)
-          (num_known c.args.thread.scopes) c.start-thread.result s.thread (ap num_known s.scopes)
-          (ap told s.reporter ∙ none);
+          (num_known c.args.thread.scopes) c.start-thread.result s.thread (ap num_known s.scopes) (ap told s.reporter ∙ none);
       took = λ none. record {
         closed = ap num_released none;
         takes =
@@ -31,9 +30,8 @@ loop-round-preserved g c =
     record {
       ran = λ stated none.
           part_led told is (string_bytes c.args.thread.name)
-          (num_known c.args.thread.scopes) g.C.NsSource.answers g.P.Reporter.accepts g.P.Reporter.refuses
-          g.met.P.Meets.keeps (W.states program) round c.loop-round.thread c.lead.new._thread
-          c.arrive.new.self c.wait_released.new.self
+          (num_known c.args.thread.scopes) g.C.NsSource.answers g.P.Reporter.accepts g.P.Reporter.refuses g.met.P.Meets.keeps
+          (W.states program) round c.loop-round.thread c.lead.new._thread c.arrive.new.self c.wait_released.new.self
           stated c.lead.ensures (c.loop-round.invariant.ran stated none) c.arrive.ensures c.wait_released.ensures;
       took = λ none. leads_on c.args.self.now.meeting.threads round _ _ _ _
           (c.loop-round.invariant.took none) c.wait_arrived.ensures c.take-taken.ensures c.release.ensures;
@@ -47,23 +45,20 @@ returns-clause-tells g c none =
     let known = num_known c.args.thread.scopes in
     let e = c.end-reporter.ensures.reports in let thread = c.loop-round-test.thread in
     let ends : (turn : ℕ) → turn ≤ c.args.self.now.rounds → AfterRounds told is name known turn thread
-    → HasRunRounds is c.args.self.now.rounds name known
-    (told c.end-reporter.result.1) c.end-reporter.result.0.unreported =
+    → HasRunRounds is c.args.self.now.rounds name known (told c.end-reporter.result.1) c.end-reporter.result.0.unreported =
     λ turn within p. has_run_rounds told is name known g.C.NsSource.answers g.P.Reporter.accepts g.P.Reporter.refuses
-    g.met.P.Meets.keeps turn c.args.self.now.rounds thread e.1 c.end-reporter.result.1 e.0
-    c.end-reporter.result.0.unreported within p e.2 e.3 in
+    g.met.P.Meets.keeps turn c.args.self.now.rounds thread e.1 c.end-reporter.result.1 e.0 c.end-reporter.result.0.unreported
+    within p e.2 e.3 in
     if_stated (W.states program) is c.args.self.now.rounds name known
     (told c.end-reporter.result.1) c.end-reporter.result.0.unreported (λ stated. elim c.loop-round-test.branch [
       | else-loop-round-test w ↦ ends round
           (omega (arith, c.loop-round.auto.round-end, c.most_rounds-round-end.ensures.within))
-          (subst (λ t. AfterRounds told is name known round t) (sym w.thread-is)
-          (c.loop-round.invariant.ran stated none))
+          (subst (λ t. AfterRounds told is name known round t) (sym w.thread-is) (c.loop-round.invariant.ran stated none))
       | then-loop-round-test+then-not-goes_on w ↦
           ends (round + 1) (omega (arith, w.loop-round-test.true, c.most_rounds-round-end.ensures.within))
           (subst (λ t. AfterRounds told is name known (round + 1) t) (sym w.thread-is)
-          (part_led told is name known g.C.NsSource.answers g.P.Reporter.accepts g.P.Reporter.refuses
-          g.met.P.Meets.keeps (W.states program) round c.loop-round.thread w.lead.new._thread w.arrive.new.self
-          w.wait_released.new.self
+          (part_led told is name known g.C.NsSource.answers g.P.Reporter.accepts g.P.Reporter.refuses g.met.P.Meets.keeps
+          (W.states program) round c.loop-round.thread w.lead.new._thread w.arrive.new.self w.wait_released.new.self
           stated w.lead.ensures (c.loop-round.invariant.ran stated none) w.arrive.ensures w.wait_released.ensures))
     ])
 

@@ -13,8 +13,7 @@ returns-clause-ok g =
     let details = details_of g.args.details in
     let id = g.new-3.result.id in
     let number : id ≡ length old + 1 = grind (arith, common_steps) in
-    let added : shared_details g.push.new.self.items ≡ old ++ (with_id details id ∷ []) =
-    grind (arith, common_steps) in
+    let added : shared_details g.push.new.self.items ≡ old ++ (with_id details id ∷ []) = grind (arith, common_steps) in
     record {
       number = number;
       added = added;

@@ -15,7 +15,4 @@ pub invariant_of-result-2 : goal.invariant_of-result-2
 invariant_of-result-2 g c =
     let first = All-pop IsNewMember c.in-Ok-opened.shares.items _
     (Some c.in-Some.taking) c.in-Some.ensures.items c.in-Ok-opened.ensures.shares.1 in
-    record {
-      all_new = (All-pop IsNewMember _ _
-          (Some c.in-Some-pop.reporting) c.in-Some-pop.ensures.items first.0).0;
-    }
+    record { all_new = (All-pop IsNewMember _ _ (Some c.in-Some-pop.reporting) c.in-Some-pop.ensures.items first.0).0 }

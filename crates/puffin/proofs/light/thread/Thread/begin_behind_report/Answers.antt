@@ -10,8 +10,7 @@ returns-in-Ok g c = (
     clock =
         c.report_closed.ensures.clock;
     scopes = c.report_closed.ensures.scopes;
-    refused =
-        c.report_closed.ensures.refused;
+    refused = c.report_closed.ensures.refused;
   }),
   search rules,
 )
@@ -25,8 +24,7 @@ returns-in-Err g c = (
     clock =
         c.report_closed.ensures.clock;
     scopes = c.report_closed.ensures.scopes;
-    refused =
-        c.report_closed.ensures.refused;
+    refused = c.report_closed.ensures.refused;
   }),
   search rules,
 )

@@ -3,8 +3,17 @@ use Rattle.puffin.specs.Guards.{BeginsAt}
 use Rattle.puffin.proofs.light.thread.ThreadRecords.begin.Goals as goal
 
 pub returns-then-not-are_scopes_on : goal.returns-then-not-are_scopes_on
-returns-then-not-are_scopes_on g c =
-    (c.args.self.now, inl refl, record { begins = refl; reporter = refl; scopes = refl; refused = refl })
+returns-then-not-are_scopes_on g c = (
+  c.args.self.now,
+  inl refl,
+  record {
+    begins = refl;
+    reporter = refl;
+    scopes = refl;
+    refused =
+        refl;
+  },
+)
 
 pub returns-then-not-know : goal.returns-then-not-know
 returns-then-not-know g c = (c.args.self.now, inl refl, search rules)
