@@ -13,6 +13,7 @@ mod CountedShares
 mod EndedScopes
 mod Registered
 mod Telling
+mod ToldScopes
 mod TellingCode
 mod ShownCode
 mod JoinedThreads

@@ -32,7 +32,8 @@ use Rattle.puffin.specs.Telling.{KeepsReports, HasRun, RunsAs, HasRunAs, LeadsAs
 use Rattle.puffin.proofs.lemmas.Waiting.{num_ended-tour}
 use Rattle.puffin.proofs.lemmas.StartedThreads.{HasStarted}
 use Rattle.puffin.proofs.Telling.{Stage, Adds, Accepts, Refuses, some_first, adds_started, adds_report, adds_nothing, adds_both}
-use Rattle.puffin.proofs.Telling.{innermost, around, told_passed, told_all, num_open}
+use Rattle.puffin.proofs.Telling.{innermost, around, num_open}
+use Rattle.puffin.proofs.ToldScopes.{told_passed, told_all}
 
 begins_form : {C R : Type 0} (answers : C → ℤ → C → Type 0) (old new : Thread C R) (place : Place) (text : List ℕ)
     (state : GuardState) → BeginsThere answers old place text state new
@@ -73,46 +74,24 @@ module _ {C R : Type 0} (answers : C → ℤ → C → Type 0)
 
   closes_by : (old new : calls.Thread) (at : ℤ) (before after : R) (closed : Closed)
       → Closes accepts refuses old new at before after closed → Closes Accepts Refuses old new at (told before) (told after) closed
-  closes_by old new at before after Inner h = (h.0, h.1, ap told h.2)
-  closes_by old new at before after Reported h = (
-    h.0,
-    h.1,
-    (
-      h.2.0,
-      h.2.1,
-      keeps.accepted before (key_of_thread (after_end old at))
-          (after_end old at).details h.2.0 after h.2.2,
-    ),
-  )
-  closes_by old new at before after (Kept e) h = (
-    h.0,
-    h.1,
-    (
-      h.2.0,
-      h.2.1,
-      keeps.refused before (key_of_thread (after_end old at))
-          (after_end old at).details h.2.0 e after h.2.2,
-    ),
-  )
+  closes_by old new at before after Inner (inner, ended, same) = (inner, ended, ap told same)
+  closes_by old new at before after Reported (outer, handed, (report, is, accepted)) =
+      let thread = after_end old at in
+      (outer, handed, (report, is, keeps.accepted before (key_of_thread thread) thread.details report after accepted))
+  closes_by old new at before after (Kept error) (outer, ended, (report, is, refused)) =
+      let thread = after_end old at in
+      (outer, ended, (report, is, keeps.refused before (key_of_thread thread) thread.details report error after refused))
 
   pub reports_by : (old new : calls.Thread) (before after : R) (result : Result Bool Error)
       → Reports accepts refuses old new before after result → Reports Accepts Refuses old new (told before) (told after) result
-  reports_by old new before after (Ok false) h = (h.0, h.1, ap told h.2)
-  reports_by old new before after (Ok true) h =
-      (h.0, h.1, (h.2.0, h.2.1, keeps.accepted before (key_of_thread old) old.details h.2.0 after h.2.2))
-  reports_by old new before after (Err e) h = (
-    h.0,
-    elim h.1 [
-      | inl opened ↦ inl (opened.0, opened.1, ap told opened.2)
-      | inr waits ↦ inr (
-        waits.0,
-        elim waits.1 [
-          | inl memory ↦ inl (memory.0, ap told memory.1)
-          | inr g ↦ inr (g.0, g.1, keeps.refused before (key_of_thread old) old.details g.0 e after g.2)
-        ],
-      )
-    ],
-  )
+  reports_by old new before after (Ok false) (nothing_waits, kept, same) = (nothing_waits, kept, ap told same)
+  reports_by old new before after (Ok true) (waits, handed, (report, is, accepted)) =
+      (waits, handed, (report, is, keeps.accepted before (key_of_thread old) old.details report after accepted))
+  reports_by old new before after (Err error) (kept, inl (opened, cause, same)) = (kept, inl (opened, cause, ap told same))
+  reports_by old new before after (Err error) (kept, inr (waits, inl (memory, same))) =
+      (kept, inr (waits, inl (memory, ap told same)))
+  reports_by old new before after (Err error) (kept, inr (waits, inr (report, is, refused))) =
+      (kept, inr (waits, inr (report, is, keeps.refused before (key_of_thread old) old.details report error after refused)))
 
   abbrev stage_with : ThreadProfiler C → R → ℕ → Stage
   stage_with p r known = record { known = known; thread = thread_of p; told = told r }
@@ -217,18 +196,19 @@ module _ {C R : Type 0} (answers : C → ℤ → C → Type 0)
       → HasRun name form o.known code before now waiting
   has_added code f o mid last after name form result waiting before now first scopes adds reports counted began is =
       let n : Stage = record { known = num_known (scopes_of mid); thread = last; told = told after } in
-      let t = told_all o (stage mid) n f name form result first adds
+      let its = told_all o (stage mid) n f name form result first adds
       (reports_by (thread_of (profiler_of mid)) last (reporter_of mid) after result reports) in
       record {
-        start = t.0;
-        streams = t.1;
-        told = sym is ∙ t.2 ∙ ap (λ (hs : List Happening). hs ++ map (reported (record { start = t.0; name = name })) t.1) began;
-        shown = t.3;
-        waits = t.4;
-        spelled = t.5.0;
-        fit = t.5.1;
-        began = subst (AreScopesOf o.known form code) (sym t.6) scopes;
-        counted = sym (counted ∙ ap num_ended t.7 ∙ num_ended-tour t.4);
+        start = its.start;
+        streams = its.streams;
+        told = sym is ∙ its.told
+            ∙ ap (λ (hs : List Happening). hs ++ map (reported (record { start = its.start; name = name })) its.streams) began;
+        shown = its.shown;
+        waits = its.waits;
+        spelled = its.spelled;
+        fit = its.fit;
+        began = subst (AreScopesOf o.known form code) (sym its.whole) scopes;
+        counted = sym (counted ∙ ap num_ended its.word ∙ num_ended-tour its.waits);
       }
 
   -- code added scopes to a new thread, of which some wait
@@ -239,18 +219,19 @@ module _ {C R : Type 0} (answers : C → ℤ → C → Type 0)
       → (waits : ℕ) × HasRun name form o.known code [] now waits
   has_added_so_far code f o mid name form now first scopes adds began is =
       let shut : num_open o ≡ 0 = ap (λ (x : calls.Thread). open_after 0 x.word) first in
-      let t = told_passed o (stage mid) f name form first (adds.name ∙ ap (λ (x : calls.Thread). x.name) first)
+      let its = told_passed o (stage mid) f name form first (adds.name ∙ ap (λ (x : calls.Thread). x.name) first)
       (adds.passed shut) in (
-        scope_count t.4,
+        scope_count its.waits,
         record {
-          start = t.0;
-          streams = t.1;
-          told = sym is ∙ t.2 ∙ ap (λ (hs : List Happening). hs ++ map (reported (record { start = t.0; name = name })) t.1) began;
-          shown = t.3;
-          waits = t.4;
-          spelled = t.5.0;
-          fit = t.5.1;
-          began = subst (AreScopesOf o.known form code) (sym t.6) scopes;
+          start = its.start;
+          streams = its.streams;
+          told = sym is ∙ its.told
+              ∙ ap (λ (hs : List Happening). hs ++ map (reported (record { start = its.start; name = name })) its.streams) began;
+          shown = its.shown;
+          waits = its.waits;
+          spelled = its.spelled;
+          fit = its.fit;
+          began = subst (AreScopesOf o.known form code) (sym its.whole) scopes;
           counted = refl;
         },
       )
