@@ -13,7 +13,7 @@ use Rattle.puffin.proofs.light.program.prepare_all.Goals as goal
 
 pub loop-name-preserved : goal.loop-name-preserved
 loop-name-preserved g c =
-    let i = c.loop-name.invariant in let thread = c.in_ok-ready.field-0 in let e = c.in_ok-ready.ensures in
+    let i = c.loop-name.invariant in let thread = c.in_ok-prepare.field-0 in let e = c.in_ok-prepare.ensures in
     let names = c.args.names.now in
     let place : length c.loop-name.threads.items ≡ c.loop-name.name-index = sym c.loop-name.threads.ok.0 ∙ i.threads in
     let named : slice_get (map (λ name. name.now) names) c.loop-name.name-index ≡ Some (string_bytes thread.name) =

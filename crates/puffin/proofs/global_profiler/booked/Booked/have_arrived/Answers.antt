@@ -12,8 +12,8 @@ invariant_of-self g c =
       handed_is = old.handed_is;
       authors_are = c.add.ensures.log.0 ∙ old.authors_are;
       stands = grows_by _ _ old.log.entries c.add.new.self.entries _
-          (marked (saw_arrived c.args.parts)) old.stands longer refl refl tt;
-      met = still_met _ _ _ (marked (saw_arrived c.args.parts)) old.log.entries c.add.new.self.entries longer old.met;
-      seen = still_seen _ (marked (saw_arrived c.args.parts)) old.log.entries c.add.new.self.entries longer
+          (marked (saw_arrived c.args.arrivals)) old.stands longer refl refl tt;
+      met = still_met _ _ _ (marked (saw_arrived c.args.arrivals)) old.log.entries c.add.new.self.entries longer old.met;
+      seen = still_seen _ (marked (saw_arrived c.args.arrivals)) old.log.entries c.add.new.self.entries longer
           (omega (arith, so, old.met.arrived)) old.seen;
     }
