@@ -1,5 +1,5 @@
 -- Each job is one more that ran.
-use Rattle.std.proofs.Common.{◌≡◌, ℕ, true, List, string_bytes, refl, ap, sym, subst, ◌∙◌}
+use Rattle.std.proofs.Common.{◌≡◌, ℕ, true, List, string_bytes, refl, ap, subst, ◌∙◌}
 use Rattle.std.specs.Prelude.{is_ok, IfSome}
 use Rattle.puffin_data.specs.declared.data.form.Form.TheVariants.{Short}
 use Rattle.puffin.specs.Happenings.{Happening, unmarked}
@@ -27,13 +27,13 @@ returns-in-Ok-None g c = c.loop.invariant.ran
 pub loop-preserved : goal.loop-preserved
 loop-preserved g c =
     let W = g.W.Pool in let pool = c.args.self.now.pool.now in let is = Named (W.names pool) (W.runs pool) in
-    let next = c.in-Ok-Some.next in let name = string_bytes c.new-ready.result.name in let its = W.runs pool next.1 in
+    let next = c.in-Ok-Some.next in let name = string_bytes next.0 in let its = W.runs pool next.1 in
     let s = c.start-thread.ensures in let e = c.end-back.ensures.reports in let r = c.work-result.result in
     let known = num_known c.args.thread.scopes in let own = c.end-back.result.0.unreported in
-    let at_first : W.states pool ≡ true → scopes_of c.start-thread.result ≡ c.args.thread.scopes = λ stated. s.scopes
-    ∙ c.new-ready.ensures.scopes ∙ c.loop.invariant.known stated in
-    let told_next = subst (λ o. IfSome o (λ n. W.names pool n.1 (string_bytes n.0))) c.in-Ok-Some.field-0-is c.in-Ok-Some.ensures in
-    let named = subst (λ n. W.names pool next.1 (string_bytes n)) (sym c.new-ready.ensures.name) told_next in
+    let at_first : W.states pool ≡ true → scopes_of c.start-thread.result ≡ c.args.thread.scopes =
+    λ stated. s.scopes ∙ c.loop.invariant.known stated in
+    let named =
+    subst (λ found. IfSome found (λ job. W.names pool job.1 (string_bytes job.0))) c.in-Ok-Some.field-0-is c.in-Ok-Some.ensures in
     let well = ap is_ok c.in-Ok.is in
     record {
       known = λ stated. c.end-back.ensures.scopes
