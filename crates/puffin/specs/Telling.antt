@@ -57,7 +57,7 @@ RunsAs false holds begins ends old result new = Unit {0}
 RunsAs true holds begins ends old result new =
     OnOk result ((code : Code) × holds code × Runs begins ends code old new)
 
--- What that told: the same of a new thread, by what had happened through its share before and after.
+-- If this is stated, and nothing failed: code of which `holds` is true ran on a new thread, and told what `HasRun` says.
 abbrev pub HasRunAs : {X E : Type 0} → Bool → (Code → Type 0) → (name : List ℕ) → Form → (known : ℕ) →
     Result X E → (before after : List Happening) → (waiting : ℕ) → Type 0
 HasRunAs false holds name form known result before after waiting = Unit {0}
@@ -70,7 +70,7 @@ abbrev pub LeadsAs : {T : Type 0} → Bool → (Code → Type 0) →
 LeadsAs false holds begins ends old new = Unit {0}
 LeadsAs true holds begins ends old new = (code : Code) × holds code × Runs begins ends code old new
 
--- What that told, as `HasRunAs` says of code that may fail.
+-- If this is stated: code of which `holds` is true, and which can't fail, ran on a new thread, and told what `HasRun` says.
 abbrev pub HasLedAs : Bool → (Code → Type 0) → (name : List ℕ) → Form → (known : ℕ) →
     (before after : List Happening) → (waiting : ℕ) → Type 0
 HasLedAs false holds name form known before after waiting = Unit {0}

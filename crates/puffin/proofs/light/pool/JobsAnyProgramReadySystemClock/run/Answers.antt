@@ -1,5 +1,5 @@
 -- Each job is one more that ran.
-use Rattle.std.proofs.Common.{◌≡◌, ℕ, true, List, string_bytes, refl, ap, subst, ◌∙◌}
+use Rattle.std.proofs.Common.{◌≡◌, ℕ, true, List, string_bytes, refl, ap, sym, subst, ◌∙◌}
 use Rattle.std.specs.Prelude.{is_ok, IfSome}
 use Rattle.puffin_data.specs.declared.data.form.Form.TheVariants.{Short}
 use Rattle.puffin.specs.Happenings.{Happening, unmarked}
