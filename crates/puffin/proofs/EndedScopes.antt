@@ -39,89 +39,77 @@ module _ {R : Type 0} (accepts : R → ThreadKey → List Details → StreamFact
       → reported after ≡ reported before
   stays t e before after (r, is, refused) = counts.refused before (calls.key_of_thread t) t.details r e after refused
 
+  words : {a b : calls.Thread} → a ≡ b → num_ended a.word ≡ num_ended b.word
+  words same = ap (λ (t : calls.Thread). num_ended t.word) same
+
+  one_more : (old : calls.Thread) (at : ℤ) → num_ended (after_end old at).word ≡ num_ended old.word + 1
+  one_more old at = omega (arith, num_ended-append old.word (Close (calls.time_of old at) ∷ []))
+
+  -- the end of a scope raises the sum by one, and a report leaves it
   closes : (old new : calls.Thread) (at : ℤ) (before after : R) (closed : Closed)
       → Closes accepts refuses old new at before after closed
       → reported after + num_ended new.word ≡ (reported before + num_ended old.word) + 1
-  closes old new at before after Inner h =
-      omega (
-        arith,
-        ap reported h.2,
-        ap (λ (t : calls.Thread). num_ended t.word) h.1,
-        num_ended-append old.word
-            (Close (calls.time_of old at) ∷ []),
-      )
-  closes old new at before after Reported h =
-      omega (
-        arith,
-        goes (after_end old at) before after h.2,
-        ap (λ (t : calls.Thread). num_ended t.word) h.1,
-        num_ended-append
-            old.word (Close (calls.time_of old at) ∷ []),
-      )
-  closes old new at before after (Kept e) h =
-      omega (
-        arith,
-        stays (after_end old at) e before after h.2,
-        ap (λ (t : calls.Thread). num_ended t.word) h.1,
-        num_ended-append
-            old.word (Close (calls.time_of old at) ∷ []),
-      )
+  closes old new at before after Inner (inner, ended, same) =
+      omega (arith, ap reported same, words ended, one_more old at)
+  closes old new at before after Reported (outer, handed, goes_on) =
+      omega (arith, goes (after_end old at) before after goes_on, words handed, one_more old at)
+  closes old new at before after (Kept error) (outer, ended, refused) =
+      omega (arith, stays (after_end old at) error before after refused, words ended, one_more old at)
 
   reports : (old new : calls.Thread) (before after : R) (result : Result Bool Error)
       → Reports accepts refuses old new before after result
       → reported after + num_ended new.word ≡ reported before + num_ended old.word
-  reports old new before after (Ok false) h = omega (arith, ap reported h.2, ap (λ (t : calls.Thread). num_ended t.word) h.1)
-  reports old new before after (Ok true) h =
-      omega (arith, goes old before after h.2, ap (λ (t : calls.Thread). num_ended t.word) h.1)
-  reports old new before after (Err e) (same, inl still) =
-      omega (arith, ap reported still.2, ap (λ (t : calls.Thread). num_ended t.word) same)
-  reports old new before after (Err e) (same, inr (waits, inl memory)) =
-      omega (arith, ap reported memory.1, ap (λ (t : calls.Thread). num_ended t.word) same)
-  reports old new before after (Err e) (same, inr (waits, inr refused)) =
-      omega (arith, stays old e before after refused, ap (λ (t : calls.Thread). num_ended t.word) same)
+  reports old new before after (Ok false) (nothing_waits, kept, same) = omega (arith, ap reported same, words kept)
+  reports old new before after (Ok true) (waits, handed, goes_on) = omega (arith, goes old before after goes_on, words handed)
+  reports old new before after (Err error) (kept, inl (opened, cause, same)) = omega (arith, ap reported same, words kept)
+  reports old new before after (Err error) (kept, inr (waits, inl (memory, same))) = omega (arith, ap reported same, words kept)
+  reports old new before after (Err error) (kept, inr (waits, inr refused)) =
+      omega (arith, stays old error before after refused, words kept)
 
   pub ends : {C : Type 0} (answers : C → ℤ → C → Type 0) (old : Thread C R) (offset : ℕ) (new : Thread C R)
       → EndsIn answers accepts refuses old offset new → innermost_of (profiler_of old) ≡ Some offset
       → counted_by reported new ≡ counted_by reported old + 1
-  ends answers old offset new h is =
-      let ended = h.ends.innermost is in
+  ends answers old offset new end is =
+      let ended = end.ends.innermost is in
       closes (thread_of (profiler_of old)) (thread_of (profiler_of new)) ended.at (reporter_of old)
       (reporter_of new) ended.closed ended.closes
 
   pub reports_by : {C : Type 0} (old new : Thread C R) (result : Result Bool Error)
       → Reports accepts refuses (thread_of (profiler_of old)) (thread_of (profiler_of new)) (reporter_of old)
       (reporter_of new) result → counted_by reported new ≡ counted_by reported old
-  reports_by old new result h = reports (thread_of (profiler_of old)) (thread_of (profiler_of new)) (reporter_of old)
-      (reporter_of new) result h
+  reports_by old new result its = reports (thread_of (profiler_of old)) (thread_of (profiler_of new)) (reporter_of old)
+      (reporter_of new) result its
 
+-- an end at another offset than the innermost scope's changes nothing
 pub leaves : {C R : Type 0} (answers : C → ℤ → C → Type 0)
     (accepts : R → ThreadKey → List Details → StreamFacts → R → Type 0)
     (refuses : R → ThreadKey → List Details → StreamFacts → Error → R → Type 0) (reported : R → ℕ) (old : Thread C R)
     (offset : ℕ) (new : Thread C R) → EndsIn answers accepts refuses old offset new
     → innermost_of (profiler_of old) ≢ Some offset → counted_by reported new ≡ counted_by reported old
-leaves answers accepts refuses reported old offset new h other =
-    let same = h.ends.other other in
+leaves answers accepts refuses reported old offset new end other =
+    let same = end.ends.other other in
     omega (arith, ap reported same.1, ap (λ p. num_ended (thread_of p).word) same.0)
 
+-- a scope that begins is none that has ended
 begun_ended : (t : calls.Thread) (id : ℕ) (text : List ℕ) (at : ℤ) → num_ended (after_begin t id text at).word ≡ num_ended t.word
 begun_ended t id text at = omega (arith, num_ended-append t.word (Open id text (calls.time_of t at) ∷ []))
 
 begins_there : {C R : Type 0} (answers : C → ℤ → C → Type 0) (reported : R → ℕ) (old : Thread C R)
     (place : Place) (text : List ℕ) (state : GuardState) (new : Thread C R) → BeginsThere answers old place text state new
     → counted_by reported new ≡ counted_by reported old
-begins_there answers reported old place text (On offset) new h =
-    let began = h.begins.1 in
+begins_there answers reported old place text (On offset) new begin =
+    let began = begin.begins.1 in
     omega (
       arith,
-      ap reported h.reporter,
+      ap reported begin.reporter,
       ap (λ (t : calls.Thread). num_ended t.word) began.begun,
       begun_ended
           (thread_of (profiler_of old)) place.id (cut_text (thread_of (profiler_of old)).form text) began.at,
     )
-begins_there answers reported old place text Off new h =
-    omega (arith, ap reported h.reporter, ap (λ p. num_ended (thread_of p).word) h.begins)
-begins_there answers reported old place text (Refused e) new h =
-    omega (arith, ap reported h.reporter, ap (λ p. num_ended (thread_of p).word) h.begins.0)
+begins_there answers reported old place text Off new begin =
+    omega (arith, ap reported begin.reporter, ap (λ p. num_ended (thread_of p).word) begin.begins)
+begins_there answers reported old place text (Refused error) new begin =
+    omega (arith, ap reported begin.reporter, ap (λ p. num_ended (thread_of p).word) begin.begins.0)
 
 pub begins : {C R : Type 0} (answers : C → ℤ → C → Type 0)
     (accepts : R → ThreadKey → List Details → StreamFacts → R → Type 0)

@@ -236,7 +236,8 @@ module _ (old opened filled new : Stage) (id : ℕ) (text : List ℕ) (at at2 : 
   has_begun = let first = some_first old.thread.first_start (time_of old.thread at) in
       (first.0, body.started first.0 (ap (λ (t : calls.Thread). t.first_start) begun ∙ first.1))
 
-  pub around : new.known ≡ filled.known → (closed : Closed) → Closes Accepts Refuses filled.thread new.thread at2 filled.told new.told closed
+  pub around : new.known ≡ filled.known → (closed : Closed)
+      → Closes Accepts Refuses filled.thread new.thread at2 filled.told new.told closed
       → Adds old new whole
   around later_known = at_close
     where
@@ -264,7 +265,8 @@ module _ (old opened filled new : Stage) (id : ℕ) (text : List ℕ) (at at2 : 
                 ap (λ (u : calls.Thread). u.first_start) ended in cc);
           }
 
-      reported_end : open_after 0 filled.thread.word ≡ 1 → new.thread ≡ after_handing (after_end filled.thread at2) → (r : StreamFacts)
+      reported_end : open_after 0 filled.thread.word ≡ 1 → new.thread ≡ after_handing (after_end filled.thread at2)
+          → (r : StreamFacts)
           → IsReportOf (after_end filled.thread at2) r
           → Accepts filled.told (key_of_thread (after_end filled.thread at2)) filled.thread.details r new.told → Adds old new whole
       reported_end one handed r is accepted =
@@ -293,7 +295,8 @@ module _ (old opened filled new : Stage) (id : ℕ) (text : List ℕ) (at at2 : 
                 ap (λ (u : calls.Thread). u.first_start) handed in cc);
           }
 
-      at_close : (closed : Closed) → Closes Accepts Refuses filled.thread new.thread at2 filled.told new.told closed → Adds old new whole
+      at_close : (closed : Closed) → Closes Accepts Refuses filled.thread new.thread at2 filled.told new.told closed
+          → Adds old new whole
       at_close Inner (inner, ended, untold) = quiet_end ended untold
       at_close Reported (outermost, handed, (report, is, accepted)) = reported_end outermost handed report is accepted
       at_close (Kept error) (outermost, ended, (report, is, refused)) = quiet_end ended refused

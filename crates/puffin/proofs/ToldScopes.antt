@@ -1,5 +1,6 @@
 -- All that code on a new thread told.
-use Rattle.std.proofs.Common.{◌≡◌, ℕ, ◌++◌, List, [], ◌∷◌, Option, None, Bool, Result, ℤ, refl, sym, ap, ◌∙◌, subst}
+use Rattle.std.proofs.Common.{◌≡◌, ℕ, ◌++◌, List, [], ◌∷◌, Option, None, Bool, Result, ℤ, refl, sym, ap, ◌∙◌}
+use Rattle.std.proofs.Common.{subst}
 use Rattle.std.proofs.lemmas.List.{append-nil}
 use Rattle.puffin_data.specs.declared.error.Error.{Error}
 use Rattle.puffin_data.specs.declared.data.form.Form.{Form}
@@ -13,7 +14,8 @@ use Rattle.puffin_threads.specs.Thread.Calls.{new_thread}
 use Rattle.puffin_threads.specs.Thread.Closing.{Reports}
 use Rattle.puffin.specs.Telling.{AllFit}
 use Rattle.puffin.specs.Recounted.{SpellInTurn}
-use Rattle.puffin.proofs.Telling.{Stage, TellEvents, Passes, Adds, Accepts, Refuses, num_open, under, passes_both, reports_pass, reports_stay}
+use Rattle.puffin.proofs.Telling.{Stage, TellEvents, Passes, Adds, Accepts, Refuses, num_open, under, passes_both, reports_pass}
+use Rattle.puffin.proofs.Telling.{reports_stay}
 
 -- What a thread of this name told since it was new, and what waits on it now, are just these scopes.
 pub record ToldScopes (first now : Stage) (name : List ℕ) (scopes : Forest) : Type 0 where
