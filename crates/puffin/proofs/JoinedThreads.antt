@@ -13,7 +13,7 @@ use Rattle.puffin.specs.declared.light.started.ThreadPromise.{ThreadPromise}
 use Rattle.puffin.specs.Happenings.{Happening}
 use Rattle.puffin.specs.Members.{Member, all_handed}
 use Rattle.puffin.specs.Taking.{TookAll}
-use Rattle.puffin.specs.Joined.{TellsAt, EachJoined, AreJoined, EachTells, AreStarted, AreTold}
+use Rattle.puffin.specs.Joined.{TellsAt, EachJoined, AreJoined, EachTells, StartedAt, AreStarted, AreTold}
 
 -- if none failed with one more, neither it failed nor those before it
 pub none_failed : (before own after : Option Failed) → after ≡ option_or before own → after ≡ None
@@ -108,7 +108,7 @@ module _ {A T W : Type 0} (tells : T → W → ℕ → ThreadEnd → List Happen
       → EachJoined tells handles failed counts shares → EachTells tells threads program failed counts shares
   told_each handles threads program failed counts shares started joined k thread there =
       let s = started k thread there in
-      let j = joined k s.0 s.1 in
+      let j = joined k s.handle s.handle_is in
       record {
         ended = j.ended;
         count = j.count;
@@ -118,9 +118,10 @@ module _ {A T W : Type 0} (tells : T → W → ℕ → ThreadEnd → List Happen
         unreported = j.unreported;
         went_well = j.went_well;
         told =
-            subst (λ (t : T). tells t program k j.ended [] j.share.own) s.2
-            (subst (λ (n : ℕ). tells s.0.promise.thread.value program n j.ended [] j.share.own) s.3
-            (subst (λ (w : W). tells s.0.promise.thread.value w s.0.promise.number j.ended [] j.share.own) s.4 j.told));
+            let promise = s.handle.promise in
+            subst (λ (t : T). tells t program k j.ended [] j.share.own) s.thread_is
+            (subst (λ (n : ℕ). tells promise.thread.value program n j.ended [] j.share.own) s.number_is
+            (subst (λ (w : W). tells promise.thread.value w promise.number j.ended [] j.share.own) s.program_is j.told));
       }
 
 module _ {A T W : Type 0} where
@@ -132,17 +133,22 @@ module _ {A T W : Type 0} where
       → AreStarted (handles ++ handle ∷ []) (threads ++ thread ∷ []) program
   started_more handles threads program handle thread was same its_thread its_number its_program =
       each_more
-      (λ k (t : T). (h : PromisedHandle A (ThreadPromise T W)) × (slice_get (handles ++ handle ∷ []) k ≡ Some h)
-      × (h.promise.thread.value ≡ t) × (h.promise.number ≡ k) × (h.promise.program.value ≡ program))
+      (λ k (t : T). StartedAt (handles ++ handle ∷ []) t program k)
       threads thread
-      (λ k t e. let w = was k t e in (w.0, still_there handles handle k w.0 w.1, w.2, w.3, w.4)) (
-        handle,
-        subst (λ (n : ℕ). slice_get (handles ++ handle ∷ []) n ≡ Some handle) same
-            (last_there handles handle),
-        its_thread,
-        its_number ∙ same,
-        its_program,
-      )
+      (λ k t e. let before = was k t e in record {
+        handle = before.handle;
+        handle_is = still_there handles handle k before.handle before.handle_is;
+        thread_is = before.thread_is;
+        number_is = before.number_is;
+        program_is = before.program_is;
+      })
+      (record {
+        handle = handle;
+        handle_is = subst (λ (n : ℕ). slice_get (handles ++ handle ∷ []) n ≡ Some handle) same (last_there handles handle);
+        thread_is = its_thread;
+        number_is = its_number ∙ same;
+        program_is = its_program;
+      })
 
 -- what is left to prove of a vector that starts with the leader's two shares
 module _ {A T W : Type 0} (tells : T → W → ℕ → ThreadEnd → List Happening → List Happening → Type 0) where

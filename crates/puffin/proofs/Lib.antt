@@ -24,5 +24,6 @@ mod ShownPools
 mod CutHistory
 mod KeptSteps
 mod RunningRounds
+mod RoundFrames
 mod ShownRounds
 mod TellingJobs

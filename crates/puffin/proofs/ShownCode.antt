@@ -138,7 +138,8 @@ key_for {name = name} m ran = record { start = ran.start; name = name }
 
 pub frames_show : FramesShow
 frames_show known n is names shares counts taker log pending did same quiet recounts k name named alone =
-    let d = did k name named in (d.2, d.1, d.5, d.4, shown d.0 d.2 d.1.unreported d.3 d.6)
+    let its = did k name named in
+    (its.code, its.count, its.right, its.count_is, shown its.share its.code its.count.unreported its.share_is its.ran)
   where
     all : List Member
     all = taker ∷ shares
@@ -175,19 +176,19 @@ frames_show known n is names shares counts taker log pending did same quiet reco
         reports (suc j) m e other =
             let its = named_at names shares j m same e in
             let d = did j its.0 its.1 in
-            let is_d : d.0 ≡ m = at_most_one (slice_get shares j) d.0 m d.3 e in
+            let is_d : d.share ≡ m = at_most_one (slice_get shares j) d.share m d.share_is e in
             subst (λ (x : Member). reports_under i x.own ≡ []) is_d
-            (more_under i [] d.0.own _ d.6.told
-            ∙ under_others (key_for d.0 d.6) i
+            (more_under i [] d.share.own _ d.ran.told
+            ∙ under_others (key_for d.share d.ran) i
             (λ same_name. let at : j ≡ k = one_place name names j k alone (its.1 ∙ ap Some (sym same_name)) named in
             other (ap (λ (x : Member). x.number)
-            (at_most_one (slice_get shares j) m share e (ap (slice_get shares) at ∙ there)))) d.6.streams)
+            (at_most_one (slice_get shares j) m share e (ap (slice_get shares) at ∙ there)))) d.ran.streams)
 
         takes : (j : ℕ) (m : Member) → slice_get all j ≡ Some m → Untaken (account_of m)
         takes zero m e other = let is_taker : taker ≡ m = cc in absurd (other (ap (λ (x : Member). x.number) (sym is_taker)))
         takes (suc j) m e other =
             let its = named_at names shares j m same e in
             let d = did j its.0 its.1 in
-            let is_d : d.0 ≡ m = at_most_one (slice_get shares j) d.0 m d.3 e in
+            let is_d : d.share ≡ m = at_most_one (slice_get shares j) d.share m d.share_is e in
             subst (λ (x : Member). frames_in x.own ≡ []) is_d
-            (more_frames [] d.0.own _ d.6.told ∙ no_frames (key_for d.0 d.6) d.6.streams)
+            (more_frames [] d.share.own _ d.ran.told ∙ no_frames (key_for d.share d.ran) d.ran.streams)

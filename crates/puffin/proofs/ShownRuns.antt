@@ -59,18 +59,19 @@ module _ (C : Type 0) {W : Type 0} (states : W → Bool) (runs : W → ℕ → C
       let ran = ran_well (runs program k) (string_bytes t.0.name)
       (num_known t.0.scopes) told.ended.result told.share.own told.ended.left.unreported (told.went_well none)
       (subst (λ (b : Bool). HasRunAs b (runs program k) (string_bytes t.0.name) Short
-      (num_known t.0.scopes) told.ended.result [] told.share.own told.ended.left.unreported) stated told.told) in (
-        told.share,
-        told.count,
-        ran.0,
-        told.share_is,
-        told.count_is,
-        ran.1,
-        subst (λ (n : ℕ). HasRun name Short known ran.0 [] told.share.own n) (sym told.unreported)
+      (num_known t.0.scopes) told.ended.result [] told.share.own told.ended.left.unreported) stated told.told) in
+      record {
+        share = told.share;
+        count = told.count;
+        code = ran.0;
+        share_is = told.share_is;
+        count_is = told.count_is;
+        right = ran.1;
+        ran = subst (λ (n : ℕ). HasRun name Short known ran.0 [] told.share.own n) (sym told.unreported)
             (subst (λ (n : ℕ). HasRun name Short n ran.0 [] told.share.own told.ended.left.unreported) its.1
             (subst (λ (x : List ℕ). HasRun x Short (num_known t.0.scopes) ran.0 [] told.share.own told.ended.left.unreported)
-            its_name ran.2)),
-      )
+            its_name ran.2));
+      }
 
   -- the leader and the threads
   ran_all : (known : ℕ) (names : List (List ℕ)) (leader_name : List ℕ) (leader : Ready C) (program : W) (counts : List ThreadCounts)
@@ -81,18 +82,28 @@ module _ (C : Type 0) {W : Type 0} (states : W → Bool) (runs : W → ℕ → C
   ran_all known names leader_name leader program counts led own shares stated its_name its_known told each zero name at =
       let l = subst (λ (b : Bool). HasLedAs b (leads program) (string_bytes leader.name) Short
       (num_known leader.scopes) [] own.own led.unreported) stated told in
-      let same : leader_name ≡ name = cc in (
-        own,
-        led,
-        l.0,
-        refl,
-        refl,
-        l.1,
-        subst (λ (n : ℕ). HasRun name Short n l.0 [] own.own led.unreported) its_known
-            (subst (λ (x : List ℕ). HasRun x Short (num_known leader.scopes) l.0 [] own.own led.unreported) (its_name ∙ same) l.2),
-      )
+      let same : leader_name ≡ name = cc in
+      record {
+        share = own;
+        count = led;
+        code = l.0;
+        share_is = refl;
+        count_is = refl;
+        right = l.1;
+        ran = subst (λ (n : ℕ). HasRun name Short n l.0 [] own.own led.unreported) its_known
+            (subst (λ (x : List ℕ). HasRun x Short (num_known leader.scopes) l.0 [] own.own led.unreported) (its_name ∙ same) l.2);
+      }
   ran_all known names leader_name leader program counts led own shares stated its_name its_known told each (suc k) name at =
-      each k name at
+      let its = each k name at in
+      record {
+        share = its.share;
+        count = its.count;
+        code = its.code;
+        share_is = its.share_is;
+        count_is = its.count_is;
+        right = its.right;
+        ran = its.ran;
+      }
 
   shown : (known : ℕ) (leader_name : List ℕ) (names : List (List ℕ)) (program : W) (outcome : Outcome)
       → NamedTold tells led_tells took known leader_name names program outcome → states program ≡ true → outcome.failed ≡ None

@@ -58,15 +58,19 @@ EachTells {T} {W} tells threads program failed counts shares =
     (place : ℕ) (thread : T) → slice_get threads place ≡ Some thread →
     TellsAt tells thread program place failed counts shares place
 
--- for each of these threads there is a handle at its place, to that thread of this program, with its place as its number
+-- there is a handle at this place to this thread of this program, whose number is the place
+pub record StartedAt {A T W : Type 0} (handles : List (PromisedHandle A (ThreadPromise T W))) (thread : T) (program : W)
+    (place : ℕ) : Type 0 where
+  pub handle : PromisedHandle A (ThreadPromise T W)
+  pub handle_is : slice_get handles place ≡ Some handle
+  pub thread_is : handle.promise.thread.value ≡ thread
+  pub number_is : handle.promise.number ≡ place
+  pub program_is : handle.promise.program.value ≡ program
+
+-- each of these threads of a program has its handle, at the thread's place
 abbrev pub AreStarted : {A T W : Type 0} → List (PromisedHandle A (ThreadPromise T W)) → List T → W → Type 0
 AreStarted {A} {T} {W} handles threads program =
-    (place : ℕ) (thread : T) → slice_get threads place ≡ Some thread →
-    (handle : PromisedHandle A (ThreadPromise T W))
-    × (slice_get handles place ≡ Some handle)
-    × (handle.promise.thread.value ≡ thread)
-    × (handle.promise.number ≡ place)
-    × (handle.promise.program.value ≡ program)
+    (place : ℕ) (thread : T) → slice_get threads place ≡ Some thread → StartedAt handles thread program place
 
 -- `shares` are the two of the leader, of which `taker` took this number of frames and `own` has its reports, and one for each thread.
 -- `tells`, `leads` and `takes` are what the threads, the leader and the taking of frames tell in such a program.

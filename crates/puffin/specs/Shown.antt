@@ -34,17 +34,23 @@ pub record ShowsCode (known : ℕ) (code : Code) (name : List ℕ) (frames : Lis
   pub began : AreScopesOf known Short code (append shown waits)
   pub counted : scope_count waits ≡ waiting
 
--- Each thread, by its place, ran code of which `holds` is true, under the name and through the share at that place. Its counts there
--- say how many of its scopes wait.
+-- The thread at this place ran code of which `holds` is true, under this name, and through the share at the place. The counts there
+-- say how many of its scopes wait. It knew so many places of the code.
+pub record RanAt (known : ℕ) (holds : ℕ → Code → Type 0) (shares : List Member) (counts : List ThreadCounts) (place : ℕ)
+    (name : List ℕ) : Type 0 where
+  pub share : Member
+  pub count : ThreadCounts
+  pub code : Code
+  pub share_is : slice_get shares place ≡ Some share
+  pub count_is : slice_get counts place ≡ Some count
+  pub right : holds place code
+  pub ran : HasRun name Short known code [] share.own count.unreported
+
+-- each thread ran so, under the name at its place
 abbrev pub RanEach : (known : ℕ) → (holds : ℕ → Code → Type 0) → (names : List (List ℕ)) →
     (shares : List Member) → (counts : List ThreadCounts) → Type 0
 RanEach known holds names shares counts =
-    (place : ℕ) (name : List ℕ) → slice_get names place ≡ Some name →
-    (share : Member) × (count : ThreadCounts) × (code : Code)
-    × (slice_get shares place ≡ Some share)
-    × (slice_get counts place ≡ Some count)
-    × holds place code
-    × HasRun name Short known code [] share.own count.unreported
+    (place : ℕ) (name : List ℕ) → slice_get names place ≡ Some name → RanAt known holds shares counts place name
 
 -- just one of these names is this one
 abbrev pub IsAlone : List ℕ → List (List ℕ) → Type 0
