@@ -80,6 +80,7 @@ impl<L: Ledger + History, M: Ledger, R: Wait> Reporter for Counting<L, M, R> {
     ghost refuses = { λ old key details report error new.
         (new.reporter.share ≡ old.reporter.share) × IsReportCause details error };
 
+    /// Reports through the share, and counts the scopes if the report is accepted.
     fn report(
         &mut self,
         info: ThreadInfo,
@@ -97,12 +98,14 @@ impl<L: Ledger + History, M: Ledger, R: Wait> Meets for Counting<L, M, R> {
 
     ghost told = { λ counting. counting.reporter.share.own };
 
+    /// Counts the thread as arrived. The last one of a round wakes the leader, which alone waits for that.
     fn arrive(&mut self, meeting: &Meeting) {
         if self.reporter.arrive() % meeting.threads == 0 {
             meeting.arrived.notify_one();
         }
     }
 
+    /// Waits on the profiler's lock until this number of rounds is released.
     fn wait_released(&mut self, meeting: &Meeting, rounds: u64) {
         self.reporter.wait_released(&meeting.released, rounds);
     }

@@ -101,6 +101,7 @@ impl<L: Ledger + History, M: Ledger, R: Wait + Clock> Frames for FrameTaker<'_, 
 
     ghost taken = { λ taker. frames_in taker.share.own };
 
+    /// Takes a frame of the profiler through the leader's share, and counts it.
     fn new_frame(&mut self) -> Result<Emitted>
         ensures spells { IfOk result (λ emitted. SpellsItsScopes emitted.frame) }
         ensures cause { IfErr result IsFrameCause }
@@ -153,6 +154,7 @@ impl<L: Ledger + History, M: Ledger, R: Wait + Clock> Gathers for FrameTaker<'_,
         self.new_frame()
     }
 
+    /// Counts the round as released, and then wakes all threads that wait for that.
     fn release(&mut self, meeting: &Meeting) {
         self.profiler.release(&self.rt, &mut self.share);
         meeting.released.notify_all();

@@ -189,6 +189,7 @@ impl<C: Clock + Copy + Drop, W: Pool> AnyProgram<Ready<SystemClock<C>>> for Jobs
         unreachable!()
     }
 
+    /// Runs the pool's leader, and reports what is left.
     fn lead<R: Wait, P: Meets, F: Gathers>(
         &self,
         rt: &R,

@@ -204,6 +204,7 @@ impl<C: NsSource + Drop, W: Program> AnyProgram<Ready<C>> for Gated<'_, W> {
         &self.gate
     }
 
+    /// Does the thread's work, once the gate is open, and reports what is left.
     fn run<R: Wait, P: Meets>(
         &self,
         rt: &R,
@@ -217,6 +218,7 @@ impl<C: NsSource + Drop, W: Program> AnyProgram<Ready<C>> for Gated<'_, W> {
         (ThreadEnd { result, left }, reporter)
     }
 
+    /// Runs the program's leader, and reports what is left.
     fn lead<R: Wait, P: Meets, F: Gathers>(
         &self,
         rt: &R,

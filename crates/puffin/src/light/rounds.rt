@@ -117,6 +117,8 @@ impl<C: NsSource + Drop, W: Rounds> AnyProgram<Ready<C>> for InRounds<'_, W> {
         &self.gate
     }
 
+    /// Makes the thread's state, and does its part of each round until the leader has stored that the round was the last one. A
+    /// thread that failed still arrives, so that the others don't wait for it.
     fn run<R: Wait, P: Meets>(
         &self,
         rt: &R,
@@ -157,6 +159,7 @@ impl<C: NsSource + Drop, W: Rounds> AnyProgram<Ready<C>> for InRounds<'_, W> {
         (ThreadEnd { result, left }, reporter)
     }
 
+    /// Leads each round: does the leader's part, waits until all have arrived, takes the frame, and releases the round.
     fn lead<R: Wait, P: Meets, F: Gathers>(
         &self,
         rt: &R,
@@ -172,6 +175,7 @@ impl<C: NsSource + Drop, W: Rounds> AnyProgram<Ready<C>> for InRounds<'_, W> {
             let taken = frames.take();
             let goes_on = self.program.goes_on(rt, round, &taken, &*frames)
                 && !self.failed.load(Ordering::SeqCst);
+            // Stored before the release, so that each thread that goes on sees it.
             self.over.store(!goes_on, Ordering::SeqCst);
             frames.release(&self.meeting);
             thread.wait_released(&self.meeting, round as u64 + 1);

@@ -235,6 +235,8 @@ impl<C: NsSource, P: Reporter> Records for Thread<C, P> {
         self.scopes.switch()
     }
 
+    /// Begins a scope if scopes are on. A place that the thread doesn't know is refused. Where there is no room, what waits is
+    /// reported, and the scope is tried once more.
     #[inline(always)]
     fn begin(&mut self, place: &Place, text: &str) -> GuardState {
         if !self.scopes.switch().are_scopes_on() {
@@ -249,6 +251,7 @@ impl<C: NsSource, P: Reporter> Records for Thread<C, P> {
         }
     }
 
+    /// Ends the innermost scope if it has this offset. Only the end of the outermost one reports: the others just close.
     #[inline(always)]
     fn end(&mut self, offset: usize) {
         if self.profiler.depth() > 1 {
