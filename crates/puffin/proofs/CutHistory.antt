@@ -50,8 +50,7 @@ split_at {E} t (y ∷ ys) p x q e = by (y.0 == t) refl p e (λ r. split_at t ys 
         record {
           before = [];
           later = ys;
-          whole =
-              ap (λ (z : ℕ × E). z ∷ ys) (ap (λ (n : ℕ). (n, y.1)) number ∙ ap (λ (h : E). (t, h)) first);
+          whole = ap (λ (z : ℕ × E). z ∷ ys) (ap (λ (n : ℕ). (n, y.1)) number ∙ ap (λ (h : E). (t, h)) first);
           own = refl;
         }
     by true is (h ∷ s) e later other =
@@ -95,8 +94,7 @@ frame_at number (reported i r ∷ own) below =
       before = reported i r ∷ f.before;
       streams = f.streams;
       later = f.later;
-      whole =
-          ap (λ (hs : List Happening). reported i r ∷ hs) f.whole;
+      whole = ap (λ (hs : List Happening). reported i r ∷ hs) f.whole;
       earlier = f.earlier;
       first = f.first;
     }
@@ -106,8 +104,7 @@ frame_at number (marked mark ∷ own) below =
       before = marked mark ∷ f.before;
       streams = f.streams;
       later = f.later;
-      whole =
-          ap (λ (hs : List Happening). marked mark ∷ hs) f.whole;
+      whole = ap (λ (hs : List Happening). marked mark ∷ hs) f.whole;
       earlier = f.earlier;
       first = f.first;
     }
@@ -201,8 +198,7 @@ no_fewer x log (a ∷ rest) = omega (
   arith,
   sum_by-cons (parts_by log) a rest,
   sum_by-cons (parts_by (x ∷ log)) a rest,
-  parts_front
-      (x.0 == a.0) x.1 (entries_by a.0 log),
+  parts_front (x.0 == a.0) x.1 (entries_by a.0 log),
   no_fewer x log rest,
 )
 
@@ -225,8 +221,7 @@ by_some x log (a ∷ rest) some = at (x.0 == a.0) refl (λ more. by_some x log r
           sums,
           mine,
           arrived-both (x.1 ∷ []) (entries_by a.0 log),
-          sum_by-cons
-              (parts_by log) a rest,
+          sum_by-cons (parts_by log) a rest,
           no_fewer x log rest,
         )
     at false is later =
@@ -239,8 +234,7 @@ by_some x log (a ∷ rest) some = at (x.0 == a.0) refl (λ more. by_some x log r
           sums,
           mine,
           sum_by-cons (parts_by log) a rest,
-          later
-              (omega (arith, some, times-cons number x.0 a rest, other)),
+          later (omega (arith, some, times-cons number x.0 a rest, other)),
         )
 
 pub all_parts : (n : ℕ) (log : History) (accounts : List (ℕ × List Happening)) → HasAuthors n log
@@ -251,6 +245,5 @@ all_parts n (x ∷ log) accounts has once =
       arith,
       arrived-both (x.1 ∷ []) (events log),
       all_parts n log accounts has.1 once,
-      by_some x log accounts
-          (omega (arith, once x.0 has.0)),
+      by_some x log accounts (omega (arith, once x.0 has.0)),
     )

@@ -103,8 +103,7 @@ begins_there answers reported old place text (On offset) new begin =
       arith,
       ap reported begin.reporter,
       ap (λ (t : calls.Thread). num_ended t.word) began.begun,
-      begun_ended
-          (thread_of (profiler_of old)) place.id (cut_text (thread_of (profiler_of old)).form text) began.at,
+      begun_ended (thread_of (profiler_of old)) place.id (cut_text (thread_of (profiler_of old)).form text) began.at,
     )
 begins_there answers reported old place text Off new begin =
     omega (arith, ap reported begin.reporter, ap (λ p. num_ended (thread_of p).word) begin.begins)

@@ -149,8 +149,7 @@ opened_stands streams honest nothing =
     record {
       start = streams;
       none = λ i. none_under streams i honest nothing (map.get streams i) refl;
-      pending_is =
-          refl;
+      pending_is = refl;
       frames_are = refl;
       reports = tt;
     }
@@ -176,6 +175,5 @@ left_met a r log (b ∷ rest) met =
     (append_assoc log ((b.0, marked left) ∷ []) (last_entries rest))
     (left_met a r (log ++ (b.0, marked left) ∷ []) rest (
       still_met a r b.0 (marked left) log (log ++ (b.0, marked left) ∷ []) refl met.0,
-      still_seen b.0 (marked left) log
-          (log ++ (b.0, marked left) ∷ []) refl tt met.1,
+      still_seen b.0 (marked left) log (log ++ (b.0, marked left) ∷ []) refl tt met.1,
     ))

@@ -75,8 +75,7 @@ few_parts a most parts rounds (marked arrived ∷ hs) steps seen few at =
     omega (
       arith,
       arrived-both (marked arrived ∷ []) hs,
-      few_parts a most (parts + 1) rounds hs steps.1 seen.1 few
-          (omega (arith, steps.0)),
+      few_parts a most (parts + 1) rounds hs steps.1 seen.1 few (omega (arith, steps.0)),
     )
 few_parts a most parts rounds (marked released ∷ hs) steps seen few at = absurd steps.0
 few_parts a most parts rounds (marked (saw_arrived n) ∷ hs) steps seen few at = absurd steps.0
@@ -198,8 +197,7 @@ gathered threads a b rounds parts frames (framed s ∷ p) streams q takes seen s
     let g = gathered threads a b (rounds + 0) parts (suc frames) p streams q takes.1 seen.1 some (omega (arith, takes.0.1)) in
     record {
       parts = subst (λ (n : ℕ). threads * suc n ≤ a) (omega arith) g.parts;
-      before =
-          omega (arith, takes.0.1, g.before);
+      before = omega (arith, takes.0.1, g.before);
       later = g.later;
     }
 gathered threads a b rounds parts frames (marked arrived ∷ p) streams q takes seen some few = absurd takes.0

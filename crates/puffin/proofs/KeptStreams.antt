@@ -14,16 +14,14 @@ pub same_keeps : (old new : Collected) → new ≡ old → Keeps old new
 same_keeps old new is = (
   ap (λ (c : Collected). c.reported) is,
   ap (λ (c : Collected). c.emitted) is,
-  ap
-      (λ (c : Collected). c.streams) is,
+  ap (λ (c : Collected). c.streams) is,
 )
 
 pub wanting_keeps : (old new : Collected) (more : Collected) → more.reported ≡ old.reported → more.emitted ≡ old.emitted
     → more.streams ≡ old.streams → new ≡ more → Keeps old new
 wanting_keeps old new more r e s is = (
   ap (λ (c : Collected). c.reported) is ∙ r,
-  ap (λ (c : Collected). c.emitted) is
-      ∙ e,
+  ap (λ (c : Collected). c.emitted) is ∙ e,
   ap (λ (c : Collected). c.streams) is ∙ s,
 )
 

@@ -226,8 +226,7 @@ module _ (known rounds n : ℕ) (is : ℕ → ℕ → Code → Type 0) (names : 
       let e = d.3.each round (omega (
         arith,
         ap num_arrived own,
-        arrived-both (entries_by d.0.number now)
-            (entries_by d.0.number s.later),
+        arrived-both (entries_by d.0.number now) (entries_by d.0.number s.later),
         done,
       )) in
       let cut_is : entries_by d.0.number now ≡ until (suc round) d.0.own =

@@ -23,7 +23,7 @@ use Rattle.puffin.specs.Lent.{MarksThere}
 use Rattle.puffin.specs.Places.{num_known}
 use Rattle.puffin.specs.Guards.{BeginsAt, EndsIn}
 use Rattle.puffin.specs.Code.{Code, nothing, scope, Runs, AreScopesOf, AreTurns, followed_by, scope_if, span_at}
-use Rattle.puffin.specs.Happenings.{Happening, Mark, reported, marked, arrived, saw_released, unless_marked, unmarked, num_arrived}
+use Rattle.puffin.specs.Happenings.{Happening, Mark, marked, arrived, saw_released, unless_marked, unmarked, num_arrived}
 use Rattle.puffin.specs.Rounds.{until, released_then, KeepsStep, HasRunRounds, HasRunRoundsAs, HasLedRoundsAs}
 use Rattle.puffin.specs.Telling.{KeepsReports, HasRun, RunsAs, LeadsAs}
 use Rattle.puffin.proofs.Growing.{arrived-both}
@@ -261,8 +261,7 @@ module _ {C R : Type 0} (tells : R → List Happening) (is : ℕ → Code → Ty
       parts = omega (
         arith,
         ap num_arrived own_last,
-        arrived-both (own now ++ more)
-            (marked arrived ∷ marked (saw_released (turn + 1)) ∷ []),
+        arrived-both (own now ++ more) (marked arrived ∷ marked (saw_released (turn + 1)) ∷ []),
         arrived_now,
       );
       closed = ap (last_seen 0) own_last ∙ last_seen_both 0

@@ -102,8 +102,7 @@ named_at : (names : List (List ℕ)) (shares : List Member) (j : ℕ) (m : Membe
     → slice_get shares j ≡ Some m → (name : List ℕ) × (slice_get names j ≡ Some name)
 named_at names shares j m same e = (
   get_or names j [],
-  slice_get-get_or names j []
-      (subst (λ (n : ℕ). j < n) same (slice_get_within shares j m e)),
+  slice_get-get_or names j [] (subst (λ (n : ℕ). j < n) same (slice_get_within shares j m e)),
 )
 
 abbrev pub here : List ℕ → List ℕ → ℕ

@@ -136,8 +136,7 @@ module _ (is : List ℕ → Code → Type 0) (known : ℕ) where
             named = f.named;
             it = f.it;
             before = f.before;
-            mid =
-                f.mid;
+            mid = f.mid;
             ran = f.ran;
             alone = f.alone;
           }
@@ -204,8 +203,7 @@ did_at : (threads : List (List Job)) (shares : List Member) (j : ℕ) (m : Membe
     → slice_get shares j ≡ Some m → (jobs : List Job) × (slice_get threads j ≡ Some jobs)
 did_at threads shares j m same e = (
   get_or threads j [],
-  slice_get-get_or threads j []
-      (subst (λ (n : ℕ). j < n) same (slice_get_within shares j m e)),
+  slice_get-get_or threads j [] (subst (λ (n : ℕ). j < n) same (slice_get_within shares j m e)),
 )
 
 pub frames_show_jobs : FramesShowJobs

@@ -87,8 +87,7 @@ pub takes_none : (old : List Streams) → TakesMore old old
 takes_none old = record {
   more = [];
   behind = sym (append-nil old);
-  honest =
-      All-nil (λ s. AreHonest s × (0 < total_scopes (map.values s)));
+  honest = All-nil (λ s. AreHonest s × (0 < total_scopes (map.values s)));
 }
 
 takes_one : {A : Type 0} (old before new : List Streams) (f : Option (Arc FrameData A)) → TakesMore old before → SpellsItsScopes f

@@ -50,8 +50,7 @@ module _ (is : List ℕ → Code → Type 0) (known : ℕ) where
         jobs ++ job ∷ [],
         more_run is known jobs job before mid after ran (may code it)
             (subst (λ (n : ℕ). HasRun name Short n code mid after own) (same refl) run),
-        more_unreported jobs job unreported sum
-            counted total,
+        more_unreported jobs job unreported sum counted total,
       )
 
 -- code leaves a thread the scopes that it knows

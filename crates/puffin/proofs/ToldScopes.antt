@@ -14,7 +14,7 @@ use Rattle.puffin_threads.specs.Thread.Calls.{new_thread}
 use Rattle.puffin_threads.specs.Thread.Closing.{Reports}
 use Rattle.puffin.specs.Telling.{AllFit}
 use Rattle.puffin.specs.Recounted.{SpellInTurn}
-use Rattle.puffin.proofs.Telling.{Stage, TellEvents, Passes, Adds, Accepts, Refuses, num_open, under, passes_both, reports_pass}
+use Rattle.puffin.proofs.Telling.{Stage, TellEvents, Passes, Adds, Accepts, Refuses, under, passes_both, reports_pass}
 use Rattle.puffin.proofs.Telling.{reports_stay}
 
 -- What a thread of this name told since it was new, and what waits on it now, are just these scopes.

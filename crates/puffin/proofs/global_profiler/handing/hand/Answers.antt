@@ -1,3 +1,4 @@
+-- A boxed sink that accepted, and one that refused. A view's outcome needs no proof.
 use Rattle.std.specs.Arc.{arc_value}
 use Rattle.puffin.proofs.HandingOn.{handed-accepted, handed-refused}
 use Rattle.puffin.proofs.global_profiler.handing.hand.Goals as goal

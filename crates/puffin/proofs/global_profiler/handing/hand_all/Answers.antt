@@ -1,3 +1,4 @@
+-- One sink more is handed the frame; after the last one, all were.
 use Rattle.std.proofs.Common.{refl, rules, arith}
 use Rattle.std.specs.Arc.{arc_value}
 use Rattle.puffin.proofs.HandingOn.{handed-more, rest-more, handed-whole}

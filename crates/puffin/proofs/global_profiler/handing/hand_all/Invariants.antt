@@ -1,3 +1,4 @@
+-- The sinks before this index were handed the frame; the others are as they were at first.
 use Rattle.std.specs.Prelude.{◌≡◌, ◌≤◌, List, take, drop, length, sum_by}
 use Rattle.std.specs.Arc.{arc_value}
 use Rattle.puffin.specs.declared.global_profiler.handing.Outcome.{Outcome}

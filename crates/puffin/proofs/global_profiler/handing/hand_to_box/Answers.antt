@@ -1,3 +1,4 @@
+-- A boxed sink answers as the sink in the box does: what its contract says of the value, moved to the box.
 use Rattle.std.proofs.Common.{◌≡◌, refl, subst}
 use Rattle.std.specs.Arc.{arc_value}
 use Rattle.std.specs.DynBox.{dyn_box_with}

@@ -1,3 +1,4 @@
+-- So many threads are joined, and told what they promised; their shares and counts add up.
 use Rattle.std.specs.Prelude.{◌≡◌, ◌+◌, ◌<◌, ◌^◌, vec_len, length, sum_by}
 use Rattle.puffin.specs.Members.{all_reported, all_handed}
 use Rattle.puffin.specs.Joined.{AreJoined}

@@ -1,3 +1,4 @@
+-- The threads so far have their names and the one clock's start.
 use Rattle.std.specs.Prelude.{◌≡◌, vec_len, length, map, All}
 use Rattle.puffin_threads.specs.Thread.Clock.{clock_start, clock_begun}
 use Rattle.puffin.specs.Clocks.{StartsAt}

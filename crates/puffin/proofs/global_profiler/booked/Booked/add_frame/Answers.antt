@@ -1,3 +1,4 @@
+-- Learnt details leave the counts and what is pending as they were, and so all facts of the books and the history.
 use Rattle.std.proofs.Common.{sym, ◌∙◌}
 use Rattle.puffin_collector.specs.Collector.State.{Collected}
 use Rattle.puffin.specs.Profiler.{collected_of}

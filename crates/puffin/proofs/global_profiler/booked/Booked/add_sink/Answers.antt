@@ -1,3 +1,4 @@
+-- A sink more leaves all that is collected as it was, and so all facts of the books and the history.
 use Rattle.std.proofs.Common.{sym, ◌∙◌}
 use Rattle.puffin_collector.specs.Collector.State.{Collected}
 use Rattle.puffin.specs.Profiler.{collected_of}

@@ -1,3 +1,4 @@
+-- A wanted snapshot leaves the counts and what is pending as they were, and so all facts of the books and the history.
 use Rattle.std.proofs.Common.{refl, sym, ◌∙◌}
 use Rattle.puffin_collector.specs.Collector.State.{Collected, after_wanting}
 use Rattle.puffin.specs.Profiler.{collected_of}

@@ -1,3 +1,4 @@
+-- The history has one mark more: that threads were seen arrived so many times, which they had.
 use Rattle.std.proofs.Common.{refl, arith, ◌∙◌}
 use Rattle.puffin.specs.Happenings.{marked, saw_arrived}
 use Rattle.puffin.proofs.Growing.{grows_by, still_met, still_seen}

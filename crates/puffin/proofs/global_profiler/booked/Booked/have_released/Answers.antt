@@ -1,3 +1,4 @@
+-- The history has one mark more: that so many rounds were seen released, which they were.
 use Rattle.std.proofs.Common.{refl, arith, ◌∙◌}
 use Rattle.puffin.specs.Happenings.{marked, saw_released}
 use Rattle.puffin.proofs.Growing.{grows_by, still_met, still_seen}

@@ -1,3 +1,4 @@
+-- What is pending at first has no scopes, since none were reported.
 use Rattle.std.proofs.Common.{◌≡◌, sym, subst, arith}
 use Rattle.std.specs.FinMap as map
 use Rattle.std.proofs.lemmas.Grind.{merely}

@@ -1,3 +1,4 @@
+-- The history has one frame more, with just what was pending; and nothing is pending after it.
 use Rattle.std.proofs.Common.{rules, ◌≡◌, ◌∷◌, [], Some, ap, sym, subst, ◌∙◌}
 use Rattle.std.specs.Arc.{arc_value}
 use Rattle.history.specs.Entries.{events}
@@ -42,6 +43,5 @@ returns-clause-taken g c =
       a.streams,
       due,
       frame_due f a b collects,
-      told_frame _ _ (unpacked_in (arc_value f)) _ _ (search rules)
-          (unpacked_is f a b collects),
+      told_frame _ _ (unpacked_in (arc_value f)) _ _ (search rules) (unpacked_is f a b collects),
     )

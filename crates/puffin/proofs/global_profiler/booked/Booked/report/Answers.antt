@@ -1,3 +1,4 @@
+-- The history has one report more, which is pending after what was pending.
 use Rattle.std.proofs.Common.{rules, ◌≡◌, refl, ap, sym, subst, ◌∙◌}
 use Rattle.std.proofs.lemmas.Grind.{merely}
 use Rattle.puffin_data.specs.Honesty.{StreamFacts, facts_of_ref, AreUnlike}

@@ -1,3 +1,4 @@
+-- All shares leave the history, which stands as before; and together they know all of it.
 use Rattle.std.proofs.Common.{rules, ◌≡◌, ◌++◌, ◌∷◌, [], ℕ, List, vec_len, sym, subst, ◌∙◌}
 use Rattle.std.proofs.lemmas.List.{length-map}
 use Rattle.history.specs.Entries.{events, HasAuthors}

@@ -1,3 +1,4 @@
+-- What a frame spells, and the cause of a refusal, where the profiler's state is forgotten.
 use Rattle.puffin.proofs.HandedOut.{all_spell}
 use Rattle.puffin.proofs.SharedRefusals.{frame_refused}
 use Rattle.puffin.proofs.global_profiler.shared_profiler.SharedProfiler.new_frame.Goals as goal

@@ -1,3 +1,4 @@
+-- Numbers still rise after a sink with the next number is appended.
 use Rattle.std.proofs.Common.{◌≡◌, ◌+◌, sym, subst, rules}
 use Rattle.puffin.specs.inner.Numbers.{AreNumbered}
 use Rattle.puffin.proofs.Numbering.{numbered-more}

@@ -1,3 +1,4 @@
+-- What was handed to the slice was handed to the vector, and the sinks keep their numbers.
 use Rattle.std.specs.Arc.{arc_value}
 use Rattle.puffin.proofs.HandingOn.{handed-back, numbered-handed}
 use Rattle.puffin.proofs.global_profiler.sinks.Sinks.hand_on.Goals as goal

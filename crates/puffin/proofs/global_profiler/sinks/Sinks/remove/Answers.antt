@@ -1,3 +1,4 @@
+-- The sink at the found position is taken out, and the numbers of the others still rise.
 use Rattle.puffin.proofs.Numbering.{taken_out, numbered-taken}
 use Rattle.puffin.proofs.global_profiler.sinks.Sinks.remove.Goals as goal
 

@@ -1,3 +1,4 @@
+-- Nothing happened through the share but that a frame was handed out, if one was.
 use Rattle.puffin.proofs.TakenFrames.{took_once}
 use Rattle.puffin.proofs.light.leader.FrameTakerGathers.take.Goals as goal
 

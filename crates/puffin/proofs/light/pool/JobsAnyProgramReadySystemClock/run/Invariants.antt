@@ -1,3 +1,4 @@
+-- After any number of jobs, none of which failed: what they told.
 use Rattle.std.specs.Prelude.{◌≡◌, true}
 use Rattle.puffin.specs.Places.{num_known}
 use Rattle.puffin.specs.Telling.{HaveRunAs, Named}

@@ -17,8 +17,7 @@ loop-round-init g c =
           (num_known c.args.thread.scopes) c.start-thread.result s.thread (ap num_known s.scopes) (ap told s.reporter ∙ none);
       took = λ none. record {
         closed = ap num_released none;
-        takes =
-            subst (TakesInTurn c.args.self.now.meeting.threads 0 0 0) (sym none) refl;
+        takes = subst (TakesInTurn c.args.self.now.meeting.threads 0 0 0) (sym none) refl;
       };
     }
 

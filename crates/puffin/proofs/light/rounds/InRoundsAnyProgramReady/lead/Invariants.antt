@@ -1,3 +1,4 @@
+-- After so many rounds: what the leader's code told, and what it took.
 use Rattle.std.specs.Prelude.{◌≡◌, [], true, string_bytes}
 use Rattle.puffin.specs.Code.{OrNothing}
 use Rattle.puffin.specs.Places.{num_known}

@@ -1,3 +1,4 @@
+-- After so many rounds, none of which failed: what the thread's code told.
 use Rattle.std.specs.Prelude.{◌≡◌, [], true, IsOk, string_bytes}
 use Rattle.puffin.specs.Places.{num_known}
 use Rattle.puffin.proofs.RunningRounds.{AfterRounds}

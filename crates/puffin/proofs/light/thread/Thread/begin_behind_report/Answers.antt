@@ -1,3 +1,4 @@
+-- What waited was reported, or not; then the scope began, or was refused.
 use Rattle.std.proofs.Common.{rules, inr}
 use Rattle.puffin.proofs.light.thread.Thread.begin_behind_report.Goals as goal
 
@@ -7,8 +8,7 @@ returns-in-Ok g c = (
   inr (record {
     answer = c.report_closed.result;
     reports = c.report_closed.ensures.reports;
-    clock =
-        c.report_closed.ensures.clock;
+    clock = c.report_closed.ensures.clock;
     scopes = c.report_closed.ensures.scopes;
     refused = c.report_closed.ensures.refused;
   }),
@@ -21,8 +21,7 @@ returns-in-Err g c = (
   inr (record {
     answer = c.report_closed.result;
     reports = c.report_closed.ensures.reports;
-    clock =
-        c.report_closed.ensures.clock;
+    clock = c.report_closed.ensures.clock;
     scopes = c.report_closed.ensures.scopes;
     refused = c.report_closed.ensures.refused;
   }),

@@ -1,3 +1,4 @@
+-- Nothing was reported, but where a scope begins behind a report.
 use Rattle.std.proofs.Common.{rules, refl, subst, inl}
 use Rattle.puffin.specs.Guards.{BeginsAt}
 use Rattle.puffin.proofs.light.thread.ThreadRecords.begin.Goals as goal
@@ -10,8 +11,7 @@ returns-then-not-are_scopes_on g c = (
     begins = refl;
     reporter = refl;
     scopes = refl;
-    refused =
-        refl;
+    refused = refl;
   },
 )
 
