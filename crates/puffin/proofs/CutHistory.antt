@@ -84,7 +84,7 @@ frame_at (suc number) (framed s ∷ own) below =
       before = framed s ∷ f.before;
       streams = f.streams;
       later = f.later;
-      whole = ap (λ (hs : List Happening). framed s ∷ hs) f.whole;
+      whole = ap (λ (happenings : List Happening). framed s ∷ happenings) f.whole;
       earlier = ap suc f.earlier;
       first = ap (λ (fs : List Streams). s ∷ fs) f.first;
     }
@@ -94,7 +94,7 @@ frame_at number (reported i r ∷ own) below =
       before = reported i r ∷ f.before;
       streams = f.streams;
       later = f.later;
-      whole = ap (λ (hs : List Happening). reported i r ∷ hs) f.whole;
+      whole = ap (λ (happenings : List Happening). reported i r ∷ happenings) f.whole;
       earlier = f.earlier;
       first = f.first;
     }
@@ -104,7 +104,7 @@ frame_at number (marked mark ∷ own) below =
       before = marked mark ∷ f.before;
       streams = f.streams;
       later = f.later;
-      whole = ap (λ (hs : List Happening). marked mark ∷ hs) f.whole;
+      whole = ap (λ (happenings : List Happening). marked mark ∷ happenings) f.whole;
       earlier = f.earlier;
       first = f.first;
     }
@@ -116,11 +116,11 @@ due_both s [] ys = refl
 due_both s (x ∷ xs) ys = ap (λ ds. due_at s x ++ ds) (due_both (after s x) xs ys)
     ∙ sym (append_assoc (due_at s x) (due_after (after s x) xs) (due_after (pending_after (after s x) xs) ys))
 
-as_many_due : (s : Streams) (hs : List Happening) → length (frames_in hs) ≡ length (due_after s hs)
+as_many_due : (s : Streams) (happenings : List Happening) → length (frames_in happenings) ≡ length (due_after s happenings)
 as_many_due s [] = refl
-as_many_due s (reported i r ∷ hs) = as_many_due (after s (reported i r)) hs
-as_many_due s (framed streams ∷ hs) = ap suc (as_many_due fm.empty hs)
-as_many_due s (marked mark ∷ hs) = as_many_due s hs
+as_many_due s (reported i r ∷ happenings) = as_many_due (after s (reported i r)) happenings
+as_many_due s (framed streams ∷ happenings) = ap suc (as_many_due fm.empty happenings)
+as_many_due s (marked mark ∷ happenings) = as_many_due s happenings
 
 same_front : {A : Type 0} (xs ys us vs : List A) → length xs ≡ length us → xs ++ ys ≡ us ++ vs → xs ≡ us
 same_front [] ys [] vs long is = refl
@@ -160,25 +160,27 @@ stands_at pending before streams later stands =
 abbrev pub cut : History → Member → Member
 cut log m = record m { own = entries_by m.number log }
 
-cut_own : (log : History) (ms : List Member) → All (λ a. a.1 ≡ entries_by a.0 log) (accounts_of (map (cut log) ms))
+cut_own : (log : History) (members : List Member) → All (λ a. a.1 ≡ entries_by a.0 log) (accounts_of (map (cut log) members))
 cut_own log [] = All-nil _
-cut_own log (m ∷ ms) = All-cons (λ a. a.1 ≡ entries_by a.0 log) (account_of (cut log m)) (accounts_of (map (cut log) ms)) refl
-    (cut_own log ms)
+cut_own log (m ∷ members) = All-cons (λ a. a.1 ≡ entries_by a.0 log) (account_of (cut log m))
+    (accounts_of (map (cut log) members)) refl
+    (cut_own log members)
 
 abbrev number : ℕ × List Happening → ℕ
 number a = a.0
 
-cut_once : (log : History) (k : ℕ) (ms : List Member)
-    → count_by (λ a. a.0 == k) (accounts_of (map (cut log) ms)) ≡ count_by (λ a. a.0 == k) (accounts_of ms)
+cut_once : (log : History) (k : ℕ) (members : List Member)
+    → count_by (λ a. a.0 == k) (accounts_of (map (cut log) members)) ≡ count_by (λ a. a.0 == k) (accounts_of members)
 cut_once log k [] = refl
-cut_once log k (m ∷ ms) = times-cons number k (account_of (cut log m)) (accounts_of (map (cut log) ms))
-    ∙ ap (λ (n : ℕ). one_if (m.number == k) + n) (cut_once log k ms) ∙ sym (times-cons number k (account_of m) (accounts_of ms))
+cut_once log k (m ∷ members) = times-cons number k (account_of (cut log m)) (accounts_of (map (cut log) members))
+    ∙ ap (λ (n : ℕ). one_if (m.number == k) + n) (cut_once log k members)
+    ∙ sym (times-cons number k (account_of m) (accounts_of members))
 
-pub cut_authors : (n : ℕ) (ms : List Member) (now later : History) → AreAllAuthors n (accounts_of ms) (now ++ later)
-    → AreAllAuthors n (accounts_of (map (cut now) ms)) now
-cut_authors n ms now later all = record {
-  own = cut_own now ms;
-  once = λ k below. cut_once now k ms ∙ all.once k below;
+pub cut_authors : (n : ℕ) (members : List Member) (now later : History) → AreAllAuthors n (accounts_of members) (now ++ later)
+    → AreAllAuthors n (accounts_of (map (cut now) members)) now
+cut_authors n members now later all = record {
+  own = cut_own now members;
+  once = λ k below. cut_once now k members ∙ all.once k below;
   has = has_authors-prefix n now later all.has;
 }
 

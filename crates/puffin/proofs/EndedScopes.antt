@@ -24,23 +24,28 @@ use Rattle.puffin.specs.Ended.{CountsReports, counted_by}
 use Rattle.puffin.proofs.lemmas.Waiting.{num_ended-append, num_ended-tour}
 
 -- a report has as many scopes as have ended
-reported_ended : (t : calls.Thread) (r : StreamFacts) → IsReportOf t r → r.num_scopes ≡ num_ended t.word
-reported_ended t r is = is.honest.counts.num_scopes ∙ sym (num_ended-tour is.forest) ∙ ap num_ended (sym is.word)
+reported_ended : (thread : calls.Thread) (report : StreamFacts) → IsReportOf thread report
+    → report.num_scopes ≡ num_ended thread.word
+reported_ended thread report is = is.honest.counts.num_scopes ∙ sym (num_ended-tour is.forest) ∙ ap num_ended (sym is.word)
 
 module _ {R : Type 0} (accepts : R → ThreadKey → List Details → StreamFacts → R → Type 0)
     (refuses : R → ThreadKey → List Details → StreamFacts → Error → R → Type 0)
     (reported : R → ℕ) (counts : CountsReports accepts refuses reported) where
   -- an accepted report, and a refused one
-  goes : (t : calls.Thread) (before after : R) → GoesTo accepts t before after → reported after ≡ reported before + num_ended t.word
-  goes t before after (r, is, accepted) = counts.accepted before (calls.key_of_thread t) t.details r after accepted
-      ∙ ap (λ (n : ℕ). reported before + n) (reported_ended t r is)
+  goes : (thread : calls.Thread) (before after : R) → GoesTo accepts thread before after
+      → reported after ≡ reported before + num_ended thread.word
+  goes thread before after (report, is, accepted) =
+      counts.accepted before (calls.key_of_thread thread) thread.details report after accepted
+      ∙ ap (λ (n : ℕ). reported before + n) (reported_ended thread report is)
 
-  stays : (t : calls.Thread) (e : Error) (before after : R) → GoesTo (λ b i d r a. refuses b i d r e a) t before after
+  stays : (thread : calls.Thread) (e : Error) (before after : R)
+      → GoesTo (λ b i d report a. refuses b i d report e a) thread before after
       → reported after ≡ reported before
-  stays t e before after (r, is, refused) = counts.refused before (calls.key_of_thread t) t.details r e after refused
+  stays thread e before after (report, is, refused) =
+      counts.refused before (calls.key_of_thread thread) thread.details report e after refused
 
   words : {a b : calls.Thread} → a ≡ b → num_ended a.word ≡ num_ended b.word
-  words same = ap (λ (t : calls.Thread). num_ended t.word) same
+  words same = ap (λ (thread : calls.Thread). num_ended thread.word) same
 
   one_more : (old : calls.Thread) (at : ℤ) → num_ended (after_end old at).word ≡ num_ended old.word + 1
   one_more old at = omega (arith, num_ended-append old.word (Close (calls.time_of old at) ∷ []))
@@ -91,8 +96,9 @@ leaves answers accepts refuses reported old offset new end other =
     omega (arith, ap reported same.1, ap (λ p. num_ended (thread_of p).word) same.0)
 
 -- a scope that begins is none that has ended
-begun_ended : (t : calls.Thread) (id : ℕ) (text : List ℕ) (at : ℤ) → num_ended (after_begin t id text at).word ≡ num_ended t.word
-begun_ended t id text at = omega (arith, num_ended-append t.word (Open id text (calls.time_of t at) ∷ []))
+begun_ended : (thread : calls.Thread) (id : ℕ) (text : List ℕ) (at : ℤ)
+    → num_ended (after_begin thread id text at).word ≡ num_ended thread.word
+begun_ended thread id text at = omega (arith, num_ended-append thread.word (Open id text (calls.time_of thread at) ∷ []))
 
 begins_there : {C R : Type 0} (answers : C → ℤ → C → Type 0) (reported : R → ℕ) (old : Thread C R)
     (place : Place) (text : List ℕ) (state : GuardState) (new : Thread C R) → BeginsThere answers old place text state new
@@ -102,7 +108,7 @@ begins_there answers reported old place text (On offset) new begin =
     omega (
       arith,
       ap reported begin.reporter,
-      ap (λ (t : calls.Thread). num_ended t.word) began.begun,
+      ap (λ (thread : calls.Thread). num_ended thread.word) began.begun,
       begun_ended (thread_of (profiler_of old)) place.id (cut_text (thread_of (profiler_of old)).form text) began.at,
     )
 begins_there answers reported old place text Off new begin =

@@ -21,22 +21,24 @@ use Rattle.puffin.specs.Happenings.{num_arrived, num_released, IsSeen, AreSeen, 
 use Rattle.puffin.specs.Happenings.{frames_in, IsReport, AreReports, ArePending, Stands}
 use Rattle.puffin.specs.Leaving.{last_entries}
 
-pub pending_last : (s : Streams) (hs : List Happening) (h : Happening)
-    → pending_after s (hs ++ h ∷ []) ≡ after (pending_after s hs) h
+pub pending_last : (s : Streams) (happenings : List Happening) (h : Happening)
+    → pending_after s (happenings ++ h ∷ []) ≡ after (pending_after s happenings) h
 pending_last s [] h = refl
 pending_last s (x ∷ xs) h = pending_last (after s x) xs h
 
-due_last : (s : Streams) (hs : List Happening) (h : Happening)
-    → due_after s (hs ++ h ∷ []) ≡ due_after s hs ++ due_at (pending_after s hs) h
+due_last : (s : Streams) (happenings : List Happening) (h : Happening)
+    → due_after s (happenings ++ h ∷ []) ≡ due_after s happenings ++ due_at (pending_after s happenings) h
 due_last s [] h = append-nil (due_at s h)
 due_last s (x ∷ xs) h = ap (λ ds. due_at s x ++ ds) (due_last (after s x) xs h)
     ∙ sym (append_assoc (due_at s x) (due_after (after s x) xs) (due_at (pending_after (after s x) xs) h))
 
-frames_last : (hs : List Happening) (h : Happening) → frames_in (hs ++ h ∷ []) ≡ frames_in hs ++ frame_of h
-frames_last hs h = flat_map-append frame_of hs (h ∷ []) ∙ ap (λ fs. frames_in hs ++ fs) (append-nil (frame_of h))
+frames_last : (happenings : List Happening) (h : Happening) → frames_in (happenings ++ h ∷ []) ≡ frames_in happenings ++ frame_of h
+frames_last happenings h = flat_map-append frame_of happenings (h ∷ [])
+    ∙ ap (λ fs. frames_in happenings ++ fs) (append-nil (frame_of h))
 
-reports_last : (s : Streams) (hs : List Happening) (h : Happening) → AreReports s hs → IsReport (pending_after s hs) h
-    → AreReports s (hs ++ h ∷ [])
+reports_last : (s : Streams) (happenings : List Happening) (h : Happening) → AreReports s happenings
+    → IsReport (pending_after s happenings) h
+    → AreReports s (happenings ++ h ∷ [])
 reports_last s [] h all one = (one, tt)
 reports_last s (x ∷ xs) h all one = (all.0, reports_last (after s x) xs h all.1 one)
 
@@ -56,8 +58,9 @@ released-both xs ys = marks-both releases_of xs ys
 pub seen_at : (h : Happening) (a b r s : ℕ) → a ≡ b → r ≡ s → IsSeen a r h → IsSeen b s h
 seen_at h a b r s p q seen = subst (λ (n : ℕ). IsSeen b n h) q (subst (λ (n : ℕ). IsSeen n r h) p seen)
 
-seen_last : (a r : ℕ) (hs : List Happening) (h : Happening) → AreSeen a r hs → IsSeen (a + num_arrived hs) (r + num_released hs) h
-    → AreSeen a r (hs ++ h ∷ [])
+seen_last : (a r : ℕ) (happenings : List Happening) (h : Happening) → AreSeen a r happenings
+    → IsSeen (a + num_arrived happenings) (r + num_released happenings) h
+    → AreSeen a r (happenings ++ h ∷ [])
 seen_last a r [] h all one = (seen_at h (a + 0) a (r + 0) r (omega arith) (omega arith) one, tt)
 seen_last a r (x ∷ xs) h all one = (
   all.0,
@@ -106,15 +109,15 @@ still_seen n h old log longer sight seen =
     (seen_last 0 0 (events old) h seen (seen_at h (num_arrived (events old)) (0 + num_arrived (events old))
     (num_released (events old)) (0 + num_released (events old)) (omega arith) (omega arith) sight))
 
-grows : (pending new : Streams) (hs : List Happening) (h : Happening) → Stands pending hs → new ≡ after pending h
-    → frame_of h ≡ due_at pending h → IsReport pending h → Stands new (hs ++ h ∷ [])
-grows pending new hs h stands is due report = record {
+grows : (pending new : Streams) (happenings : List Happening) (h : Happening) → Stands pending happenings → new ≡ after pending h
+    → frame_of h ≡ due_at pending h → IsReport pending h → Stands new (happenings ++ h ∷ [])
+grows pending new happenings h stands is due report = record {
   start = stands.start;
   none = stands.none;
-  pending_is = is ∙ ap (λ s. after s h) stands.pending_is ∙ sym (pending_last stands.start hs h);
-  frames_are = frames_last hs h ∙ (λ k. stands.frames_are k ++ due k)
-      ∙ ap (λ s. due_after stands.start hs ++ due_at s h) stands.pending_is ∙ sym (due_last stands.start hs h);
-  reports = reports_last stands.start hs h stands.reports (subst (λ (s : Streams). IsReport s h) stands.pending_is report);
+  pending_is = is ∙ ap (λ s. after s h) stands.pending_is ∙ sym (pending_last stands.start happenings h);
+  frames_are = frames_last happenings h ∙ (λ k. stands.frames_are k ++ due k)
+      ∙ ap (λ s. due_after stands.start happenings ++ due_at s h) stands.pending_is ∙ sym (due_last stands.start happenings h);
+  reports = reports_last stands.start happenings h stands.reports (subst (λ (s : Streams). IsReport s h) stands.pending_is report);
 }
 
 -- a history that stands with what is pending, and grows by what happens next
@@ -122,7 +125,7 @@ pub grows_by : (pending new : Streams) (old log : History) (n : ℕ) (h : Happen
     → log ≡ old ++ (n, h) ∷ [] → new ≡ after pending h → frame_of h ≡ due_at pending h → IsReport pending h
     → ∥ Stands new (events log) ∥₁
 grows_by pending new old log n h stands longer is due report = ∥∥₁_map stands (λ s.
-    subst (λ (hs : List Happening). Stands new hs)
+    subst (λ (happenings : List Happening). Stands new happenings)
     (sym (ap events longer ∙ events-append old ((n, h) ∷ []))) (grows pending new (events old) h s is due report))
 
 -- nothing happened
@@ -154,8 +157,9 @@ opened_stands streams honest nothing =
       reports = tt;
     }
 
-pub pending_there : (pending : Streams) (hs : List Happening) → ∥ Stands pending hs ∥₁ → ∥ ArePending hs pending ∥₁
-pending_there pending hs stands = ∥∥₁_map stands (λ s. record { start = s.start; none = s.none; is = s.pending_is })
+pub pending_there : (pending : Streams) (happenings : List Happening) → ∥ Stands pending happenings ∥₁
+    → ∥ ArePending happenings pending ∥₁
+pending_there pending happenings stands = ∥∥₁_map stands (λ s. record { start = s.start; none = s.none; is = s.pending_is })
 
 -- shares left
 pub left_stands : (pending : Streams) (log : History) (accounts : List (ℕ × List Happening)) → ∥ Stands pending (events log) ∥₁

@@ -15,7 +15,7 @@ use Rattle.puffin.proofs.Growing.{arrived-both, released-both}
 
 abbrev pub AllSeen : ℕ → ℕ → List Happening → Type 0
 AllSeen parts rounds [] = Unit {0}
-AllSeen parts rounds (h ∷ hs) = IsSeen parts rounds h × AllSeen parts rounds hs
+AllSeen parts rounds (h ∷ happenings) = IsSeen parts rounds h × AllSeen parts rounds happenings
 
 seen_later : (a b r s : ℕ) (h : Happening) → a ≤ b → r ≤ s → IsSeen a r h → IsSeen b s h
 seen_later a b r s (reported i x) p q seen = tt
@@ -26,13 +26,15 @@ seen_later a b r s (marked (saw_arrived n)) p q seen = omega (arith, p, seen)
 seen_later a b r s (marked (saw_released n)) p q seen = omega (arith, q, seen)
 seen_later a b r s (marked left) p q seen = tt
 
-pub all_seen : (a b r s : ℕ) (hs : List Happening) → a + num_arrived hs ≤ b → r + num_released hs ≤ s → AreSeen a r hs
-    → AllSeen b s hs
+pub all_seen : (a b r s : ℕ) (happenings : List Happening) → a + num_arrived happenings ≤ b → r + num_released happenings ≤ s
+    → AreSeen a r happenings
+    → AllSeen b s happenings
 all_seen a b r s [] p q seen = tt
-all_seen a b r s (h ∷ hs) p q seen = (
+all_seen a b r s (h ∷ happenings) p q seen = (
   seen_later a b r s h (omega (arith, p)) (omega (arith, q)) seen.0,
-  all_seen (a + num_arrived (h ∷ [])) b (r + num_released (h ∷ [])) s hs (omega (arith, p, arrived-both (h ∷ []) hs))
-      (omega (arith, q, released-both (h ∷ []) hs)) seen.1,
+  all_seen (a + num_arrived (h ∷ [])) b (r + num_released (h ∷ [])) s happenings
+      (omega (arith, p, arrived-both (h ∷ []) happenings))
+      (omega (arith, q, released-both (h ∷ []) happenings)) seen.1,
 )
 
 pub seen_by : (parts rounds k : ℕ) (log : History) → AllSeen parts rounds (events log) → AllSeen parts rounds (entries_by k log)
@@ -54,34 +56,36 @@ steps_front parts rounds [] ys steps = tt
 steps_front parts rounds (x ∷ xs) ys steps =
     (steps.0, steps_front (parts + num_arrived (x ∷ [])) (released_then rounds x) xs ys steps.1)
 
-pub releases_none : (parts rounds : ℕ) (hs : List Happening) → KeepsStep parts rounds hs → flat_map (if_marked releases_of) hs ≡ []
+pub releases_none : (parts rounds : ℕ) (happenings : List Happening) → KeepsStep parts rounds happenings
+    → flat_map (if_marked releases_of) happenings ≡ []
 releases_none parts rounds [] steps = refl
-releases_none parts rounds (reported i r ∷ hs) steps = releases_none (parts + 0) rounds hs steps.1
-releases_none parts rounds (framed streams ∷ hs) steps = absurd steps.0
-releases_none parts rounds (marked arrived ∷ hs) steps = releases_none (parts + 1) rounds hs steps.1
-releases_none parts rounds (marked released ∷ hs) steps = absurd steps.0
-releases_none parts rounds (marked (saw_arrived n) ∷ hs) steps = absurd steps.0
-releases_none parts rounds (marked (saw_released n) ∷ hs) steps = releases_none (parts + 0) n hs steps.1
-releases_none parts rounds (marked left ∷ hs) steps = absurd steps.0
+releases_none parts rounds (reported i r ∷ happenings) steps = releases_none (parts + 0) rounds happenings steps.1
+releases_none parts rounds (framed streams ∷ happenings) steps = absurd steps.0
+releases_none parts rounds (marked arrived ∷ happenings) steps = releases_none (parts + 1) rounds happenings steps.1
+releases_none parts rounds (marked released ∷ happenings) steps = absurd steps.0
+releases_none parts rounds (marked (saw_arrived n) ∷ happenings) steps = absurd steps.0
+releases_none parts rounds (marked (saw_released n) ∷ happenings) steps = releases_none (parts + 0) n happenings steps.1
+releases_none parts rounds (marked left ∷ happenings) steps = absurd steps.0
 
 -- it does at most one part more than rounds are closed
-pub few_parts : (a most parts rounds : ℕ) (hs : List Happening) → KeepsStep parts rounds hs → AllSeen a most hs → rounds ≤ most
-    → parts ≤ suc rounds → parts + num_arrived hs ≤ suc most
+pub few_parts : (a most parts rounds : ℕ) (happenings : List Happening) → KeepsStep parts rounds happenings
+    → AllSeen a most happenings → rounds ≤ most
+    → parts ≤ suc rounds → parts + num_arrived happenings ≤ suc most
 few_parts a most parts rounds [] steps seen few at = omega (arith, few, at)
-few_parts a most parts rounds (reported i r ∷ hs) steps seen few at =
-    omega (arith, few_parts a most (parts + 0) rounds hs steps.1 seen.1 few (omega (arith, at)))
-few_parts a most parts rounds (framed streams ∷ hs) steps seen few at = absurd steps.0
-few_parts a most parts rounds (marked arrived ∷ hs) steps seen few at =
+few_parts a most parts rounds (reported i r ∷ happenings) steps seen few at =
+    omega (arith, few_parts a most (parts + 0) rounds happenings steps.1 seen.1 few (omega (arith, at)))
+few_parts a most parts rounds (framed streams ∷ happenings) steps seen few at = absurd steps.0
+few_parts a most parts rounds (marked arrived ∷ happenings) steps seen few at =
     omega (
       arith,
-      arrived-both (marked arrived ∷ []) hs,
-      few_parts a most (parts + 1) rounds hs steps.1 seen.1 few (omega (arith, steps.0)),
+      arrived-both (marked arrived ∷ []) happenings,
+      few_parts a most (parts + 1) rounds happenings steps.1 seen.1 few (omega (arith, steps.0)),
     )
-few_parts a most parts rounds (marked released ∷ hs) steps seen few at = absurd steps.0
-few_parts a most parts rounds (marked (saw_arrived n) ∷ hs) steps seen few at = absurd steps.0
-few_parts a most parts rounds (marked (saw_released n) ∷ hs) steps seen few at =
-    omega (arith, few_parts a most (parts + 0) n hs steps.1 seen.1 seen.0 (omega (arith, steps.0)))
-few_parts a most parts rounds (marked left ∷ hs) steps seen few at = absurd steps.0
+few_parts a most parts rounds (marked released ∷ happenings) steps seen few at = absurd steps.0
+few_parts a most parts rounds (marked (saw_arrived n) ∷ happenings) steps seen few at = absurd steps.0
+few_parts a most parts rounds (marked (saw_released n) ∷ happenings) steps seen few at =
+    omega (arith, few_parts a most (parts + 0) n happenings steps.1 seen.1 seen.0 (omega (arith, steps.0)))
+few_parts a most parts rounds (marked left ∷ happenings) steps seen few at = absurd steps.0
 
 -- and then it waits
 waits_then : (a most parts rounds : ℕ) (h : Happening) → MayDo parts rounds h → IsSeen a most h → rounds ≤ most
@@ -115,7 +119,7 @@ cut_there a most parts rounds (h ∷ p) q steps seen few whole =
     at zero is rest = absurd (waits_then a most parts rounds h steps.0 seen.0 few (omega (arith, whole, is)))
     at (suc n) is rest =
         let fewer : suc n - num_arrived (h ∷ []) ≡ num_arrived p = omega (arith, is, arrived-both (h ∷ []) p) in
-        ap (λ (hs : List Happening). h ∷ hs) (rest ∙ sym (ap (λ (k : ℕ). until k (p ++ q)) fewer))
+        ap (λ (happenings : List Happening). h ∷ happenings) (rest ∙ sym (ap (λ (k : ℕ). until k (p ++ q)) fewer))
 
 -- ---- the leader
 
@@ -142,7 +146,7 @@ pub leads_on : (threads rounds : ℕ) (own seen taken now : List Happening) → 
     → now ≡ taken ++ marked released ∷ [] → IsLeading threads (rounds + 1) now
 leads_on threads rounds own seen taken now led saw (inl same) closed =
     let tail : List Happening = marked (saw_arrived (threads * (rounds + 1))) ∷ marked released ∷ [] in
-    let whole : now ≡ own ++ tail = closed ∙ ap (λ (hs : List Happening). hs ++ marked released ∷ []) (same ∙ saw)
+    let whole : now ≡ own ++ tail = closed ∙ ap (λ (happenings : List Happening). happenings ++ marked released ∷ []) (same ∙ saw)
     ∙ append_assoc own (marked (saw_arrived (threads * (rounds + 1))) ∷ []) (marked released ∷ []) in
     record {
       closed = omega (arith, ap num_released whole, released-both own tail, led.closed);
@@ -152,8 +156,8 @@ leads_on threads rounds own seen taken now led saw (inl same) closed =
 leads_on threads rounds own seen taken now led saw (inr (streams, more)) closed =
     let tail : List Happening = marked (saw_arrived (threads * (rounds + 1))) ∷ framed streams ∷ marked released ∷ [] in
     let whole : now ≡ own ++ tail = closed
-    ∙ ap (λ (hs : List Happening). hs ++ marked released ∷ [])
-    (more ∙ ap (λ (hs : List Happening). hs ++ framed streams ∷ []) saw)
+    ∙ ap (λ (happenings : List Happening). happenings ++ marked released ∷ [])
+    (more ∙ ap (λ (happenings : List Happening). happenings ++ framed streams ∷ []) saw)
     ∙ append_assoc (own ++ marked (saw_arrived (threads * (rounds + 1))) ∷ []) (framed streams ∷ []) (marked released ∷ [])
     ∙ append_assoc own (marked (saw_arrived (threads * (rounds + 1))) ∷ []) (framed streams ∷ marked released ∷ []) in
     let next : rounds + 1 ≡ suc (rounds + 0) = omega arith in
@@ -164,19 +168,25 @@ leads_on threads rounds own seen taken now led saw (inr (streams, more)) closed 
           (λ p. (tt, ((ap (λ (n : ℕ). threads * n) next, refl), (tt, refl)))));
     }
 
-pub few_frames : (threads rounds parts frames : ℕ) (hs : List Happening) → TakesInTurn threads rounds parts frames hs → frames ≤ 1
-    → length (frames_in hs) + frames ≤ num_released hs
+pub few_frames : (threads rounds parts frames : ℕ) (happenings : List Happening)
+    → TakesInTurn threads rounds parts frames happenings → frames ≤ 1
+    → length (frames_in happenings) + frames ≤ num_released happenings
 few_frames threads rounds parts frames [] takes few = omega (arith, takes)
-few_frames threads rounds parts frames (reported i r ∷ hs) takes few = absurd takes.0
-few_frames threads rounds parts frames (framed streams ∷ hs) takes few =
-    omega (arith, takes.0.1, few_frames threads (rounds + 0) parts (suc frames) hs takes.1 (omega (arith, takes.0.1)))
-few_frames threads rounds parts frames (marked arrived ∷ hs) takes few = absurd takes.0
-few_frames threads rounds parts frames (marked released ∷ hs) takes few =
-    omega (arith, few, released-both (marked released ∷ []) hs, few_frames threads (rounds + 1) parts 0 hs takes.1 (omega arith))
-few_frames threads rounds parts frames (marked (saw_arrived n) ∷ hs) takes few =
-    few_frames threads (rounds + 0) n frames hs takes.1 few
-few_frames threads rounds parts frames (marked (saw_released n) ∷ hs) takes few = absurd takes.0
-few_frames threads rounds parts frames (marked left ∷ hs) takes few = absurd takes.0
+few_frames threads rounds parts frames (reported i r ∷ happenings) takes few = absurd takes.0
+few_frames threads rounds parts frames (framed streams ∷ happenings) takes few =
+    omega (arith, takes.0.1, few_frames threads (rounds + 0) parts (suc frames) happenings takes.1 (omega (arith, takes.0.1)))
+few_frames threads rounds parts frames (marked arrived ∷ happenings) takes few = absurd takes.0
+few_frames threads rounds parts frames (marked released ∷ happenings) takes few =
+    omega (
+      arith,
+      few,
+      released-both (marked released ∷ []) happenings,
+      few_frames threads (rounds + 1) parts 0 happenings takes.1 (omega arith),
+    )
+few_frames threads rounds parts frames (marked (saw_arrived n) ∷ happenings) takes few =
+    few_frames threads (rounds + 0) n frames happenings takes.1 few
+few_frames threads rounds parts frames (marked (saw_released n) ∷ happenings) takes few = absurd takes.0
+few_frames threads rounds parts frames (marked left ∷ happenings) takes few = absurd takes.0
 
 -- where it takes a frame, all have done their part; and there is at most one frame for each round that was closed
 pub record Gathered (threads rounds frames a : ℕ) (p q : List Happening) : Type 0 where

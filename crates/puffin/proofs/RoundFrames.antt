@@ -43,24 +43,24 @@ RanRoundsEach known rounds is names shares =
     (k : ℕ) (name : List ℕ) → slice_get names k ≡ Some name → (share : Member) × (waiting : ℕ)
     × (slice_get shares k ≡ Some share) × HasRunRounds (is k) rounds name known share.own waiting
 
-cut_in : (log : History) (ms : List Member) (k : ℕ) (m : Member) → slice_get ms k ≡ Some m
-    → slice_get (map (cut log) ms) k ≡ Some (cut log m)
+cut_in : (log : History) (members : List Member) (k : ℕ) (m : Member) → slice_get members k ≡ Some m
+    → slice_get (map (cut log) members) k ≡ Some (cut log m)
 cut_in log [] k m e = absurd cc
-cut_in log (x ∷ ms) zero m e = let same : x ≡ m = cc in ap (λ (y : Member). Some (cut log y)) same
-cut_in log (x ∷ ms) (suc k) m e = cut_in log ms k m e
+cut_in log (x ∷ members) zero m e = let same : x ≡ m = cc in ap (λ (y : Member). Some (cut log y)) same
+cut_in log (x ∷ members) (suc k) m e = cut_in log members k m e
 
-long_cut : (log : History) (ms : List Member) → length (map (cut log) ms) ≡ length ms
+long_cut : (log : History) (members : List Member) → length (map (cut log) members) ≡ length members
 long_cut log [] = refl
-long_cut log (x ∷ ms) = ap suc (long_cut log ms)
+long_cut log (x ∷ members) = ap suc (long_cut log members)
 
-parts_cut : (log : History) (ms : List Member)
+parts_cut : (log : History) (members : List Member)
     → sum_by (λ (a : ℕ × List Happening). num_arrived (entries_by a.0 log))
-    (accounts_of ms) ≡ sum_by (λ (m : Member). num_arrived (entries_by m.number log)) ms
+    (accounts_of members) ≡ sum_by (λ (m : Member). num_arrived (entries_by m.number log)) members
 parts_cut log [] = refl
-parts_cut log (m ∷ ms) =
-    sum_by-cons (λ (a : ℕ × List Happening). num_arrived (entries_by a.0 log)) (account_of m) (accounts_of ms)
-    ∙ ap (λ (n : ℕ). num_arrived (entries_by m.number log) + n) (parts_cut log ms)
-    ∙ sym (sum_by-cons (λ (x : Member). num_arrived (entries_by x.number log)) m ms)
+parts_cut log (m ∷ members) =
+    sum_by-cons (λ (a : ℕ × List Happening). num_arrived (entries_by a.0 log)) (account_of m) (accounts_of members)
+    ∙ ap (λ (n : ℕ). num_arrived (entries_by m.number log) + n) (parts_cut log members)
+    ∙ sym (sum_by-cons (λ (x : Member). num_arrived (entries_by x.number log)) m members)
 
 -- ---- the frame of a round
 
@@ -95,7 +95,7 @@ module _ (known rounds n : ℕ) (is : ℕ → ℕ → Code → Type 0) (names : 
 
   taken_then : entries_by taker.number now ≡ f.before ++ framed f.streams ∷ []
   taken_then = entries_by-append taker.number s.before ((taker.number, framed f.streams) ∷ [])
-      ∙ ap (λ (hs : List Happening). hs ++ entries_by taker.number ((taker.number, framed f.streams) ∷ [])) s.own
+      ∙ ap (λ (happenings : List Happening). happenings ++ entries_by taker.number ((taker.number, framed f.streams) ∷ [])) s.own
       ∙ ap (λ (b : Bool). f.before ++ front_if b (framed f.streams) []) (same_number taker.number)
 
   events_now : events now ≡ events s.before ++ framed f.streams ∷ []
@@ -105,13 +105,14 @@ module _ (known rounds n : ℕ) (is : ℕ → ℕ → Code → Type 0) (names : 
   authors = cut_authors n all now s.later (subst (λ (l : History). AreAllAuthors n (accounts_of all) l) whole recounts.all)
 
   events_whole : events log ≡ (events s.before ++ framed f.streams ∷ []) ++ events s.later
-  events_whole = ap events whole ∙ events-append now s.later ∙ ap (λ (hs : List Happening). hs ++ events s.later) events_now
+  events_whole = ap events whole ∙ events-append now s.later
+      ∙ ap (λ (happenings : List Happening). happenings ++ events s.later) events_now
 
   stands : ∥ Stands fin_map.empty (events now) ∥₁
   stands = ∥∥₁_map recounts.stands (λ (t : Stands pending (events log)).
-      subst (λ (hs : List Happening). Stands fin_map.empty hs) (sym events_now)
+      subst (λ (happenings : List Happening). Stands fin_map.empty happenings) (sym events_now)
       (stands_at pending (events s.before) f.streams (events s.later)
-      (subst (λ (hs : List Happening). Stands pending hs) events_whole t)))
+      (subst (λ (happenings : List Happening). Stands pending happenings) events_whole t)))
 
   -- each thread's name has its place among the shares
   named : (j : ℕ) (m : Member) → slice_get shares j ≡ Some m → (name : List ℕ) × (slice_get names j ≡ Some name)
@@ -167,7 +168,8 @@ module _ (known rounds n : ℕ) (is : ℕ → ℕ → Code → Type 0) (names : 
   this_round : num_released f.before ≡ round
   this_round =
       let frames : length (frames_in taker.own) ≡ length (frames_in f.before) + suc (length (frames_in f.later)) =
-      ap (λ hs. length (frames_in hs)) f.whole ∙ ap length (flat_map-append frame_of f.before (framed f.streams ∷ f.later))
+      ap (λ happenings. length (frames_in happenings)) f.whole
+      ∙ ap length (flat_map-append frame_of f.before (framed f.streams ∷ f.later))
       ∙ length-append (frames_in f.before) (f.streams ∷ frames_in f.later) in
       let closed : num_released taker.own ≡ num_released f.before + num_released f.later = ap num_released f.whole
       ∙ released-both f.before (framed f.streams ∷ f.later) in
@@ -197,19 +199,20 @@ module _ (known rounds n : ℕ) (is : ℕ → ℕ → Code → Type 0) (names : 
       subst (λ (r : ℕ). length shares * suc r ≤ num_arrived (events now)) from_none its.parts in
       omega (arith, sum, none, split, all_of, gathered_parts)
     where
-      takes_no_part : (threads r p frames : ℕ) (hs : List Happening) (streams : Streams) (later : List Happening)
-          → TakesInTurn threads r p frames (hs ++ framed streams ∷ later) → num_arrived (hs ++ framed streams ∷ []) ≡ 0
+      takes_no_part : (threads r p frames : ℕ) (happenings : List Happening) (streams : Streams) (later : List Happening)
+          → TakesInTurn threads r p frames (happenings ++ framed streams ∷ later)
+          → num_arrived (happenings ++ framed streams ∷ []) ≡ 0
       takes_no_part threads r p frames [] streams later takes = refl
-      takes_no_part threads r p frames (reported i x ∷ hs) streams later takes = absurd takes.0
-      takes_no_part threads r p frames (framed x ∷ hs) streams later takes =
-          takes_no_part threads (r + 0) p (suc frames) hs streams later takes.1
-      takes_no_part threads r p frames (marked arrived ∷ hs) streams later takes = absurd takes.0
-      takes_no_part threads r p frames (marked released ∷ hs) streams later takes =
-          takes_no_part threads (r + 1) p 0 hs streams later takes.1
-      takes_no_part threads r p frames (marked (saw_arrived m) ∷ hs) streams later takes =
-          takes_no_part threads (r + 0) m frames hs streams later takes.1
-      takes_no_part threads r p frames (marked (saw_released m) ∷ hs) streams later takes = absurd takes.0
-      takes_no_part threads r p frames (marked left ∷ hs) streams later takes = absurd takes.0
+      takes_no_part threads r p frames (reported i x ∷ happenings) streams later takes = absurd takes.0
+      takes_no_part threads r p frames (framed x ∷ happenings) streams later takes =
+          takes_no_part threads (r + 0) p (suc frames) happenings streams later takes.1
+      takes_no_part threads r p frames (marked arrived ∷ happenings) streams later takes = absurd takes.0
+      takes_no_part threads r p frames (marked released ∷ happenings) streams later takes =
+          takes_no_part threads (r + 1) p 0 happenings streams later takes.1
+      takes_no_part threads r p frames (marked (saw_arrived m) ∷ happenings) streams later takes =
+          takes_no_part threads (r + 0) m frames happenings streams later takes.1
+      takes_no_part threads r p frames (marked (saw_released m) ∷ happenings) streams later takes = absurd takes.0
+      takes_no_part threads r p frames (marked left ∷ happenings) streams later takes = absurd takes.0
 
   each_did : (j : ℕ) (m : Member) → slice_get shares j ≡ Some m → parts m.number ≡ suc round
   each_did = each_full (λ (m : Member). parts m.number) (suc round) shares most enough
@@ -240,7 +243,7 @@ module _ (known rounds n : ℕ) (is : ℕ → ℕ → Code → Type 0) (names : 
           e.0,
           cut_in now shares k d.0 d.2,
           e.2,
-          subst (λ (hs : List Happening). HasRun name Short known e.0 [] hs e.1) (sym cut_is)
+          subst (λ (happenings : List Happening). HasRun name Short known e.0 [] happenings e.1) (sym cut_is)
               (subst (λ (x : List ℕ). HasRun x Short known e.0 [] (until (suc round) d.0.own) e.1)
               (at_most_one (slice_get names k) its_name.0 name its_name.1 at) e.3),
         ),

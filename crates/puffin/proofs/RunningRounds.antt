@@ -107,9 +107,8 @@ scopes_both known form (scope place text within after) next f g (state, may, sta
   append others g,
   inner,
   scopes_both known form after next others g rest later,
-  ap
-      (λ (x : Forest). append x g) is ∙ append_append (scope_if state (span_at place (cut_text form text) start stop) children)
-      others g,
+  ap (λ (x : Forest). append x g) is
+      ∙ append_append (scope_if state (span_at place (cut_text form text) start stop) children) others g,
 )
 
 -- ---- rounds

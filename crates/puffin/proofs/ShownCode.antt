@@ -48,17 +48,18 @@ no_frames i (r ∷ rs) = no_frames i rs
 
 -- ---- reports and frames without marks
 
-under_unmarked : (i : ThreadKey) (hs : List Happening) → reports_under i (unmarked hs) ≡ reports_under i hs
+under_unmarked : (i : ThreadKey) (happenings : List Happening) → reports_under i (unmarked happenings) ≡ reports_under i happenings
 under_unmarked i [] = refl
-under_unmarked i (reported j r ∷ hs) = ap (λ (rs : List StreamFacts). report_under i (reported j r) ++ rs) (under_unmarked i hs)
-under_unmarked i (framed streams ∷ hs) = under_unmarked i hs
-under_unmarked i (marked mark ∷ hs) = under_unmarked i hs
+under_unmarked i (reported j r ∷ happenings) =
+    ap (λ (rs : List StreamFacts). report_under i (reported j r) ++ rs) (under_unmarked i happenings)
+under_unmarked i (framed streams ∷ happenings) = under_unmarked i happenings
+under_unmarked i (marked mark ∷ happenings) = under_unmarked i happenings
 
-frames_unmarked : (hs : List Happening) → frames_in (unmarked hs) ≡ frames_in hs
+frames_unmarked : (happenings : List Happening) → frames_in (unmarked happenings) ≡ frames_in happenings
 frames_unmarked [] = refl
-frames_unmarked (reported j r ∷ hs) = frames_unmarked hs
-frames_unmarked (framed streams ∷ hs) = ap (λ fs. streams ∷ fs) (frames_unmarked hs)
-frames_unmarked (marked mark ∷ hs) = frames_unmarked hs
+frames_unmarked (reported j r ∷ happenings) = frames_unmarked happenings
+frames_unmarked (framed streams ∷ happenings) = ap (λ fs. streams ∷ fs) (frames_unmarked happenings)
+frames_unmarked (marked mark ∷ happenings) = frames_unmarked happenings
 
 -- what more there is without marks is more of reports and of frames
 pub more_under : (i : ThreadKey) (before after more : List Happening) → unmarked after ≡ unmarked before ++ more
@@ -87,15 +88,16 @@ spelled_once (r ∷ rs) f g fit (a, b, honest, rest, is) (c, d, honest2, rest2, 
 pub at_most_one : {A : Type 0} (o : Option A) (x y : A) → o ≡ Some x → o ≡ Some y → x ≡ y
 at_most_one o x y p q = let same = sym p ∙ q in cc
 
-pub contained : (ms : List Member) (k : ℕ) (m : Member) → slice_get ms k ≡ Some m → Contains (accounts_of ms) (account_of m)
+pub contained : (members : List Member) (k : ℕ) (m : Member) → slice_get members k ≡ Some m
+    → Contains (accounts_of members) (account_of m)
 contained [] k m e = absurd cc
-contained (x ∷ ms) zero m e = (0, omega arith, let same : x ≡ m = cc in ap account_of same)
-contained (x ∷ ms) (suc k) m e = let c = contained ms k m e in let less = c.1 in (suc c.0, omega arith, c.2)
+contained (x ∷ members) zero m e = (0, omega arith, let same : x ≡ m = cc in ap account_of same)
+contained (x ∷ members) (suc k) m e = let c = contained members k m e in let less = c.1 in (suc c.0, omega arith, c.2)
 
-pub every : (P : ℕ × List Happening → Type 0) (ms : List Member)
-    → ((j : ℕ) (m : Member) → slice_get ms j ≡ Some m → P (account_of m)) → All P (accounts_of ms)
+pub every : (P : ℕ × List Happening → Type 0) (members : List Member)
+    → ((j : ℕ) (m : Member) → slice_get members j ≡ Some m → P (account_of m)) → All P (accounts_of members)
 every P [] h = All-nil P
-every P (x ∷ ms) h = All-cons P (account_of x) (accounts_of ms) (h 0 x refl) (every P ms (λ j m e. h (suc j) m e))
+every P (x ∷ members) h = All-cons P (account_of x) (accounts_of members) (h 0 x refl) (every P members (λ j m e. h (suc j) m e))
 
 -- the name at each place where there is a share
 named_at : (names : List (List ℕ)) (shares : List Member) (j : ℕ) (m : Member) → length shares ≡ length names

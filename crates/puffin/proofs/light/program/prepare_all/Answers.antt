@@ -13,11 +13,11 @@ use Rattle.puffin.proofs.light.program.prepare_all.Goals as goal
 
 pub loop-name-preserved : goal.loop-name-preserved
 loop-name-preserved g c =
-    let i = c.loop-name.invariant in let thread = c.in_ok-prepare.field-0 in let e = c.in_ok-prepare.ensures in
+    let so_far = c.loop-name.invariant in let thread = c.in_ok-prepare.field-0 in let its = c.in_ok-prepare.ensures in
     let names = c.args.names.now in
-    let place : length c.loop-name.threads.items ≡ c.loop-name.name-index = sym c.loop-name.threads.ok.0 ∙ i.threads in
+    let place : length c.loop-name.threads.items ≡ c.loop-name.name-index = sym c.loop-name.threads.ok.0 ∙ so_far.threads in
     let named : slice_get (map (λ name. name.now) names) c.loop-name.name-index ≡ Some (string_bytes thread.name) =
-    mapped_there (λ name. name.now) names c.loop-name.name-index _ c.loop-name-test.true ∙ ap Some (sym e.name) in
+    mapped_there (λ name. name.now) names c.loop-name.name-index _ c.loop-name-test.true ∙ ap Some (sym its.name) in
     record {
       threads = search rules;
       names =
@@ -25,16 +25,16 @@ loop-name-preserved g c =
           (λ k (t : Ready (SystemClock g.row.R.Denot)).
           (slice_get (map (λ name. name.now) names) k ≡ Some (string_bytes t.name))
           × (num_known t.scopes ≡ length (details_in c.args.scopes.now)))
-          c.loop-name.threads.items thread i.names (
+          c.loop-name.threads.items thread so_far.names (
             subst (λ (k : ℕ). slice_get (map (λ name. name.now) names) k ≡ Some (string_bytes thread.name))
                 (sym place) named,
-            e.scopes,
+            its.scopes,
           ));
       clocks =
           subst (All (λ thread. StartsAt (clock_start c.in_ok-clock.clock) (clock_begun c.in_ok-clock.clock) thread.clock))
           (sym c.in_ok-push.ensures.items)
           (All-push (λ thread. StartsAt (clock_start c.in_ok-clock.clock) (clock_begun c.in_ok-clock.clock) thread.clock)
-          c.loop-name.threads.items thread i.clocks e.clock);
+          c.loop-name.threads.items thread so_far.clocks its.clock);
     }
 
 pub returns-clause-clocks : goal.returns-clause-clocks

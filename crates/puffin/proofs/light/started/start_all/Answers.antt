@@ -43,9 +43,9 @@ loop-thread-preserved g c =
 
 pub returns-clause-each : goal.returns-clause-each
 returns-clause-each g c =
-    let b = c.into_iter-thread-iterator.ensures.into_iter_gives in
-    let all = YieldsList-end (YieldsList-from_vec {s = c.into_iter-thread-iterator.result} c.args.threads.items b.0
-    (b.1 ∙ c.args.threads.ok.0)) c.loop-thread.yielded c.loop-thread.thread-iterator c.loop-thread.yielded_by c.next.result
+    let gives = c.into_iter-thread-iterator.ensures.into_iter_gives in
+    let all = YieldsList-end (YieldsList-from_vec {s = c.into_iter-thread-iterator.result} c.args.threads.items gives.0
+    (gives.1 ∙ c.args.threads.ok.0)) c.loop-thread.yielded c.loop-thread.thread-iterator c.loop-thread.yielded_by c.next.result
     c.next.new.self c.in-None.is c.next.ensures.steps in
     subst (λ ts. AreStarted c.loop-thread.started.items ts c.args.program.now)
     (sym (map-id c.loop-thread.yielded) ∙ all.0) c.loop-thread.invariant.each
