@@ -13,6 +13,7 @@ mod CountedShares
 mod EndedScopes
 mod Registered
 mod Telling
+mod ToldScopes
 mod TellingCode
 mod ShownCode
 mod JoinedThreads
@@ -23,5 +24,6 @@ mod ShownPools
 mod CutHistory
 mod KeptSteps
 mod RunningRounds
+mod RoundFrames
 mod ShownRounds
 mod TellingJobs

@@ -9,7 +9,9 @@ use Rattle.puffin.specs.Happenings.{Happening, History}
 use Rattle.puffin.specs.Recounted.{Recounts}
 
 -- what all shares recount, of the streams that were pending
-pub knows_all : {E : Type 0} (r : Result Settled E) (n : ℕ) (accounts : List (ℕ × List Happening)) (log : History) (streams : Streams) → OnOk r (Recounts n accounts log streams) → IfOk r (λ s. s.pending ≡ total_scopes (map.values streams))
+pub knows_all : {E : Type 0} (r : Result Settled E) (n : ℕ) (accounts : List (ℕ × List Happening))
+    (log : History) (streams : Streams) → OnOk r (Recounts n accounts log streams)
+    → IfOk r (λ s. s.pending ≡ total_scopes (map.values streams))
     → IfOk r (λ s. (l : History) × (t : Streams) × Recounts n accounts l t × (s.pending ≡ total_scopes (map.values t)))
 knows_all (Ok s) n accounts log streams recounts pending = (log, streams, recounts, pending)
 knows_all (Err e) n accounts log streams recounts pending = tt

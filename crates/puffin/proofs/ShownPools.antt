@@ -1,5 +1,6 @@
 -- What a pool shows, by what its threads told.
-use Rattle.std.proofs.Common.{◌≡◌, ℕ, zero, suc, ◌<◌, Bool, true, false, List, [], ◌∷◌, Some, None, Result, Ok, Err, length, string_bytes, refl, sym, ap, subst, ◌∙◌, arith}
+use Rattle.std.proofs.Common.{◌≡◌, ℕ, zero, suc, ◌<◌, Bool, true, false, List, [], ◌∷◌, Some, None, Result, Ok, Err}
+use Rattle.std.proofs.Common.{length, string_bytes, refl, sym, ap, subst, ◌∙◌, arith}
 use Rattle.std.specs.Prelude.{slice_get, IsOk, IfOk, OnOk}
 use Rattle.puffin_data.specs.declared.data.form.Form.TheVariants.{Short}
 use Rattle.puffin_frames.specs.Frame.Contents.{Streams}
@@ -20,15 +21,18 @@ use Rattle.puffin.proofs.ShownJobs.{frames_show_jobs}
 use Rattle.puffin.proofs.ShownRuns.{there}
 
 -- a list of what there is for each number
-pub chosen : {A : Type 0} (P : ℕ → A → Type 0) (n : ℕ) → ((k : ℕ) → k < n → (x : A) × P k x) → (xs : List A) × (length xs ≡ n) × ((k : ℕ) (x : A) → slice_get xs k ≡ Some x → P k x)
+pub chosen : {A : Type 0} (P : ℕ → A → Type 0) (n : ℕ) → ((k : ℕ) → k < n → (x : A) × P k x)
+    → (xs : List A) × (length xs ≡ n) × ((k : ℕ) (x : A) → slice_get xs k ≡ Some x → P k x)
 chosen P zero f = ([], refl, λ k x e. absurd cc)
 chosen {A} P (suc n) f = put (f 0 (omega arith)) (chosen (λ k. P (suc k)) n (λ k below. f (suc k) (omega arith)))
   where
-    put : (first : (x : A) × P 0 x) → ((xs : List A) × (length xs ≡ n) × ((k : ℕ) (x : A) → slice_get xs k ≡ Some x → P (suc k) x))
+    put : (first : (x : A) × P 0 x) → ((xs : List A) × (length xs ≡ n)
+        × ((k : ℕ) (x : A) → slice_get xs k ≡ Some x → P (suc k) x))
         → (xs : List A) × (length xs ≡ suc n) × ((k : ℕ) (x : A) → slice_get xs k ≡ Some x → P k x)
     put first rest = (first.0 ∷ rest.0, ap suc rest.1, λ k x e. at first rest.0 rest.2 k x e)
       where
-        at : (first : (x : A) × P 0 x) (rest : List A) → ((k : ℕ) (x : A) → slice_get rest k ≡ Some x → P (suc k) x) → (k : ℕ) (x : A) → slice_get (first.0 ∷ rest) k ≡ Some x → P k x
+        at : (first : (x : A) × P 0 x) (rest : List A) → ((k : ℕ) (x : A) → slice_get rest k ≡ Some x → P (suc k) x)
+            → (k : ℕ) (x : A) → slice_get (first.0 ∷ rest) k ≡ Some x → P k x
         at first rest later zero x e = let eq : first.0 ≡ x = cc in subst (P 0) eq first.1
         at first rest later (suc k) x e = later k x e
 
@@ -38,7 +42,8 @@ well_so P (Ok x) well so = so
 well_so P (Err e) well so = absurd cc
 
 -- what a thread did through its share, and how its unreported scopes are counted
-record Did (is : List ℕ → Code → Type 0) (known : ℕ) (counts : List ThreadCounts) (shares : List Member) (k : ℕ) (jobs : List Job) : Type 0 where
+record Did (is : List ℕ → Code → Type 0) (known : ℕ) (counts : List ThreadCounts) (shares : List Member)
+    (k : ℕ) (jobs : List Job) : Type 0 where
   pub share : Member
   pub count : ThreadCounts
   pub share_is : slice_get shares k ≡ Some share
@@ -46,12 +51,15 @@ record Did (is : List ℕ → Code → Type 0) (known : ℕ) (counts : List Thre
   pub ran : HaveRun is known jobs [] share.own
   pub unreported : count.unreported ≡ num_unreported jobs
 
-module _ (C : Type 0) {W : Type 0} (states : W → Bool) (does : W → List ℕ → Code → Type 0) (leads : W → Code → Type 0) (takes : W → List Streams → Type 0) where
+module _ (C : Type 0) {W : Type 0} (states : W → Bool) (does : W → List ℕ → Code → Type 0) (leads : W → Code → Type 0)
+    (takes : W → List Streams → Type 0) where
   abbrev tells : Ready C → W → ℕ → ThreadEnd → List Happening → List Happening → Type 0
-  tells ready pool number ended before after = OnOk ended.result (HaveRunAs (states pool) (does pool) (num_known ready.scopes) before after ended.left.unreported)
+  tells ready pool number ended before after =
+      OnOk ended.result (HaveRunAs (states pool) (does pool) (num_known ready.scopes) before after ended.left.unreported)
 
   abbrev led_tells : Ready C → W → ℕ → List Happening → List Happening → Type 0
-  led_tells ready pool unreported before after = HasLedAs (states pool) (leads pool) (string_bytes ready.name) Short (num_known ready.scopes) before after unreported
+  led_tells ready pool unreported before after =
+      HasLedAs (states pool) (leads pool) (string_bytes ready.name) Short (num_known ready.scopes) before after unreported
 
   abbrev took : Ready C → W → List Happening → Type 0
   took ready pool told = takes pool (frames_in told)
@@ -71,25 +79,30 @@ module _ (C : Type 0) {W : Type 0} (states : W → Bool) (does : W → List ℕ 
     leader = (refl, refl);
     counted = λ k jobs e. let d = all.2 k jobs e in (d.count, d.count_is, d.unreported);
     each =
-        frames_show_jobs known (length t.shares) (leader_before (leads pool) (does pool)) ((led ∷ []) ∷ all.0) (a.own ∷ a.rest) a.taker t.log t.pending did (ap suc (a.as_many ∙ sym all.1)) a.took.quiet
+        frames_show_jobs known (length t.shares) (leader_before (leads pool) (does pool))
+        ((led ∷ []) ∷ all.0) (a.own ∷ a.rest) a.taker t.log t.pending did (ap suc (a.as_many ∙ sym all.1)) a.took.quiet
         (subst (λ (ms : List Member). Recounts (length t.shares) (accounts_of ms) t.log t.pending) a.shares_are t.recounts);
   }
     where
       t : HasTold tells led_tells took told.threads told.leader pool outcome
       t = told.told
 
-      a : AreTold tells led_tells took told.threads told.leader pool outcome.failed outcome.threads.items outcome.leader outcome.frames t.shares
+      a : AreTold tells led_tells took told.threads told.leader pool outcome.failed outcome.threads.items outcome.leader
+          outcome.frames t.shares
       a = t.are
 
-      its : HasLedAs true (leads pool) (string_bytes told.leader.name) Short (num_known told.leader.scopes) [] a.own.own outcome.leader.unreported
-      its = subst (λ (b : Bool). HasLedAs b (leads pool) (string_bytes told.leader.name) Short (num_known told.leader.scopes) [] a.own.own outcome.leader.unreported) stated a.led
+      its : HasLedAs true (leads pool) (string_bytes told.leader.name) Short
+          (num_known told.leader.scopes) [] a.own.own outcome.leader.unreported
+      its = subst (λ (b : Bool). HasLedAs b (leads pool) (string_bytes told.leader.name) Short
+          (num_known told.leader.scopes) [] a.own.own outcome.leader.unreported) stated a.led
 
       led : Job
       led = record { name = leader_name; code = its.0; unreported = outcome.leader.unreported }
 
       led_ran : HasRun leader_name Short known its.0 [] a.own.own outcome.leader.unreported
       led_ran = subst (λ (n : ℕ). HasRun leader_name Short n its.0 [] a.own.own outcome.leader.unreported) told.leader_named.1
-          (subst (λ (x : List ℕ). HasRun x Short (num_known told.leader.scopes) its.0 [] a.own.own outcome.leader.unreported) told.leader_named.0 its.2)
+          (subst (λ (x : List ℕ). HasRun x Short (num_known told.leader.scopes) its.0 [] a.own.own outcome.leader.unreported)
+          told.leader_named.0 its.2)
 
       one : (k : ℕ) → k < length told.threads → (jobs : List Job) × Did (does pool) known outcome.threads.items a.rest k jobs
       one k below =
@@ -97,7 +110,8 @@ module _ (C : Type 0) {W : Type 0} (states : W → Bool) (does : W → List ℕ 
           let it = a.each k thread.0 thread.1 in
           let known_there = num_known thread.0.scopes in
           let ran = subst (λ (b : Bool). HaveRunAs b (does pool) known_there [] it.share.own it.ended.left.unreported) stated
-          (well_so (HaveRunAs (states pool) (does pool) known_there [] it.share.own it.ended.left.unreported) it.ended.result (it.went_well none) it.told) in (
+          (well_so (HaveRunAs (states pool) (does pool) known_there [] it.share.own it.ended.left.unreported) it.ended.result
+          (it.went_well none) it.told) in (
             ran.0,
             record {
               share = it.share;
@@ -109,11 +123,18 @@ module _ (C : Type 0) {W : Type 0} (states : W → Bool) (does : W → List ℕ 
             },
           )
 
-      all : (threads : List (List Job)) × (length threads ≡ length told.threads) × ((k : ℕ) (jobs : List Job) → slice_get threads k ≡ Some jobs → Did (does pool) known outcome.threads.items a.rest k jobs)
+      all : (threads : List (List Job)) × (length threads ≡ length told.threads)
+          × ((k : ℕ) (jobs : List Job) → slice_get threads k ≡ Some jobs
+          → Did (does pool) known outcome.threads.items a.rest k jobs)
       all = chosen (Did (does pool) known outcome.threads.items a.rest) (length told.threads) one
 
       did : EachDid (leader_before (leads pool) (does pool)) known ((led ∷ []) ∷ all.0) (a.own ∷ a.rest)
-      did zero jobs e = let same : led ∷ [] ≡ jobs = cc in (a.own, refl, subst (λ (js : List Job). HaveRun (leader_before (leads pool) (does pool) 0) known js [] a.own.own) same (a.own.own, its.1, led_ran, refl))
+      did zero jobs e = let same : led ∷ [] ≡ jobs = cc in (
+        a.own,
+        refl,
+        subst (λ (js : List Job). HaveRun (leader_before (leads pool) (does pool) 0) known js [] a.own.own) same
+            (a.own.own, its.1, led_ran, refl),
+      )
       did (suc k) jobs e = let d = all.2 k jobs e in (d.share, d.share_is, d.ran)
 
   shows : (known : ℕ) (leader_name : List ℕ) (names : List (List ℕ)) (pool : W) (outcome : Outcome)

@@ -1,242 +1,50 @@
 -- What the frames of a program in rounds show, by what its threads told.
-use Rattle.std.proofs.Common.{◌≡◌, ◌≢◌, ℕ, zero, suc, ◌+◌, ◌*◌, ◌<◌, ◌≤◌, Bool, true, false, List, [], ◌∷◌, ◌++◌, Option, Some, None, Result, Ok, Err, length, map, take, string_bytes, refl, ap, sym, subst, ◌∙◌, append_assoc, length-append, arith}
-use mathlib.Core.Logic.{∥∥₁_map}
-use Rattle.std.specs.Prelude.{slice_get, IfOk, sum_by}
-use Rattle.std.specs.FinMap as fin_map
-use Rattle.std.specs.List.{flat_map}
-use Rattle.std.proofs.lemmas.List.Elements.{All-contains}
-use Rattle.std.proofs.lemmas.List.Sums.{sum_by-cons}
-use Rattle.std.proofs.lemmas.Grind.{flat_map-append}
+use Rattle.std.proofs.Common.{◌≡◌, ℕ, zero, suc, ◌<◌, Bool, true, false, List, []}
+use Rattle.std.proofs.Common.{◌∷◌, Some, None, Result, Ok, Err, length, string_bytes, refl, ap, sym, subst, ◌∙◌, arith}
+use Rattle.std.specs.Prelude.{slice_get, IfOk}
 use Rattle.std.proofs.lemmas.Option.{slice_get_within}
-use Rattle.puffin_data.specs.declared.data.form.Form.TheVariants.{Short}
-use Rattle.puffin_frames.specs.Frame.Contents.{Streams}
-use Rattle.history.specs.Entries.{events, front_if, entries_by, AreAllAuthors}
-use Rattle.history.proofs.lemmas.AllAuthors.{entries_by-append, events-append, only_one}
-use Rattle.history.proofs.lemmas.Counting.{same_number}
 use Rattle.puffin.specs.declared.light.outcome.Outcome.{Outcome}
 use Rattle.puffin.specs.declared.light.outcome.ThreadCounts.{ThreadCounts}
 use Rattle.puffin.specs.declared.light.ready.ThreadEnd.{ThreadEnd}
 use Rattle.puffin.specs.declared.light.ready.Ready.{Ready}
-use Rattle.puffin.specs.Code.{Code, AreTurns, AreRounds}
-use Rattle.puffin.specs.Happenings.{Happening, reported, framed, marked, arrived, released, saw_arrived, saw_released, left, History, frame_of, frames_in, report_under, reports_under, if_marked, releases_of, num_arrived, num_released, AreSeen, Stands}
+use Rattle.puffin.specs.Code.{Code, AreRounds}
+use Rattle.puffin.specs.Happenings.{Happening, frames_in, num_released}
 use Rattle.puffin.specs.Joined.{AreTold, HasTold}
 use Rattle.puffin.specs.Leaving.{accounts_of}
-use Rattle.puffin.specs.Members.{Member, account_of}
+use Rattle.puffin.specs.Members.{Member}
 use Rattle.puffin.specs.Places.{num_known}
-use Rattle.puffin.specs.Recounted.{Recounts, ReportsNothing}
-use Rattle.puffin.specs.Rounds.{until, KeepsStep, HasRunRounds, HasRunRoundsAs, HasLedRoundsAs, TakesInTurn, TakesTurns, in_round, ShowsRounds, RoundsShow}
-use Rattle.puffin.specs.Shown.{NamedTold, RanEach, ShowsEach, leader_first}
-use Rattle.puffin.specs.Telling.{HasRun}
-use Rattle.puffin.proofs.CutHistory.{Split, FrameAt, cut, cut_authors, split_at, frame_at, stands_at, all_parts}
-use Rattle.puffin.proofs.CutHistory as history
-use Rattle.puffin.proofs.Growing.{released-both, arrived-both}
-use Rattle.puffin.proofs.KeptSteps.{AllSeen, all_seen, seen_by, seen_front, steps_front, closes_none, few_parts, cut_there, few_frames, Gathered, gathered, each_full}
-use Rattle.puffin.proofs.ShownCode.{frames_show, at_most_one, contained, every}
-use Rattle.puffin.proofs.ShownPools.{chosen, well_so}
+use Rattle.puffin.specs.Recounted.{Recounts}
+use Rattle.puffin.specs.Rounds.{HasRunRounds, HasRunRoundsAs, HasLedRoundsAs, TakesInTurn, TakesTurns, in_round, ShowsRounds, RoundsShow}
+use Rattle.puffin.specs.Shown.{NamedTold, RanEach, leader_first}
+use Rattle.puffin.proofs.KeptSteps.{few_frames}
+use Rattle.puffin.proofs.ShownCode.{frames_show, at_most_one}
+use Rattle.puffin.proofs.ShownPools.{well_so}
 use Rattle.puffin.proofs.ShownRuns.{there}
-use Rattle.puffin.proofs.SpelledThreads.{recounted}
+use Rattle.puffin.proofs.RoundFrames.{shows_then}
 
--- each thread ran its rounds under its name, through its share
-abbrev RanRoundsEach : (known rounds : ℕ) → (is : ℕ → ℕ → Code → Type 0) → (names : List (List ℕ)) → (shares : List Member) → Type 0
-RanRoundsEach known rounds is names shares =
-    (k : ℕ) (name : List ℕ) → slice_get names k ≡ Some name → (share : Member) × (waiting : ℕ) × (slice_get shares k ≡ Some share) × HasRunRounds (is k) rounds name known share.own waiting
-
-cut_in : (log : History) (ms : List Member) (k : ℕ) (m : Member) → slice_get ms k ≡ Some m → slice_get (map (cut log) ms) k ≡ Some (cut log m)
-cut_in log [] k m e = absurd cc
-cut_in log (x ∷ ms) zero m e = let same : x ≡ m = cc in ap (λ (y : Member). Some (cut log y)) same
-cut_in log (x ∷ ms) (suc k) m e = cut_in log ms k m e
-
-long_cut : (log : History) (ms : List Member) → length (map (cut log) ms) ≡ length ms
-long_cut log [] = refl
-long_cut log (x ∷ ms) = ap suc (long_cut log ms)
-
-parts_cut : (log : History) (ms : List Member) → sum_by (λ (a : ℕ × List Happening). num_arrived (entries_by a.0 log)) (accounts_of ms) ≡ sum_by (λ (m : Member). num_arrived (entries_by m.number log)) ms
-parts_cut log [] = refl
-parts_cut log (m ∷ ms) =
-    sum_by-cons (λ (a : ℕ × List Happening). num_arrived (entries_by a.0 log)) (account_of m) (accounts_of ms)
-    ∙ ap (λ (n : ℕ). num_arrived (entries_by m.number log) + n) (parts_cut log ms)
-    ∙ sym (sum_by-cons (λ (x : Member). num_arrived (entries_by x.number log)) m ms)
-
--- ---- the frame of a round
-
-module _ (known rounds n : ℕ) (is : ℕ → ℕ → Code → Type 0) (names : List (List ℕ)) (shares : List Member) (taker : Member) (log : History) (pending : Streams)
-    (did : RanRoundsEach known rounds is names shares) (long : length shares ≡ length names) (quiet : ReportsNothing taker.own) (takes : TakesInTurn (length shares) 0 0 0 taker.own)
-    (recounts : Recounts n (accounts_of (taker ∷ shares)) log pending) (full : length (frames_in taker.own) ≡ num_released taker.own)
-    (round : ℕ) (below : round < length (frames_in taker.own)) where
-  abbrev all : List Member
-  all = taker ∷ shares
-
-  f : FrameAt round taker.own
-  f = frame_at round taker.own below
-
-  own_of : (j : ℕ) (m : Member) → slice_get all j ≡ Some m → m.own ≡ entries_by m.number log
-  own_of j m e = All-contains (λ a. a.1 ≡ entries_by a.0 log) (accounts_of all) (account_of m) recounts.all.own (contained all j m e)
-
-  s : Split taker.number log f.before (framed f.streams) f.later
-  s = split_at taker.number log f.before (framed f.streams) f.later (sym (own_of 0 taker refl) ∙ f.whole)
-
-  abbrev now : History
-  now = s.before ++ (taker.number, framed f.streams) ∷ []
-
-  whole : log ≡ now ++ s.later
-  whole = s.whole ∙ sym (append_assoc s.before ((taker.number, framed f.streams) ∷ []) s.later)
-
-  own_then : (j : ℕ) (m : Member) → slice_get all j ≡ Some m → m.own ≡ entries_by m.number now ++ entries_by m.number s.later
-  own_then j m e = own_of j m e ∙ ap (entries_by m.number) whole ∙ entries_by-append m.number now s.later
-
-  taken_then : entries_by taker.number now ≡ f.before ++ framed f.streams ∷ []
-  taken_then = entries_by-append taker.number s.before ((taker.number, framed f.streams) ∷ []) ∙ ap (λ (hs : List Happening). hs ++ entries_by taker.number ((taker.number, framed f.streams) ∷ [])) s.own
-      ∙ ap (λ (b : Bool). f.before ++ front_if b (framed f.streams) []) (same_number taker.number)
-
-  events_now : events now ≡ events s.before ++ framed f.streams ∷ []
-  events_now = events-append s.before ((taker.number, framed f.streams) ∷ [])
-
-  authors : AreAllAuthors n (accounts_of (map (cut now) all)) now
-  authors = cut_authors n all now s.later (subst (λ (l : History). AreAllAuthors n (accounts_of all) l) whole recounts.all)
-
-  events_whole : events log ≡ (events s.before ++ framed f.streams ∷ []) ++ events s.later
-  events_whole = ap events whole ∙ events-append now s.later ∙ ap (λ (hs : List Happening). hs ++ events s.later) events_now
-
-  stands : ∥ Stands fin_map.empty (events now) ∥₁
-  stands = ∥∥₁_map recounts.stands (λ (t : Stands pending (events log)).
-      subst (λ (hs : List Happening). Stands fin_map.empty hs) (sym events_now) (stands_at pending (events s.before) f.streams (events s.later) (subst (λ (hs : List Happening). Stands pending hs) events_whole t)))
-
-  -- each thread's name has its place among the shares
-  named : (j : ℕ) (m : Member) → slice_get shares j ≡ Some m → (name : List ℕ) × (slice_get names j ≡ Some name)
-  named j m e = there names j (subst (λ (k : ℕ). j < k) long (slice_get_within shares j m e))
-
-  step_of : (j : ℕ) (m : Member) → slice_get shares j ≡ Some m → KeepsStep 0 0 m.own
-  step_of j m e =
-      let its = named j m e in let d = did j its.0 its.1 in
-      subst (λ (x : Member). KeepsStep 0 0 x.own) (at_most_one (slice_get shares j) d.0 m d.2 e) d.3.step
-
-  step_then : (j : ℕ) (m : Member) → slice_get shares j ≡ Some m → KeepsStep 0 0 (entries_by m.number now)
-  step_then j m e = steps_front 0 0 (entries_by m.number now) (entries_by m.number s.later) (subst (KeepsStep 0 0) (own_then (suc j) m e) (step_of j m e))
-
-  abbrev Unclosed : ℕ × List Happening → Type 0
-  Unclosed a = a.0 ≢ taker.number → flat_map (if_marked releases_of) a.1 ≡ []
-
-  unclosed : (j : ℕ) (m : Member) → slice_get (map (cut now) all) j ≡ Some m → Unclosed (account_of m)
-  unclosed zero m e = λ other. let same : cut now taker ≡ m = cc in absurd (other (ap (λ (x : Member). x.number) (sym same)))
-  unclosed (suc j) m e = λ other.
-      let c = there shares j (subst (λ (k : ℕ). j < k) (long_cut now shares) (slice_get_within (map (cut now) shares) j m e)) in
-      let same : cut now c.0 ≡ m = at_most_one (slice_get (map (cut now) shares) j) (cut now c.0) m (cut_in now shares j c.0 c.1) e in
-      subst (λ (x : Member). flat_map (if_marked releases_of) x.own ≡ []) same (closes_none 0 0 (entries_by c.0.number now) (step_then j c.0 c.1))
-
-  closed_then_are : num_released (events now) ≡ num_released f.before
-  closed_then_are =
-      let its_own : num_released (events now) ≡ num_released (entries_by taker.number now) = ap length (only_one (if_marked releases_of) n taker.number (accounts_of (map (cut now) all)) now authors (every Unclosed (map (cut now) all) unclosed)) in
-      omega (arith, its_own, ap num_released taken_then, released-both f.before (framed f.streams ∷ []))
-
-  seen_now : AreSeen 0 0 (events now)
-  seen_now = history.seen_front 0 0 (events now) (events s.later) (subst (AreSeen 0 0) (ap events whole ∙ events-append now s.later) recounts.seen)
-
-  seen : AllSeen (num_arrived (events now)) (num_released f.before) (events now)
-  seen = all_seen 0 (num_arrived (events now)) 0 (num_released f.before) (events now) (omega arith) (omega (arith, closed_then_are)) seen_now
-
-  seen_in : (k : ℕ) → AllSeen (num_arrived (events now)) (num_released f.before) (entries_by k now)
-  seen_in k = seen_by (num_arrived (events now)) (num_released f.before) k now seen
-
-  its : Gathered (length shares) 0 0 (num_arrived (events now)) f.before f.later
-  its = gathered (length shares) (num_arrived (events now)) (num_released f.before) 0 0 0 f.before f.streams f.later (subst (TakesInTurn (length shares) 0 0 0) f.whole takes)
-      (seen_front (num_arrived (events now)) (num_released f.before) f.before (framed f.streams ∷ []) (subst (AllSeen (num_arrived (events now)) (num_released f.before)) taken_then (seen_in taker.number))) (omega arith) (omega arith)
-
-  -- it is the frame of this round
-  this_round : num_released f.before ≡ round
-  this_round =
-      let frames : length (frames_in taker.own) ≡ length (frames_in f.before) + suc (length (frames_in f.later)) = ap (λ hs. length (frames_in hs)) f.whole ∙ ap length (flat_map-append frame_of f.before (framed f.streams ∷ f.later))
-      ∙ length-append (frames_in f.before) (f.streams ∷ frames_in f.later) in
-      let closed : num_released taker.own ≡ num_released f.before + num_released f.later = ap num_released f.whole ∙ released-both f.before (framed f.streams ∷ f.later) in
-      omega (arith, frames, closed, full, f.earlier, its.before, its.later)
-
-  abbrev parts : ℕ → ℕ
-  parts k = num_arrived (entries_by k now)
-
-  most : (j : ℕ) (m : Member) → slice_get shares j ≡ Some m → parts m.number ≤ suc round
-  most j m e = omega (arith, this_round, few_parts (num_arrived (events now)) (num_released f.before) 0 0 (entries_by m.number now) (step_then j m e) (seen_in m.number) (omega arith) (omega arith))
-
-  enough : length shares * suc round ≤ sum_by (λ (m : Member). parts m.number) shares
-  enough =
-      let sum = all_parts n now (accounts_of all) authors.has (λ k less. recounts.all.once k less) in
-      let none : parts taker.number ≡ 0 = ap num_arrived taken_then ∙ takes_no_part (length shares) 0 0 0 f.before f.streams f.later (subst (TakesInTurn (length shares) 0 0 0) f.whole takes) in
-      let split = sum_by-cons (λ (m : Member). parts m.number) taker shares in
-      let all_of = parts_cut now all in
-      let from_none : 0 + num_released f.before ≡ round = omega (arith, this_round) in
-      let gathered_parts : length shares * suc round ≤ num_arrived (events now) = subst (λ (r : ℕ). length shares * suc r ≤ num_arrived (events now)) from_none its.parts in
-      omega (arith, sum, none, split, all_of, gathered_parts)
-    where
-      takes_no_part : (threads r p frames : ℕ) (hs : List Happening) (streams : Streams) (later : List Happening) → TakesInTurn threads r p frames (hs ++ framed streams ∷ later) → num_arrived (hs ++ framed streams ∷ []) ≡ 0
-      takes_no_part threads r p frames [] streams later takes = refl
-      takes_no_part threads r p frames (reported i x ∷ hs) streams later takes = absurd takes.0
-      takes_no_part threads r p frames (framed x ∷ hs) streams later takes = takes_no_part threads (r + 0) p (suc frames) hs streams later takes.1
-      takes_no_part threads r p frames (marked arrived ∷ hs) streams later takes = absurd takes.0
-      takes_no_part threads r p frames (marked released ∷ hs) streams later takes = takes_no_part threads (r + 1) p 0 hs streams later takes.1
-      takes_no_part threads r p frames (marked (saw_arrived m) ∷ hs) streams later takes = takes_no_part threads (r + 0) m frames hs streams later takes.1
-      takes_no_part threads r p frames (marked (saw_released m) ∷ hs) streams later takes = absurd takes.0
-      takes_no_part threads r p frames (marked left ∷ hs) streams later takes = absurd takes.0
-
-  each_did : (j : ℕ) (m : Member) → slice_get shares j ≡ Some m → parts m.number ≡ suc round
-  each_did = each_full (λ (m : Member). parts m.number) (suc round) shares most enough
-
-  -- each thread had run just this and the earlier rounds
-  ran : (k : ℕ) → k < length names → (count : ThreadCounts) × ((name : List ℕ) → slice_get names k ≡ Some name →
-      (share : Member) × (code : Code) × (slice_get (map (cut now) shares) k ≡ Some share) × AreTurns (is k) (suc round) code × HasRun name Short known code [] share.own count.unreported)
-  ran k within =
-      let its_name = there names k within in
-      let d = did k its_name.0 its_name.1 in
-      let done = each_did k d.0 d.2 in
-      let own : d.0.own ≡ entries_by d.0.number now ++ entries_by d.0.number s.later = own_then (suc k) d.0 d.2 in
-      let e = d.3.each round (omega (arith, ap num_arrived own, arrived-both (entries_by d.0.number now) (entries_by d.0.number s.later), done)) in
-      let cut_is : entries_by d.0.number now ≡ until (suc round) d.0.own =
-      cut_there (num_arrived (events now)) (num_released f.before) 0 0 (entries_by d.0.number now) (entries_by d.0.number s.later) (subst (KeepsStep 0 0) own (step_of k d.0 d.2)) (seen_in d.0.number) (omega arith) (omega (arith, done, this_round))
-      ∙ ap (λ (m : ℕ). until m (entries_by d.0.number now ++ entries_by d.0.number s.later)) done ∙ ap (until (suc round)) (sym own) in (
-        record { reported = 0; unreported = e.1; refused = 0; left_open = 0 },
-        λ name at. (
-          cut now d.0,
-          e.0,
-          cut_in now shares k d.0 d.2,
-          e.2,
-          subst (λ (hs : List Happening). HasRun name Short known e.0 [] hs e.1) (sym cut_is)
-              (subst (λ (x : List ℕ). HasRun x Short known e.0 [] (until (suc round) d.0.own) e.1) (at_most_one (slice_get names k) its_name.0 name its_name.1 at) e.3),
-        ),
-      )
-
-  shows_then : (counts : List ThreadCounts) × ShowsEach known (λ number. AreTurns (is number) (suc round)) names counts (take (suc round) (frames_in taker.own)) fin_map.empty
-  shows_then =
-      let c = chosen (λ k (count : ThreadCounts). (name : List ℕ) → slice_get names k ≡ Some name →
-      (share : Member) × (code : Code) × (slice_get (map (cut now) shares) k ≡ Some share) × AreTurns (is k) (suc round) code × HasRun name Short known code [] share.own count.unreported) (length names) ran in (
-        c.0,
-        subst (λ (frames : List Streams). ShowsEach known (λ number. AreTurns (is number) (suc round)) names c.0 frames fin_map.empty) (ap frames_in taken_then ∙ sym f.first)
-            (frames_show known n (λ number. AreTurns (is number) (suc round)) names (map (cut now) shares) c.0 (cut now taker) now fin_map.empty
-            (λ k name at.
-            let at_k = there c.0 k (subst (λ (m : ℕ). k < m) (sym c.1) (slice_get_within names k name at)) in
-            let r = c.2 k at_k.0 at_k.1 name at in
-            (r.0, at_k.0, r.1, r.2, at_k.1, r.3, r.4))
-            (long_cut now shares ∙ long)
-            (λ i. let parts : reports_under i taker.own ≡ reports_under i (entries_by taker.number now) ++ reports_under i (entries_by taker.number s.later) = ap (reports_under i) (own_then 0 taker refl) ∙ flat_map-append (report_under i) (entries_by taker.number now) (entries_by taker.number s.later) in
-            omega (arith, quiet i, ap length parts, length-append (reports_under i (entries_by taker.number now)) (reports_under i (entries_by taker.number s.later))))
-            (recounted n (accounts_of (map (cut now) all)) now fin_map.empty stands seen_now authors)),
-      )
-
--- ---- what a run shows
-
-module _ (C : Type 0) {W : Type 0} (states : W → Bool) (runs : W → ℕ → ℕ → Code → Type 0) (leads : W → ℕ → Code → Type 0) (rounds threads : W → ℕ) where
+module _ (C : Type 0) {W : Type 0} (states : W → Bool) (runs : W → ℕ → ℕ → Code → Type 0)
+    (leads : W → ℕ → Code → Type 0) (rounds threads : W → ℕ) where
   abbrev tells : Ready C → W → ℕ → ThreadEnd → List Happening → List Happening → Type 0
   tells ready program number ended before after =
-      before ≡ [] → HasRunRoundsAs (states program) (runs program number) (rounds program) (string_bytes ready.name) (num_known ready.scopes) ended.result after ended.left.unreported
+      before ≡ [] → HasRunRoundsAs (states program) (runs program number) (rounds program) (string_bytes ready.name)
+      (num_known ready.scopes) ended.result after ended.left.unreported
 
   abbrev led_tells : Ready C → W → ℕ → List Happening → List Happening → Type 0
   led_tells ready program unreported before after =
-      before ≡ [] → HasLedRoundsAs (states program) (leads program) (rounds program) (string_bytes ready.name) (num_known ready.scopes) after unreported
+      before ≡ [] → HasLedRoundsAs (states program) (leads program) (rounds program) (string_bytes ready.name)
+      (num_known ready.scopes) after unreported
 
   abbrev took : Ready C → W → List Happening → Type 0
   took ready program told = TakesTurns (threads program) (rounds program) told
 
-  module _ (known : ℕ) (leader_name : List ℕ) (names : List (List ℕ)) (program : W) (outcome : Outcome) (told : NamedTold tells led_tells took known leader_name names program outcome) (stated : states program ≡ true) (none : outcome.failed ≡ None) (as_many : threads program ≡ suc (length names)) where
+  module _ (known : ℕ) (leader_name : List ℕ) (names : List (List ℕ))
+      (program : W) (outcome : Outcome) (told : NamedTold tells led_tells took known leader_name names program outcome)
+      (stated : states program ≡ true) (none : outcome.failed ≡ None) (as_many : threads program ≡ suc (length names)) where
     t : HasTold tells led_tells took told.threads told.leader program outcome
     t = told.told
 
-    a : AreTold tells led_tells took told.threads told.leader program outcome.failed outcome.threads.items outcome.leader outcome.frames t.shares
+    a : AreTold tells led_tells took told.threads told.leader program outcome.failed outcome.threads.items outcome.leader
+        outcome.frames t.shares
     a = t.are
 
     abbrev is : ℕ → ℕ → Code → Type 0
@@ -249,36 +57,67 @@ module _ (C : Type 0) {W : Type 0} (states : W → Bool) (runs : W → ℕ → �
     counts = outcome.leader ∷ outcome.threads.items
 
     -- what each ran, and how much of it waits
-    ran_of : (k : ℕ) (name : List ℕ) → slice_get its_names k ≡ Some name → (share : Member) × (count : ThreadCounts) × (slice_get (a.own ∷ a.rest) k ≡ Some share) × (slice_get counts k ≡ Some count) × HasRunRounds (is k) (rounds program) name known share.own count.unreported
+    ran_of : (k : ℕ) (name : List ℕ) → slice_get its_names k ≡ Some name → (share : Member) × (count : ThreadCounts)
+        × (slice_get (a.own ∷ a.rest) k ≡ Some share) × (slice_get counts k ≡ Some count)
+        × HasRunRounds (is k) (rounds program) name known share.own count.unreported
     ran_of zero name at =
         let same : leader_name ≡ name = cc in
-        let l = subst (λ (b : Bool). HasLedRoundsAs b (leads program) (rounds program) (string_bytes told.leader.name) (num_known told.leader.scopes) a.own.own outcome.leader.unreported) stated (a.led refl) in (
+        let l = subst (λ (b : Bool). HasLedRoundsAs b (leads program) (rounds program) (string_bytes told.leader.name)
+        (num_known told.leader.scopes) a.own.own outcome.leader.unreported) stated (a.led refl) in (
           a.own,
           outcome.leader,
           refl,
           refl,
-          subst (λ (m : ℕ). HasRunRounds (leads program) (rounds program) name m a.own.own outcome.leader.unreported) told.leader_named.1
-              (subst (λ (x : List ℕ). HasRunRounds (leads program) (rounds program) x (num_known told.leader.scopes) a.own.own outcome.leader.unreported) (told.leader_named.0 ∙ same) l),
+          subst (λ (m : ℕ). HasRunRounds (leads program) (rounds program) name m a.own.own outcome.leader.unreported)
+              told.leader_named.1
+              (subst (λ (x : List ℕ). HasRunRounds (leads program) (rounds program) x
+              (num_known told.leader.scopes) a.own.own outcome.leader.unreported) (told.leader_named.0 ∙ same) l),
         )
     ran_of (suc k) name at =
         let thread = there told.threads k (subst (λ (n : ℕ). k < n) (sym told.as_many) (slice_get_within names k name at)) in
         let it = a.each k thread.0 thread.1 in
         let named = told.named k thread.0 thread.1 in
-        let its_name : string_bytes thread.0.name ≡ name = at_most_one (slice_get names k) (string_bytes thread.0.name) name named.0 at in
-        let so = well_so (HasLedRoundsAs (states program) (runs program k) (rounds program) (string_bytes thread.0.name) (num_known thread.0.scopes) it.share.own it.ended.left.unreported) it.ended.result (it.went_well none) (it.told refl) in
-        let l = subst (λ (b : Bool). HasLedRoundsAs b (runs program k) (rounds program) (string_bytes thread.0.name) (num_known thread.0.scopes) it.share.own it.ended.left.unreported) stated so in (
+        let its_name : string_bytes thread.0.name ≡ name =
+        at_most_one (slice_get names k) (string_bytes thread.0.name) name named.0 at in
+        let so = well_so (HasLedRoundsAs (states program) (runs program k) (rounds program) (string_bytes thread.0.name)
+        (num_known thread.0.scopes) it.share.own it.ended.left.unreported) it.ended.result (it.went_well none) (it.told refl) in
+        let l = subst (λ (b : Bool). HasLedRoundsAs b (runs program k) (rounds program) (string_bytes thread.0.name)
+        (num_known thread.0.scopes) it.share.own it.ended.left.unreported) stated so in (
           it.share,
           it.count,
           it.share_is,
           it.count_is,
           subst (λ (w : ℕ). HasRunRounds (runs program k) (rounds program) name known it.share.own w) (sym it.unreported)
-              (subst (λ (m : ℕ). HasRunRounds (runs program k) (rounds program) name m it.share.own it.ended.left.unreported) named.1
-              (subst (λ (x : List ℕ). HasRunRounds (runs program k) (rounds program) x (num_known thread.0.scopes) it.share.own it.ended.left.unreported) its_name l)),
+              (subst (λ (m : ℕ). HasRunRounds (runs program k) (rounds program) name m it.share.own it.ended.left.unreported)
+              named.1
+              (subst (λ (x : List ℕ). HasRunRounds (runs program k) (rounds program) x
+              (num_known thread.0.scopes) it.share.own it.ended.left.unreported) its_name l)),
         )
 
-    all_ran : RanEach known (leader_first (AreRounds (rounds program) (leads program)) (λ number. AreRounds (rounds program) (runs program number))) its_names (a.own ∷ a.rest) counts
-    all_ran zero name at = let p = ran_of zero name at in (p.0, p.1, p.4.code, p.2, p.3, p.4.are, p.4.ran)
-    all_ran (suc k) name at = let p = ran_of (suc k) name at in (p.0, p.1, p.4.code, p.2, p.3, p.4.are, p.4.ran)
+    all_ran : RanEach known (leader_first (AreRounds (rounds program) (leads program))
+        (λ number. AreRounds (rounds program) (runs program number))) its_names (a.own ∷ a.rest) counts
+    all_ran zero name at =
+        let its = ran_of zero name at in
+        record {
+          share = its.0;
+          count = its.1;
+          code = its.4.code;
+          share_is = its.2;
+          count_is = its.3;
+          right = its.4.are;
+          ran = its.4.ran;
+        }
+    all_ran (suc k) name at =
+        let its = ran_of (suc k) name at in
+        record {
+          share = its.0;
+          count = its.1;
+          code = its.4.code;
+          share_is = its.2;
+          count_is = its.3;
+          right = its.4.are;
+          ran = its.4.ran;
+        }
 
     long : length (a.own ∷ a.rest) ≡ length its_names
     long = ap suc (a.as_many ∙ told.as_many)
@@ -298,26 +137,35 @@ module _ (C : Type 0) {W : Type 0} (states : W → Bool) (runs : W → ℕ → �
         as_many = a.took.as_many;
         handed = t.handed ∙ a.handed ∙ a.took.handed;
         left = t.left;
-        each = frames_show known (length t.shares) (leader_first (AreRounds (rounds program) (leads program)) (λ number. AreRounds (rounds program) (runs program number))) its_names (a.own ∷ a.rest) counts a.taker t.log t.pending all_ran long a.took.quiet recounts;
+        each = frames_show known (length t.shares)
+            (leader_first (AreRounds (rounds program) (leads program)) (λ number. AreRounds (rounds program) (runs program number)))
+            its_names (a.own ∷ a.rest) counts a.taker t.log t.pending all_ran long a.took.quiet recounts;
       };
       turns = num_released a.taker.own;
       within = a.taken.0;
       few = let f = few_frames (length (a.own ∷ a.rest)) 0 0 0 a.taker.own turns (omega arith) in omega (arith, f);
       each = λ full round below.
-          shows_then known (rounds program) (length t.shares) is its_names (a.own ∷ a.rest) a.taker t.log t.pending (λ k name at. let p = ran_of k name at in (p.0, p.1.unreported, p.2, p.4)) long a.took.quiet turns recounts full round (omega (arith, full, below));
+          shows_then known (rounds program) (length t.shares) is its_names (a.own ∷ a.rest) a.taker t.log t.pending
+          (λ k name at. let p = ran_of k name at in (p.0, p.1.unreported, p.2, p.4)) long a.took.quiet turns recounts full round
+          (omega (arith, full, below));
     }
 
-  shows : (known : ℕ) (leader_name : List ℕ) (names : List (List ℕ)) (program : W) (outcome : Outcome) → threads program ≡ suc (length names)
+  shows : (known : ℕ) (leader_name : List ℕ) (names : List (List ℕ)) (program : W) (outcome : Outcome)
+      → threads program ≡ suc (length names)
       → NamedTold tells led_tells took known leader_name names program outcome
       → RoundsShow (states program) known (rounds program) (leads program) (runs program) (leader_name ∷ names) outcome
   shows known leader_name names program outcome as_many told = by (states program) refl
     where
-      by : (b : Bool) → states program ≡ b → RoundsShow b known (rounds program) (leads program) (runs program) (leader_name ∷ names) outcome
+      by : (b : Bool) → states program ≡ b → RoundsShow b known (rounds program) (leads program) (runs program)
+          (leader_name ∷ names) outcome
       by false is = tt
       by true is = λ none. shown known leader_name names program outcome told is none as_many
 
-  pub rounds_show_if : {E : Type 0} (known : ℕ) (leader_name : List ℕ) (names : List (List ℕ)) (program : W) (r : Result Outcome E) → threads program ≡ suc (length names)
+  pub rounds_show_if : {E : Type 0} (known : ℕ) (leader_name : List ℕ) (names : List (List ℕ)) (program : W) (r : Result Outcome E)
+      → threads program ≡ suc (length names)
       → IfOk r (λ outcome. NamedTold tells led_tells took known leader_name names program outcome)
-      → IfOk r (λ outcome. RoundsShow (states program) known (rounds program) (leads program) (runs program) (leader_name ∷ names) outcome)
-  rounds_show_if known leader_name names program (Ok outcome) as_many told = shows known leader_name names program outcome as_many told
+      → IfOk r (λ outcome. RoundsShow (states program) known (rounds program) (leads program) (runs program)
+      (leader_name ∷ names) outcome)
+  rounds_show_if known leader_name names program (Ok outcome) as_many told =
+      shows known leader_name names program outcome as_many told
   rounds_show_if known leader_name names program (Err e) as_many told = tt

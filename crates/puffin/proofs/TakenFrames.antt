@@ -1,5 +1,6 @@
 -- What a share counts through which only frames are taken.
-use Rattle.std.proofs.Common.{◌≡◌, ℕ, ◌+◌, ◌<◌, ◌^◌, List, [], ◌∷◌, ◌++◌, Option, Some, None, length, inl, inr, refl, ap, sym, subst, ◌∙◌, arith}
+use Rattle.std.proofs.Common.{◌≡◌, ℕ, ◌+◌, ◌<◌, ◌^◌, List, [], ◌∷◌, ◌++◌, Option, Some, None, length, inl}
+use Rattle.std.proofs.Common.{inr, refl, ap, sym, subst, ◌∙◌, arith}
 use Rattle.std.specs.Arc.{arc_value}
 use Rattle.std.specs.FinMap as map
 use Rattle.std.specs.declared.sync.Arc.{Arc}
@@ -20,7 +21,8 @@ use Rattle.puffin.specs.Shares.{CountsFrame, SpellsItsScopes}
 use Rattle.puffin.specs.Taking.{CountsTaken, IsTaken, TakesMore, TakesLast, num_scopes_in, TookAll, FramesOnce}
 use Rattle.puffin.proofs.TellingShares.{nothing_told}
 
-no_report : (i : ThreadKey) (own : List Happening) (streams : Streams) → reports_under i (own ++ framed streams ∷ []) ≡ reports_under i own
+no_report : (i : ThreadKey) (own : List Happening) (streams : Streams)
+    → reports_under i (own ++ framed streams ∷ []) ≡ reports_under i own
 no_report i [] streams = refl
 no_report i (h ∷ hs) streams = ap (λ (rs : List StreamFacts). report_under i h ++ rs) (no_report i hs streams)
 
@@ -30,9 +32,11 @@ assoc (x ∷ xs) ys zs = ap (λ (rest : List Streams). x ∷ rest) (assoc xs ys 
 
 one_frame : (own : List Happening) (streams : Streams) → frames_in (own ++ framed streams ∷ []) ≡ frames_in own ++ streams ∷ []
 one_frame [] streams = refl
-one_frame (h ∷ hs) streams = ap (λ (fs : List Streams). frame_of h ++ fs) (one_frame hs streams) ∙ assoc (frame_of h) (frames_in hs) (streams ∷ [])
+one_frame (h ∷ hs) streams = ap (λ (fs : List Streams). frame_of h ++ fs) (one_frame hs streams)
+    ∙ assoc (frame_of h) (frames_in hs) (streams ∷ [])
 
-same_streams : (h : Holding) (a b : Streams) → h ≡ record { packed = None; unpacked = Some a } → h ≡ record { packed = None; unpacked = Some b } → a ≡ b
+same_streams : (h : Holding) (a b : Streams) → h ≡ record { packed = None; unpacked = Some a }
+    → h ≡ record { packed = None; unpacked = Some b } → a ≡ b
 same_streams h a b p q = let both = ap (λ (x : Holding). x.unpacked) (sym p ∙ q) in cc
 
 -- a share through which nothing happened
@@ -43,35 +47,51 @@ took_none m new = record {
   handed = ap (λ c. c.handed) new.counts ∙ sym (ap (λ (own : List Happening). num_scopes_in (frames_in own)) (nothing_told m new));
 }
 
-pub taken_more : {A : Type 0} (old new : Member) (f : Option (Arc FrameData A)) → TakesFrame old f new → IsTaken (frames_in old.own) f (frames_in new.own)
+pub taken_more : {A : Type 0} (old new : Member) (f : Option (Arc FrameData A)) → TakesFrame old f new
+    → IsTaken (frames_in old.own) f (frames_in new.own)
 taken_more old new None is = ap (λ (m : Member). frames_in m.own) is
 taken_more old new (Some frame) is = (is.1, is.3, ap frames_in is.4.own ∙ one_frame old.own is.1)
 
 -- and after one call more
-pub took_more : {A : Type 0} (old new : Member) (f : Option (Arc FrameData A)) (refused frames missed after missed_after : ℕ) → TakesFrame old f new → CountsFrame old.counts f new.counts → SpellsItsScopes f → CountsTaken f refused (frames, missed) (after, missed_after) → TookAll old frames
+pub took_more : {A : Type 0} (old new : Member) (f : Option (Arc FrameData A)) (refused frames missed after missed_after : ℕ)
+    → TakesFrame old f new → CountsFrame old.counts f new.counts → SpellsItsScopes f
+    → CountsTaken f refused (frames, missed) (after, missed_after) → TookAll old frames
     → TookAll new after
 took_more old new None refused frames missed after missed_after is counts spells counted took =
-    subst (λ (n : ℕ). TookAll new n) (sym (ap (λ (p : ℕ × ℕ). p.0) counted)) (subst (λ (m : Member). TookAll m frames) (sym is) took)
+    subst (λ (n : ℕ). TookAll new n) (sym (ap (λ (p : ℕ × ℕ). p.0) counted))
+    (subst (λ (m : Member). TookAll m frames) (sym is) took)
 took_more old new (Some frame) refused frames missed after missed_after is counts spells counted took =
     let due = is.1 in
     let more : frames_in new.own ≡ frames_in old.own ++ due ∷ [] = ap frames_in is.4.own ∙ one_frame old.own due in
-    let longer : length (frames_in new.own) ≡ length (frames_in old.own) + 1 = ap length more ∙ length-append (frames_in old.own) (due ∷ []) in
+    let longer : length (frames_in new.own) ≡ length (frames_in old.own) + 1 = ap length more
+    ∙ length-append (frames_in old.own) (due ∷ []) in
     let same : spells.0 ≡ due = same_streams (holding_of (arc_value frame)) spells.0 due spells.1 is.3 in
-    let whole : num_scopes_in (frames_in new.own) ≡ num_scopes_in (frames_in old.own) + total_scopes (map.values due) = ap num_scopes_in more ∙ sum_by-append (λ (s : Streams). total_scopes (map.values s)) (frames_in old.own) (due ∷ []) ∙ omega arith in
-    let one : (frame_meta (arc_value frame)).num_scopes ≡ total_scopes (map.values due) = spells.3 ∙ ap (λ (s : Streams). total_scopes (map.values s)) same in
+    let whole : num_scopes_in (frames_in new.own) ≡ num_scopes_in (frames_in old.own) + total_scopes (map.values due) =
+    ap num_scopes_in more ∙ sum_by-append (λ (s : Streams). total_scopes (map.values s)) (frames_in old.own) (due ∷ [])
+    ∙ omega arith in
+    let one : (frame_meta (arc_value frame)).num_scopes ≡ total_scopes (map.values due) = spells.3
+    ∙ ap (λ (s : Streams). total_scopes (map.values s)) same in
     record {
-      quiet = λ i. ap (λ (own : List Happening). length (reports_under i own)) is.4.own ∙ ap length (no_report i old.own due) ∙ took.quiet i;
-      as_many = λ few. let before : length (frames_in old.own) < 2 ^ 64 = omega (arith, few, longer) in let so_far = took.as_many before in counted.0 ∙ omega (arith, few, longer, so_far);
-      handed = let sum : new.counts.handed ≡ old.counts.handed + (frame_meta (arc_value frame)).num_scopes = ap (λ c. c.handed) counts in omega (arith, sum, one, whole, took.handed);
+      quiet = λ i. ap (λ (own : List Happening). length (reports_under i own)) is.4.own ∙ ap length (no_report i old.own due)
+          ∙ took.quiet i;
+      as_many = λ few. let before : length (frames_in old.own) < 2 ^ 64 = omega (arith, few, longer) in
+          let so_far = took.as_many before in counted.0 ∙ omega (arith, few, longer, so_far);
+      handed = let sum : new.counts.handed ≡ old.counts.handed + (frame_meta (arc_value frame)).num_scopes =
+          ap (λ c. c.handed) counts in omega (arith, sum, one, whole, took.handed);
     }
 
 -- ---- any number of frames
 
 -- no frame yet
 pub takes_none : (old : List Streams) → TakesMore old old
-takes_none old = record { more = []; behind = sym (append-nil old); honest = All-nil (λ s. AreHonest s × (0 < total_scopes (map.values s))) }
+takes_none old = record {
+  more = [];
+  behind = sym (append-nil old);
+  honest = All-nil (λ s. AreHonest s × (0 < total_scopes (map.values s)));
+}
 
-takes_one : {A : Type 0} (old before new : List Streams) (f : Option (Arc FrameData A)) → TakesMore old before → SpellsItsScopes f → IsTaken before f new → TakesMore old new
+takes_one : {A : Type 0} (old before new : List Streams) (f : Option (Arc FrameData A)) → TakesMore old before → SpellsItsScopes f
+    → IsTaken before f new → TakesMore old new
 takes_one old before new None takes spells is = subst (TakesMore old) (sym is) takes
 takes_one old before new (Some frame) takes spells is =
     let streams = is.0 in
@@ -85,15 +105,19 @@ takes_one old before new (Some frame) takes spells is =
     }
 
 -- and after one call more, whatever it answers
-pub takes_next : {A E X : Type 0} (r : Result X E) (frame : X → Option (Arc FrameData A)) (old before new : List Streams) → TakesMore old before → IfOk r (λ x. SpellsItsScopes (frame x)) → IfOk r (λ x. IsTaken before (frame x) new) → OnErr r (new ≡ before) → TakesMore old new
+pub takes_next : {A E X : Type 0} (r : Result X E) (frame : X → Option (Arc FrameData A)) (old before new : List Streams)
+    → TakesMore old before → IfOk r (λ x. SpellsItsScopes (frame x)) → IfOk r (λ x. IsTaken before (frame x) new)
+    → OnErr r (new ≡ before) → TakesMore old new
 takes_next (Ok x) frame old before new takes spells is same = takes_one old before new (frame x) takes spells is
 takes_next (Err e) frame old before new takes spells is same = subst (TakesMore old) (sym same) takes
 
-pub takes_last : {A E X : Type 0} (r : Result X E) (frame : X → Option (Arc FrameData A)) (old before new : List Streams) → TakesMore old before → IfOk r (λ x. IsTaken before (frame x) new) → IfOk r (λ x. TakesLast old (frame x) new)
+pub takes_last : {A E X : Type 0} (r : Result X E) (frame : X → Option (Arc FrameData A)) (old before new : List Streams)
+    → TakesMore old before → IfOk r (λ x. IsTaken before (frame x) new) → IfOk r (λ x. TakesLast old (frame x) new)
 takes_last (Ok x) frame old before new takes is = (before, takes, is)
 takes_last (Err e) frame old before new takes is = tt
 
-pub takes_refused : {E X : Type 0} (r : Result X E) (old before new : List Streams) → TakesMore old before → OnErr r (new ≡ before) → OnErr r (TakesMore old new)
+pub takes_refused : {E X : Type 0} (r : Result X E) (old before new : List Streams) → TakesMore old before → OnErr r (new ≡ before)
+    → OnErr r (TakesMore old new)
 takes_refused (Ok x) old before new takes same = tt
 takes_refused (Err e) old before new takes same = subst (TakesMore old) (sym same) takes
 
@@ -102,7 +126,9 @@ takes_refused (Err e) old before new takes same = subst (TakesMore old) (sym sam
 -- a share that marks something took as many frames
 pub still_took : (old new : Member) (mark : Mark) (frames : ℕ) → Marks old mark new → TookAll old frames → TookAll new frames
 still_took old new mark frames marks took = record {
-  quiet = λ i. ap (λ (own : List Happening). length (reports_under i own)) marks.own ∙ ap length (flat_map-append (report_under i) old.own (marked mark ∷ []) ∙ append-nil (reports_under i old.own)) ∙ took.quiet i;
+  quiet = λ i. ap (λ (own : List Happening). length (reports_under i own)) marks.own
+      ∙ ap length (flat_map-append (report_under i) old.own (marked mark ∷ []) ∙ append-nil (reports_under i old.own))
+      ∙ took.quiet i;
   as_many = λ few. took.as_many (subst (λ (fs : List Streams). length fs < 2 ^ 64) same few) ∙ ap length (sym same);
   handed = ap (λ c. c.handed) marks.counts ∙ took.handed ∙ ap num_scopes_in (sym same);
 }
@@ -111,7 +137,8 @@ still_took old new mark frames marks took = record {
     same = ap frames_in marks.own ∙ flat_map-append frame_of old.own (marked mark ∷ []) ∙ append-nil (frames_in old.own)
 
 -- whatever a call answers, its share tells of one frame more at most
-pub took_once : {A E X S : Type 0} (r : Result X E) (frame : X → Option (Arc FrameData A)) (old new : Member) → IfOk r (λ x. TakesFrame old (frame x) new) → (S → new ≡ old) → OnErr r S → FramesOnce old.own new.own
+pub took_once : {A E X S : Type 0} (r : Result X E) (frame : X → Option (Arc FrameData A)) (old new : Member)
+    → IfOk r (λ x. TakesFrame old (frame x) new) → (S → new ≡ old) → OnErr r S → FramesOnce old.own new.own
 took_once (Err e) frame old new takes is same = inl (ap (λ (m : Member). m.own) (is same))
 took_once (Ok x) frame old new takes is same = at (frame x) takes
   where

@@ -1,5 +1,7 @@
 -- What a thread's calls add to what its reporter tells, and to what waits.
-use Rattle.std.proofs.Common.{◌≡◌, ℕ, ◌+◌, ◌<◌, ℤ, Bool, List, [], ◌∷◌, ◌++◌, ◌^◌, length, map, Option, Some, None, Result, Ok, Err, true, false, ◌⊎◌, inl, inr, refl, sym, ap, ◌∙◌, subst, append_assoc, arith}
+use Rattle.std.proofs.Common.{◌≡◌, ℕ, ◌+◌, ◌<◌, ℤ, Bool, List, [], ◌∷◌, ◌++◌, ◌^◌, length, map, Option}
+use Rattle.std.proofs.Common.{Some, None, Result, Ok, Err, true, false, ◌⊎◌, inl, inr, refl, sym, ap, ◌∙◌, subst}
+use Rattle.std.proofs.Common.{append_assoc, arith}
 use Rattle.std.specs.Prelude.{slice_get}
 use Rattle.std.specs.Option.{option_or}
 use Rattle.std.proofs.lemmas.List.{append-nil, map-append}
@@ -11,18 +13,16 @@ use Rattle.puffin_data.specs.Forest.Spelling.{size_offset}
 use Rattle.puffin_data.specs.Forest.Tour.{Event, Open, Close, tour, IsBalanced}
 use Rattle.puffin_data.specs.Forest.Words.{word_size, open_after}
 use Rattle.puffin_data.specs.Honesty.{StreamFacts, AreHonestFacts}
-use Rattle.puffin_data.proofs.lemmas.Tours.{tour-append, one_tour}
+use Rattle.puffin_data.proofs.lemmas.Tours.{tour-append}
 use Rattle.puffin_data.proofs.lemmas.WordMeasures.{open_after-append}
 use Rattle.puffin_threads.specs.declared.thread_profiler.reporter.Closed.{Closed}
 use Rattle.puffin_threads.specs.declared.thread_profiler.reporter.Closed.TheVariants.{Inner, Reported, Kept}
 use Rattle.puffin_threads.specs.Thread.ThreadKey.{ThreadKey}
 use Rattle.puffin_threads.specs.Thread.Calls as calls
-use Rattle.puffin_threads.specs.Thread.Calls.{time_of, after_begin, after_end, after_handing, open_offsets, key_of_thread, new_thread}
+use Rattle.puffin_threads.specs.Thread.Calls.{time_of, after_begin, after_end, after_handing, open_offsets, key_of_thread}
 use Rattle.puffin_threads.specs.Thread.Closing.{Closes, IsReportOf, Reports, Waits, GoesTo}
 use Rattle.puffin_threads.specs.Details.{Details}
 use Rattle.puffin.specs.Happenings.{Happening, reported}
-use Rattle.puffin.specs.Telling.{AllFit}
-use Rattle.puffin.specs.Recounted.{SpellInTurn}
 use Rattle.puffin.proofs.lemmas.Offsets.{offsets-open, offsets-tour, depth-tour}
 use Rattle.puffin.proofs.lemmas.StartedThreads.{HasStarted, stays_started}
 
@@ -32,11 +32,13 @@ pub record Stage : Type 0 where
   pub thread : calls.Thread
   pub told : List Happening
 
+-- how many scopes are open then
 abbrev pub num_open : Stage → ℕ
-num_open m = open_after 0 m.thread.word
+num_open stage = open_after 0 stage.thread.word
 
+-- the start and the name under which the thread then reports
 abbrev pub key_at : Stage → ThreadKey
-key_at m = key_of_thread m.thread
+key_at stage = key_of_thread stage.thread
 
 -- reports under one key
 abbrev pub under : ThreadKey → List StreamFacts → List Happening
@@ -45,7 +47,11 @@ under key streams = map (reported key) streams
 -- the streams spell forests whose events are these, one after the other
 abbrev pub TellEvents : List StreamFacts → List Event → Type 0
 TellEvents [] events = events ≡ []
-TellEvents (r ∷ rs) events = (f : Forest) × (later : List Event) × AreHonestFacts r f × (length r.bytes < 2 ^ 64) × TellEvents rs later × (events ≡ tour f ++ later)
+TellEvents (stream ∷ streams) events = (forest : Forest) × (later : List Event)
+    × AreHonestFacts stream forest
+    × (length stream.bytes < 2 ^ 64)
+    × TellEvents streams later
+    × (events ≡ tour forest ++ later)
 
 -- Where no scope is open: first events were reported, and the others wait. Nothing is lost, doubled or moved.
 pub record Passes (old new : Stage) (events : List Event) : Type 0 where
@@ -58,27 +64,37 @@ pub record Passes (old new : Stage) (events : List Event) : Type 0 where
   pub unstarted : new.thread.first_start ≡ None → streams ≡ []
 
 -- Code added these scopes to a thread, in order and with this nesting. Within an open scope nothing is reported.
-pub record Adds (old new : Stage) (f : Forest) : Type 0 where
+pub record Adds (old new : Stage) (forest : Forest) : Type 0 where
   pub name : new.thread.name ≡ old.thread.name
   pub form : new.thread.form ≡ old.thread.form
   pub known : new.known ≡ old.known
   pub started : (t : ℤ) → old.thread.first_start ≡ Some t → new.thread.first_start ≡ Some t
-  pub word : 0 < num_open old → new.thread.word ≡ old.thread.word ++ tour f
+  pub word : 0 < num_open old → new.thread.word ≡ old.thread.word ++ tour forest
   pub told : 0 < num_open old → new.told ≡ old.told
   pub none_open : num_open old ≡ 0 → num_open new ≡ 0
-  pub passed : num_open old ≡ 0 → Passes old new (tour f)
+  pub passed : num_open old ≡ 0 → Passes old new (tour forest)
   -- before the first scope there is none
-  pub none : new.thread.first_start ≡ None → tour f ≡ []
+  pub none : new.thread.first_start ≡ None → tour forest ≡ []
 
 -- ---- nothing, and one piece after another
 
 kept_both : {A : Type 0} (r s o m n d e : List A) → r ++ m ≡ o ++ d → s ++ n ≡ m ++ e → (r ++ s) ++ n ≡ o ++ (d ++ e)
-kept_both r s o m n d e p q = append_assoc r s n ∙ ap (λ x. r ++ x) q ∙ sym (append_assoc r m e) ∙ ap (λ x. x ++ e) p ∙ append_assoc o d e
+kept_both r s o m n d e p q = append_assoc r s n ∙ ap (λ x. r ++ x) q ∙ sym (append_assoc r m e) ∙ ap (λ x. x ++ e) p
+    ∙ append_assoc o d e
 
-tell_both : (rs ss : List StreamFacts) (u v : List Event) → TellEvents rs u → TellEvents ss v → TellEvents (rs ++ ss) (u ++ v)
-tell_both [] ss u v h k = subst (λ (w : List Event). TellEvents ss (w ++ v)) (sym h) k
-tell_both (r ∷ rs) ss u v (f, later, honest, fit, h, is) k = (f, later ++ v, honest, fit, tell_both rs ss later v h k, ap (λ (w : List Event). w ++ v) is ∙ append_assoc (tour f) later v)
+tell_both : (streams others : List StreamFacts) (events next : List Event) → TellEvents streams events → TellEvents others next
+    → TellEvents (streams ++ others) (events ++ next)
+tell_both [] others events next none more = subst (λ (w : List Event). TellEvents others (w ++ next)) (sym none) more
+tell_both (stream ∷ streams) others events next (forest, later, honest, fit, rest, is) more = (
+  forest,
+  later ++ next,
+  honest,
+  fit,
+  tell_both streams others later next rest more,
+  ap (λ (w : List Event). w ++ next) is ∙ append_assoc (tour forest) later next,
+)
 
+-- where nothing was reported, all events wait
 pub quiet : (a b : Stage) (f : Forest) → b.thread.word ≡ a.thread.word ++ tour f → b.told ≡ a.told → Passes a b (tour f)
 quiet a b f word same = record {
   streams = [];
@@ -86,7 +102,7 @@ quiet a b f word same = record {
   told = same ∙ sym (append-nil a.told);
   spelled = refl;
   kept = word;
-  balanced = λ h. (append h.0 f, word ∙ ap (λ (w : List Event). w ++ tour f) h.1 ∙ sym (tour-append h.0 f));
+  balanced = λ (before, is). (append before f, word ∙ ap (λ (w : List Event). w ++ tour f) is ∙ sym (tour-append before f));
   unstarted = λ none. refl;
 }
 
@@ -103,14 +119,19 @@ adds_nothing m = record {
   none = λ none. refl;
 }
 
-not_yet : (m n : Stage) → ((t : ℤ) → m.thread.first_start ≡ Some t → n.thread.first_start ≡ Some t) → n.thread.first_start ≡ None → m.thread.first_start ≡ None
+-- what hasn't started later hadn't started before
+not_yet : (m n : Stage) → ((t : ℤ) → m.thread.first_start ≡ Some t → n.thread.first_start ≡ Some t)
+    → n.thread.first_start ≡ None → m.thread.first_start ≡ None
 not_yet m n started none = at_start m.thread.first_start refl
   where
     at_start : (s : Option ℤ) → m.thread.first_start ≡ s → m.thread.first_start ≡ None
     at_start None is = is
     at_start (Some t) is = absurd (let later = started t is in cc)
 
-module _ (o m n : Stage) (f g : List Event) (name : n.thread.name ≡ m.thread.name) (started : (t : ℤ) → m.thread.first_start ≡ Some t → n.thread.first_start ≡ Some t) (p : Passes o m f) (q : Passes m n g) where
+-- from `o` to `m` these events passed, and from there to `n` those
+module _ (o m n : Stage) (f g : List Event)
+    (name : n.thread.name ≡ m.thread.name) (started : (t : ℤ) → m.thread.first_start ≡ Some t → n.thread.first_start ≡ Some t)
+    (p : Passes o m f) (q : Passes m n g) where
   earlier : n.thread.first_start ≡ None → m.thread.first_start ≡ None
   earlier = not_yet m n started
 
@@ -129,7 +150,8 @@ module _ (o m n : Stage) (f g : List Event) (name : n.thread.name ≡ m.thread.n
   passes_both = record {
     streams = p.streams ++ q.streams;
     reported = p.reported ++ q.reported;
-    told = q.told ∙ ap (λ (rs : List Happening). rs ++ under (key_at n) q.streams) (p.told ∙ ap (λ (rs : List Happening). o.told ++ rs) same_under)
+    told = q.told ∙ ap (λ (rs : List Happening). rs ++ under (key_at n) q.streams)
+        (p.told ∙ ap (λ (rs : List Happening). o.told ++ rs) same_under)
         ∙ append_assoc o.told (under (key_at n) p.streams) (under (key_at n) q.streams)
         ∙ ap (λ (rs : List Happening). o.told ++ rs) (sym (map-append (reported (key_at n)) p.streams q.streams));
     spelled = tell_both p.streams q.streams p.reported q.reported p.spelled q.spelled;
@@ -144,10 +166,12 @@ adds_both o m n f g p q = record {
   form = q.form ∙ p.form;
   known = q.known ∙ p.known;
   started = λ t h. q.started t (p.started t h);
-  word = λ some. q.word (still some) ∙ ap (λ (w : List Event). w ++ tour g) (p.word some) ∙ append_assoc o.thread.word (tour f) (tour g) ∙ ap (λ (w : List Event). o.thread.word ++ w) (sym (tour-append f g));
+  word = λ some. q.word (still some) ∙ ap (λ (w : List Event). w ++ tour g) (p.word some)
+      ∙ append_assoc o.thread.word (tour f) (tour g) ∙ ap (λ (w : List Event). o.thread.word ++ w) (sym (tour-append f g));
   told = λ some. q.told (still some) ∙ p.told some;
   none_open = λ none. q.none_open (p.none_open none);
-  passed = λ none. subst (λ (w : List Event). Passes o n w) (sym (tour-append f g)) (passes_both o m n (tour f) (tour g) q.name q.started (p.passed none) (q.passed (p.none_open none)));
+  passed = λ none. subst (λ (w : List Event). Passes o n w) (sym (tour-append f g))
+      (passes_both o m n (tour f) (tour g) q.name q.started (p.passed none) (q.passed (p.none_open none)));
   none = λ none. tour-append f g ∙ ap (λ (w : List Event). w ++ tour g) (p.none (not_yet m n q.started none)) ∙ q.none none;
 }
   where
@@ -167,57 +191,67 @@ pub some_first : (s : Option ℤ) (t : ℤ) → (y : ℤ) × (option_or s (Some 
 some_first None t = (t, refl)
 some_first (Some y) t = (y, refl)
 
-module _ (a b n d : Stage) (id : ℕ) (text : List ℕ) (at at2 : ℤ) (f : Forest)
-    (begun : b.thread ≡ after_begin a.thread id text at) (still : b.told ≡ a.told) (known : b.known ≡ a.known) (body : Adds b n f) where
+-- A scope began on `old`, which is then `opened`. Code filled it, which gives `filled`. Its end gives `new`.
+module _ (old opened filled new : Stage) (id : ℕ) (text : List ℕ) (at at2 : ℤ) (f : Forest)
+    (begun : opened.thread ≡ after_begin old.thread id text at)
+    (still : opened.told ≡ old.told) (known : opened.known ≡ old.known) (body : Adds opened filled f) where
   abbrev opening : Event
-  opening = Open id text (time_of a.thread at)
+  opening = Open id text (time_of old.thread at)
 
   abbrev closing : Event
-  closing = Close (time_of n.thread at2)
+  closing = Close (time_of filled.thread at2)
 
   abbrev whole : Forest
-  whole = node (record { id = id; start = time_of a.thread at; stop = time_of n.thread at2; text = text }) f empty
+  whole = node (record { id = id; start = time_of old.thread at; stop = time_of filled.thread at2; text = text }) f empty
 
-  one_more : num_open b ≡ num_open a + 1
-  one_more = ap (λ (t : calls.Thread). open_after 0 t.word) begun ∙ open_after-append 0 a.thread.word (opening ∷ [])
+  one_more : num_open opened ≡ num_open old + 1
+  one_more = ap (λ (t : calls.Thread). open_after 0 t.word) begun ∙ open_after-append 0 old.thread.word (opening ∷ [])
 
-  deep : 0 < num_open b
+  deep : 0 < num_open opened
   deep = let h = one_more in omega arith
 
-  same_depth : num_open n ≡ num_open a + 1
-  same_depth = ap (open_after 0) (body.word deep) ∙ depth-tour b.thread.word f ∙ one_more
+  same_depth : num_open filled ≡ num_open old + 1
+  same_depth = ap (open_after 0) (body.word deep) ∙ depth-tour opened.thread.word f ∙ one_more
 
-  word_then : n.thread.word ≡ a.thread.word ++ (opening ∷ tour f)
-  word_then = body.word deep ∙ ap (λ (t : calls.Thread). t.word ++ tour f) begun ∙ append_assoc a.thread.word (opening ∷ []) (tour f)
+  word_then : filled.thread.word ≡ old.thread.word ++ (opening ∷ tour f)
+  word_then = body.word deep ∙ ap (λ (t : calls.Thread). t.word ++ tour f) begun
+      ∙ append_assoc old.thread.word (opening ∷ []) (tour f)
 
-  told_then : n.told ≡ a.told
+  told_then : filled.told ≡ old.told
   told_then = body.told deep ∙ still
 
   -- the innermost scope is this one
-  pub innermost : slice_get (open_offsets n.thread.form n.thread.word) 0 ≡ Some (word_size a.thread.form a.thread.word + size_offset a.thread.form text)
+  pub innermost : slice_get (open_offsets filled.thread.form filled.thread.word) 0
+      ≡ Some (word_size old.thread.form old.thread.word + size_offset old.thread.form text)
   innermost =
-      let form : n.thread.form ≡ a.thread.form = body.form ∙ ap (λ (t : calls.Thread). t.form) begun in
-      ap (λ (x : Form). slice_get (open_offsets x n.thread.word) 0) form
-      ∙ ap (λ (w : List Event). slice_get (open_offsets a.thread.form w) 0) (body.word deep)
-      ∙ ap (λ (xs : List ℕ). slice_get xs 0) (offsets-tour a.thread.form b.thread.word f ∙ ap (λ (t : calls.Thread). open_offsets a.thread.form t.word) begun ∙ offsets-open a.thread.form a.thread.word id text (time_of a.thread at))
+      let form : filled.thread.form ≡ old.thread.form = body.form ∙ ap (λ (t : calls.Thread). t.form) begun in
+      ap (λ (x : Form). slice_get (open_offsets x filled.thread.word) 0) form
+      ∙ ap (λ (w : List Event). slice_get (open_offsets old.thread.form w) 0) (body.word deep)
+      ∙ ap (λ (xs : List ℕ). slice_get xs 0)
+      (offsets-tour old.thread.form opened.thread.word f ∙ ap (λ (t : calls.Thread). open_offsets old.thread.form t.word) begun
+      ∙ offsets-open old.thread.form old.thread.word id text (time_of old.thread at))
 
   -- it has begun
-  has_begun : (y : ℤ) × (n.thread.first_start ≡ Some y)
-  has_begun = let first = some_first a.thread.first_start (time_of a.thread at) in
+  has_begun : (y : ℤ) × (filled.thread.first_start ≡ Some y)
+  has_begun = let first = some_first old.thread.first_start (time_of old.thread at) in
       (first.0, body.started first.0 (ap (λ (t : calls.Thread). t.first_start) begun ∙ first.1))
 
-  pub around : d.known ≡ n.known → (closed : Closed) → Closes Accepts Refuses n.thread d.thread at2 n.told d.told closed → Adds a d whole
+  pub around : new.known ≡ filled.known → (closed : Closed)
+      → Closes Accepts Refuses filled.thread new.thread at2 filled.told new.told closed
+      → Adds old new whole
   around later_known = at_close
     where
-      word_full : n.thread.word ++ (closing ∷ []) ≡ a.thread.word ++ tour whole
-      word_full = ap (λ (w : List Event). w ++ (closing ∷ [])) word_then ∙ append_assoc a.thread.word (opening ∷ tour f) (closing ∷ [])
+      word_full : filled.thread.word ++ (closing ∷ []) ≡ old.thread.word ++ tour whole
+      word_full = ap (λ (w : List Event). w ++ (closing ∷ [])) word_then
+          ∙ append_assoc old.thread.word (opening ∷ tour f) (closing ∷ [])
 
-      stays : (t : ℤ) → a.thread.first_start ≡ Some t → n.thread.first_start ≡ Some t
-      stays t h = body.started t (ap (λ (u : calls.Thread). u.first_start) begun ∙ ap (λ (s : Option ℤ). option_or s (Some (time_of a.thread at))) h)
+      stays : (t : ℤ) → old.thread.first_start ≡ Some t → filled.thread.first_start ≡ Some t
+      stays t h = body.started t (ap (λ (u : calls.Thread). u.first_start) begun
+          ∙ ap (λ (s : Option ℤ). option_or s (Some (time_of old.thread at))) h)
 
-      quiet_end : d.thread ≡ after_end n.thread at2 → d.told ≡ n.told → Adds a d whole
+      quiet_end : new.thread ≡ after_end filled.thread at2 → new.told ≡ filled.told → Adds old new whole
       quiet_end ended same =
-          let word : d.thread.word ≡ a.thread.word ++ tour whole = ap (λ (t : calls.Thread). t.word) ended ∙ word_full in
+          let word : new.thread.word ≡ old.thread.word ++ tour whole = ap (λ (t : calls.Thread). t.word) ended ∙ word_full in
           record {
             name = ap (λ (t : calls.Thread). t.name) ended ∙ body.name ∙ ap (λ (t : calls.Thread). t.name) begun;
             form = ap (λ (t : calls.Thread). t.form) ended ∙ body.form ∙ ap (λ (t : calls.Thread). t.form) begun;
@@ -225,50 +259,63 @@ module _ (a b n d : Stage) (id : ℕ) (text : List ℕ) (at at2 : ℤ) (f : Fore
             started = λ t h. ap (λ (u : calls.Thread). u.first_start) ended ∙ stays t h;
             word = λ some. word;
             told = λ some. same ∙ told_then;
-            none_open = λ none. ap (open_after 0) word ∙ depth-tour a.thread.word whole ∙ none;
-            passed = λ none. quiet a d whole word (same ∙ told_then);
-            none = λ not. absurd (let first = has_begun.1 in let same_first : d.thread.first_start ≡ n.thread.first_start = ap (λ (u : calls.Thread). u.first_start) ended in cc);
+            none_open = λ none. ap (open_after 0) word ∙ depth-tour old.thread.word whole ∙ none;
+            passed = λ none. quiet old new whole word (same ∙ told_then);
+            none = λ not. absurd (let first = has_begun.1 in let same_first : new.thread.first_start ≡ filled.thread.first_start =
+                ap (λ (u : calls.Thread). u.first_start) ended in cc);
           }
 
-      reported_end : open_after 0 n.thread.word ≡ 1 → d.thread ≡ after_handing (after_end n.thread at2) → (r : StreamFacts) → IsReportOf (after_end n.thread at2) r → Accepts n.told (key_of_thread (after_end n.thread at2)) n.thread.details r d.told → Adds a d whole
+      reported_end : open_after 0 filled.thread.word ≡ 1 → new.thread ≡ after_handing (after_end filled.thread at2)
+          → (r : StreamFacts)
+          → IsReportOf (after_end filled.thread at2) r
+          → Accepts filled.told (key_of_thread (after_end filled.thread at2)) filled.thread.details r new.told → Adds old new whole
       reported_end one handed r is accepted =
-          let outer : 0 < num_open a → ⊥ = λ some. let h = same_depth in omega arith in
+          let none_outside : 0 < num_open old → ⊥ = λ some. let h = same_depth in omega arith in
           record {
             name = ap (λ (t : calls.Thread). t.name) handed ∙ body.name ∙ ap (λ (t : calls.Thread). t.name) begun;
             form = ap (λ (t : calls.Thread). t.form) handed ∙ body.form ∙ ap (λ (t : calls.Thread). t.form) begun;
             known = later_known ∙ body.known ∙ known;
             started = λ t h. ap (λ (u : calls.Thread). u.first_start) handed ∙ stays t h;
-            word = λ some. absurd (outer some);
-            told = λ some. absurd (outer some);
+            word = λ some. absurd (none_outside some);
+            told = λ some. absurd (none_outside some);
             none_open = λ none. ap (λ (t : calls.Thread). open_after 0 t.word) handed;
             passed = λ none. record {
               streams = r ∷ [];
-              reported = n.thread.word ++ (closing ∷ []);
-              told = accepted.0 ∙ ap (λ (hs : List Happening). hs ++ reported (key_of_thread (after_end n.thread at2)) r ∷ []) told_then ∙ ap (λ (k : ThreadKey). a.told ++ reported k r ∷ []) (sym (ap key_of_thread handed));
+              reported = filled.thread.word ++ (closing ∷ []);
+              told = accepted.0 ∙ ap (λ (hs : List Happening). hs ++ reported (key_of_thread (after_end filled.thread at2)) r ∷ [])
+                  told_then ∙ ap (λ (k : ThreadKey). old.told ++ reported k r ∷ []) (sym (ap key_of_thread handed));
               spelled = (is.forest, [], is.honest, accepted.1, refl, is.word ∙ sym (append-nil (tour is.forest)));
-              kept = ap (λ (t : calls.Thread). (n.thread.word ++ (closing ∷ [])) ++ t.word) handed ∙ append-nil (n.thread.word ++ (closing ∷ [])) ∙ word_full;
+              kept = ap (λ (t : calls.Thread). (filled.thread.word ++ (closing ∷ [])) ++ t.word) handed
+                  ∙ append-nil (filled.thread.word ++ (closing ∷ [])) ∙ word_full;
               balanced = λ h. (empty, ap (λ (t : calls.Thread). t.word) handed);
-              unstarted = λ not. absurd (let first = has_begun.1 in let same : d.thread.first_start ≡ n.thread.first_start = ap (λ (u : calls.Thread). u.first_start) handed in cc);
+              unstarted = λ not. absurd (let first = has_begun.1 in let same : new.thread.first_start ≡ filled.thread.first_start =
+                  ap (λ (u : calls.Thread). u.first_start) handed in cc);
             };
-            none = λ not. absurd (let first = has_begun.1 in let same : d.thread.first_start ≡ n.thread.first_start = ap (λ (u : calls.Thread). u.first_start) handed in cc);
+            none = λ not. absurd (let first = has_begun.1 in let same : new.thread.first_start ≡ filled.thread.first_start =
+                ap (λ (u : calls.Thread). u.first_start) handed in cc);
           }
 
-      at_close : (closed : Closed) → Closes Accepts Refuses n.thread d.thread at2 n.told d.told closed → Adds a d whole
-      at_close Inner h = quiet_end h.1 h.2
-      at_close Reported h = reported_end h.0 h.1 h.2.0 h.2.1 h.2.2
-      at_close (Kept e) h = quiet_end h.1 h.2.2
+      at_close : (closed : Closed) → Closes Accepts Refuses filled.thread new.thread at2 filled.told new.told closed
+          → Adds old new whole
+      at_close Inner (inner, ended, untold) = quiet_end ended untold
+      at_close Reported (outermost, handed, (report, is, accepted)) = reported_end outermost handed report is accepted
+      at_close (Kept error) (outermost, ended, (report, is, refused)) = quiet_end ended refused
 
 -- ---- a report of what waits
 
 -- all that waits was reported, or it still waits
-pub reports_pass : (m n : Stage) (result : Result Bool Error) → (n.thread.first_start ≡ None → m.thread.word ≡ []) → Reports Accepts Refuses m.thread n.thread m.told n.told result → Passes m n []
-reports_pass m n (Ok false) some h = same m n (ap (λ (t : calls.Thread). t.word) h.1) h.2
+pub reports_pass : (m n : Stage) (result : Result Bool Error) → (n.thread.first_start ≡ None → m.thread.word ≡ [])
+    → Reports Accepts Refuses m.thread n.thread m.told n.told result → Passes m n []
+reports_pass m n (Ok false) some (nothing, kept, untold) = same m n (ap (λ (t : calls.Thread). t.word) kept) untold
   where
     same : (m n : Stage) → n.thread.word ≡ m.thread.word → n.told ≡ m.told → Passes m n []
     same m n word told = quiet m n empty (word ∙ sym (append-nil m.thread.word)) told
-reports_pass m n (Err e) some h = quiet m n empty (ap (λ (t : calls.Thread). t.word) h.0 ∙ sym (append-nil m.thread.word)) (at_cause h.1)
+reports_pass m n (Err e) some (kept, cause) =
+    quiet m n empty (ap (λ (t : calls.Thread). t.word) kept ∙ sym (append-nil m.thread.word)) (at_cause cause)
   where
-    at_cause : ((0 < open_after 0 m.thread.word) × (e ≡ ScopesOpen) × (n.told ≡ m.told)) ⊎ (Waits m.thread × (((e ≡ Memory) × (n.told ≡ m.told)) ⊎ GoesTo (λ b i d r a. Refuses b i d r e a) m.thread m.told n.told)) → n.told ≡ m.told
+    at_cause : ((0 < open_after 0 m.thread.word) × (e ≡ ScopesOpen) × (n.told ≡ m.told))
+        ⊎ (Waits m.thread × (((e ≡ Memory) × (n.told ≡ m.told))
+        ⊎ GoesTo (λ b i d r a. Refuses b i d r e a) m.thread m.told n.told)) → n.told ≡ m.told
     at_cause (inl opened) = opened.2
     at_cause (inr (_, inl memory)) = memory.1
     at_cause (inr (_, inr refused)) = refused.2
@@ -283,18 +330,24 @@ reports_pass m n (Ok true) some (waits, handed, (r, is, accepted)) = record {
 }
 
 -- the thread's name and first start stay
-pub reports_stay : (old new : calls.Thread) (before after : List Happening) (result : Result Bool Error) → Reports Accepts Refuses old new before after result → (new.name ≡ old.name) × (new.first_start ≡ old.first_start)
-reports_stay old new before after (Ok false) h = (ap (λ (t : calls.Thread). t.name) h.1, ap (λ (t : calls.Thread). t.first_start) h.1)
-reports_stay old new before after (Ok true) h = (ap (λ (t : calls.Thread). t.name) h.1, ap (λ (t : calls.Thread). t.first_start) h.1)
-reports_stay old new before after (Err e) h = (ap (λ (t : calls.Thread). t.name) h.0, ap (λ (t : calls.Thread). t.first_start) h.0)
+pub reports_stay : (old new : calls.Thread) (before after : List Happening) (result : Result Bool Error)
+    → Reports Accepts Refuses old new before after result → (new.name ≡ old.name) × (new.first_start ≡ old.first_start)
+reports_stay old new before after (Ok false) (nothing, kept, untold) =
+    (ap (λ (t : calls.Thread). t.name) kept, ap (λ (t : calls.Thread). t.first_start) kept)
+reports_stay old new before after (Ok true) (waits, handed, goes) =
+    (ap (λ (t : calls.Thread). t.name) handed, ap (λ (t : calls.Thread). t.first_start) handed)
+reports_stay old new before after (Err e) (kept, cause) =
+    (ap (λ (t : calls.Thread). t.name) kept, ap (λ (t : calls.Thread). t.first_start) kept)
 
 -- after code, what waits has begun, if it had before
 pub adds_started : (o m : Stage) (f : Forest) → HasStarted o.thread → Adds o m f → HasStarted m.thread
 adds_started o m f started adds =
-    stays_started o.thread m.thread (tour f) started (λ none. (not_yet o m adds.started none, adds.none none)) adds.word (λ shut. let p = adds.passed shut in (p.reported, p.kept))
+    stays_started o.thread m.thread (tour f) started (λ none. (not_yet o m adds.started none, adds.none none)) adds.word
+    (λ shut. let p = adds.passed shut in (p.reported, p.kept))
 
 -- a report of what waits adds nothing
-pub adds_report : (m n : Stage) (result : Result Bool Error) → HasStarted m.thread → n.known ≡ m.known → Reports Accepts Refuses m.thread n.thread m.told n.told result → Adds m n empty
+pub adds_report : (m n : Stage) (result : Result Bool Error) → HasStarted m.thread → n.known ≡ m.known
+    → Reports Accepts Refuses m.thread n.thread m.told n.told result → Adds m n empty
 adds_report m n result started known h = record {
   name = stay.0;
   form = form_stays m.thread n.thread m.told n.told result h;
@@ -310,63 +363,31 @@ adds_report m n result started known h = record {
     stay : (n.thread.name ≡ m.thread.name) × (n.thread.first_start ≡ m.thread.first_start)
     stay = reports_stay m.thread n.thread m.told n.told result h
 
-    form_stays : (old new : calls.Thread) (before after : List Happening) (result : Result Bool Error) → Reports Accepts Refuses old new before after result → new.form ≡ old.form
-    form_stays old new before after (Ok false) h = ap (λ (t : calls.Thread). t.form) h.1
-    form_stays old new before after (Ok true) h = ap (λ (t : calls.Thread). t.form) h.1
-    form_stays old new before after (Err e) h = ap (λ (t : calls.Thread). t.form) h.0
+    form_stays : (old new : calls.Thread) (before after : List Happening) (result : Result Bool Error)
+        → Reports Accepts Refuses old new before after result → new.form ≡ old.form
+    form_stays old new before after (Ok false) (nothing, kept, untold) = ap (λ (t : calls.Thread). t.form) kept
+    form_stays old new before after (Ok true) (waits, handed, goes) = ap (λ (t : calls.Thread). t.form) handed
+    form_stays old new before after (Err e) (kept, cause) = ap (λ (t : calls.Thread). t.form) kept
 
-    same_word : (result : Result Bool Error) → Reports Accepts Refuses m.thread n.thread m.told n.told result → 0 < num_open m → n.thread.word ≡ m.thread.word
-    same_word (Ok false) h some = ap (λ (t : calls.Thread). t.word) h.1
-    same_word (Ok true) h some = absurd (let none = h.0.none_open in omega arith)
-    same_word (Err e) h some = ap (λ (t : calls.Thread). t.word) h.0
+    same_word : (result : Result Bool Error) → Reports Accepts Refuses m.thread n.thread m.told n.told result → 0 < num_open m
+        → n.thread.word ≡ m.thread.word
+    same_word (Ok false) (nothing, kept, untold) some = ap (λ (t : calls.Thread). t.word) kept
+    same_word (Ok true) (waits, handed, goes) some = absurd (let none = waits.none_open in omega arith)
+    same_word (Err e) (kept, cause) some = ap (λ (t : calls.Thread). t.word) kept
 
     open_stays : 0 < num_open m → n.thread.word ≡ m.thread.word
     open_stays some = same_word result h some
 
-    untold : (result : Result Bool Error) → Reports Accepts Refuses m.thread n.thread m.told n.told result → 0 < num_open m → n.told ≡ m.told
-    untold (Ok false) h some = h.2
-    untold (Ok true) h some = absurd (let none = h.0.none_open in omega arith)
+    untold : (result : Result Bool Error) → Reports Accepts Refuses m.thread n.thread m.told n.told result → 0 < num_open m
+        → n.told ≡ m.told
+    untold (Ok false) (nothing, kept, same) some = same
+    untold (Ok true) (waits, handed, goes) some = absurd (let none = waits.none_open in omega arith)
     untold (Err e) (same, inl opened) some = opened.2
     untold (Err e) (same, inr (waits, inl memory)) some = memory.1
     untold (Err e) (same, inr (waits, inr refused)) some = refused.2
 
-    shut : (result : Result Bool Error) → Reports Accepts Refuses m.thread n.thread m.told n.told result → num_open m ≡ 0 → num_open n ≡ 0
-    shut (Ok false) h none = ap (λ (t : calls.Thread). open_after 0 t.word) h.1 ∙ none
-    shut (Ok true) h none = ap (λ (t : calls.Thread). open_after 0 t.word) h.1
-    shut (Err e) h none = ap (λ (t : calls.Thread). open_after 0 t.word) h.0 ∙ none
-
--- ---- all that code on a new thread told
-
-told_forest : (rs : List StreamFacts) (events : List Event) → TellEvents rs events → (g : Forest) × (SpellInTurn rs g × AllFit rs) × (events ≡ tour g)
-told_forest [] events h = (empty, (refl, tt), h)
-told_forest (r ∷ rs) events (f, later, honest, fit, h, is) =
-    let t = told_forest rs later h in
-    (append f t.0, ((f, t.0, honest, t.1.0, refl), (fit, t.1.1)), is ∙ ap (λ (w : List Event). tour f ++ w) t.2 ∙ sym (tour-append f t.0))
-
--- What has passed of a new thread that added these scopes: what was told and what waits are just these.
-pub told_passed : (o n : Stage) (f : Forest) (name : List ℕ) (form : Form) → o.thread ≡ new_thread name form → n.thread.name ≡ name → Passes o n (tour f)
-    → (start : Option ℤ) × (streams : List StreamFacts) × (n.told ≡ o.told ++ under (record { start = start; name = name }) streams) × (shown waits : Forest) × (SpellInTurn streams shown × AllFit streams) × (append shown waits ≡ f) × (n.thread.word ≡ tour waits)
-told_passed o n f name form first its_name all =
-    let word : o.thread.word ≡ [] = ap (λ (t : calls.Thread). t.word) first in
-    let g = told_forest all.streams all.reported all.spelled in
-    let rest = all.balanced (empty, word) in
-    let whole : tour (append g.0 rest.0) ≡ tour f = tour-append g.0 rest.0 ∙ ap (λ (w : List Event). w ++ tour rest.0) (sym g.2) ∙ ap (λ (w : List Event). all.reported ++ w) (sym rest.1) ∙ all.kept ∙ ap (λ (w : List Event). w ++ tour f) word in
-    (n.thread.first_start, all.streams, all.told ∙ ap (λ (x : List ℕ). o.told ++ under (record { start = n.thread.first_start; name = x }) all.streams) its_name, g.0, rest.0, g.1, one_tour (append g.0 rest.0) f whole, rest.1)
-
--- Code added these scopes to a new thread, and then what waited was reported, or not. What was told and what waits are just these.
-pub told_all : (o m n : Stage) (f : Forest) (name : List ℕ) (form : Form) (result : Result Bool Error) → o.thread ≡ new_thread name form → Adds o m f → Reports Accepts Refuses m.thread n.thread m.told n.told result
-    → (start : Option ℤ) × (streams : List StreamFacts) × (n.told ≡ o.told ++ under (record { start = start; name = name }) streams) × (shown waits : Forest) × (SpellInTurn streams shown × AllFit streams) × (append shown waits ≡ f) × (n.thread.word ≡ tour waits)
-told_all o m n f name form result first adds reports =
-    let word : o.thread.word ≡ [] = ap (λ (t : calls.Thread). t.word) first in
-    let shut : num_open o ≡ 0 = ap (open_after 0) word in
-    let p = adds.passed shut in
-    let stay = reports_stay m.thread n.thread m.told n.told result reports in
-    let begun : n.thread.first_start ≡ None → m.thread.word ≡ [] = λ none. nothing_waits p (sym stay.1 ∙ none) (adds.none (sym stay.1 ∙ none)) word in
-    let q = reports_pass m n result begun reports in
-    let all = passes_both o m n (tour f) [] stay.0 (λ t h. stay.1 ∙ h) p q in
-    told_passed o n f name form first (stay.0 ∙ adds.name ∙ ap (λ (t : calls.Thread). t.name) first) (subst (λ (w : List Event). Passes o n w) (append-nil (tour f)) all)
-  where
-    nothing_waits : (p : Passes o m (tour f)) → m.thread.first_start ≡ None → tour f ≡ [] → o.thread.word ≡ [] → m.thread.word ≡ []
-    nothing_waits p none no_scopes word =
-        let none_told : p.reported ≡ [] = subst (λ (rs : List StreamFacts). TellEvents rs p.reported) (p.unstarted none) p.spelled in
-        sym (ap (λ (w : List Event). w ++ m.thread.word) none_told) ∙ p.kept ∙ ap (λ (w : List Event). w ++ tour f) word ∙ no_scopes
+    shut : (result : Result Bool Error) → Reports Accepts Refuses m.thread n.thread m.told n.told result → num_open m ≡ 0
+        → num_open n ≡ 0
+    shut (Ok false) (nothing, kept, untold) none = ap (λ (t : calls.Thread). open_after 0 t.word) kept ∙ none
+    shut (Ok true) (waits, handed, goes) none = ap (λ (t : calls.Thread). open_after 0 t.word) handed
+    shut (Err e) (kept, cause) none = ap (λ (t : calls.Thread). open_after 0 t.word) kept ∙ none

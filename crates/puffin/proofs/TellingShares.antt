@@ -11,16 +11,21 @@ use Rattle.puffin.specs.Happenings.{framed, History}
 use Rattle.puffin.specs.Members.{Member, IsNewMember, Tells, unpacked_in}
 
 -- what a frame has is what was pending, and nothing is afterwards
-pub frame_due : {A : Type 0} (f : Arc FrameData A) (old new : Collected) → Collects old (Some f) new → holding_of (arc_value f) ≡ record { packed = None; unpacked = Some old.streams }
-frame_due f old new h = h.0.held
+pub frame_due : {A : Type 0} (frame : Arc FrameData A) (old new : Collected) → Collects old (Some frame) new
+    → holding_of (arc_value frame) ≡ record { packed = None; unpacked = Some old.streams }
+frame_due frame old new collects = collects.0.held
 
-pub unpacked_is : {A : Type 0} (f : Arc FrameData A) (old new : Collected) → Collects old (Some f) new → unpacked_in (arc_value f) ≡ old.streams
-unpacked_is f old new h = ap (λ x. Rattle.std.specs.Option.unwrap_or x.unpacked map.empty) h.0.held
+pub unpacked_is : {A : Type 0} (frame : Arc FrameData A) (old new : Collected) → Collects old (Some frame) new
+    → unpacked_in (arc_value frame) ≡ old.streams
+unpacked_is frame old new collects = ap (λ x. Rattle.std.specs.Option.unwrap_or x.unpacked map.empty) collects.0.held
 
-pub none_pending : {A : Type 0} (f : Arc FrameData A) (old new : Collected) → Collects old (Some f) new → new.streams ≡ map.empty
-none_pending f old new h = ap (λ (c : Collected). c.streams) h.2
+pub none_pending : {A : Type 0} (frame : Arc FrameData A) (old new : Collected) → Collects old (Some frame) new
+    → new.streams ≡ map.empty
+none_pending frame old new collects = ap (λ (c : Collected). c.streams) collects.2
 
-pub told_frame : (m new : Member) (a b : Streams) (before : History) → Tells m (framed a) before new → a ≡ b → Tells m (framed b) before new
+-- what a share tells of a frame, it tells of the same streams
+pub told_frame : (m new : Member) (a b : Streams) (before : History) → Tells m (framed a) before new → a ≡ b
+    → Tells m (framed b) before new
 told_frame m new a b before told is = subst (λ (s : Streams). Tells m (framed s) before new) is told
 
 -- ---- the reports of a share

@@ -7,10 +7,11 @@ use Rattle.puffin.specs.Profiler.{collected_of}
 use Rattle.puffin.specs.Happenings.{History}
 
 module _ {L M I : Type 0} {F : I → Type 0} where
+  -- the profiler itself
   abbrev pub profiler_of : Booked L M I F → GlobalProfiler I F
   profiler_of booked = booked.profiler
 
-  -- what its profiler collects
+  -- what that profiler collects
   abbrev pub collected_in : Booked L M I F → Collected
   collected_in booked = collected_of (profiler_of booked)
 
@@ -18,9 +19,10 @@ module _ {L M I : Type 0} {F : I → Type 0} where
   abbrev pub entries_of : Booked L M I F → History
   entries_of booked = booked.log.entries
 
-  -- how many parts of rounds were done, and how many rounds were closed
-  abbrev pub parts_done : Booked L M I F → ℕ
-  parts_done booked = booked.arrived
+  -- how many times a thread has arrived at the end of a round
+  abbrev pub arrivals_in : Booked L M I F → ℕ
+  arrivals_in booked = booked.arrived
 
-  abbrev pub rounds_closed : Booked L M I F → ℕ
-  rounds_closed booked = booked.released
+  -- how many rounds were released
+  abbrev pub releases_in : Booked L M I F → ℕ
+  releases_in booked = booked.released

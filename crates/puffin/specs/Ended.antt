@@ -14,16 +14,17 @@ use Rattle.puffin.specs.declared.light.thread.Thread.{Thread}
 use Rattle.puffin.specs.LightThread.{profiler_of, reporter_of}
 use Rattle.puffin.specs.Guards.{BeginsAt, EndsIn}
 
--- a number that an accepted report raises by the number of its scopes, and a refused one leaves as it is
+-- `reported` is a number of a reporter that an accepted report raises by the number of its scopes, and that a refused one leaves as
+-- it is.
 pub record CountsReports {R : Type 0}
     (accepts : R → ThreadKey → List Details → StreamFacts → R → Type 0)
     (refuses : R → ThreadKey → List Details → StreamFacts → Error → R → Type 0)
     (reported : R → ℕ) : Type 0 where
-  pub accepted : (old : R) (i : ThreadKey) (ds : List Details) (r : StreamFacts) (new : R) →
-      accepts old i ds r new → reported new ≡ reported old + r.num_scopes
-  pub refused : (old : R) (i : ThreadKey) (ds : List Details) (r : StreamFacts) (e : Error)
+  pub accepted : (old : R) (key : ThreadKey) (details : List Details) (report : StreamFacts) (new : R) →
+      accepts old key details report new → reported new ≡ reported old + report.num_scopes
+  pub refused : (old : R) (key : ThreadKey) (details : List Details) (report : StreamFacts) (error : Error)
       (new : R) →
-      refuses old i ds r e new → reported new ≡ reported old
+      refuses old key details report error new → reported new ≡ reported old
 
 -- the scopes of a thread that were reported, and those that ended and wait
 abbrev pub counted_by : {C R : Type 0} → (R → ℕ) → Thread C R → ℕ

@@ -41,14 +41,14 @@ abbrev pub Begins : {C : Type 0} → (C → ℤ → C → Type 0) → (known : �
 Begins answers known id old text (On offset) new =
     (id ≤ known) × Began answers id old text offset new
 Begins answers known id old text Off new = new ≡ old
-Begins answers known id old text (Refused e) new =
-    (new ≡ old) × (((e ≡ MissingId) × (known < id)) ⊎ ((e ≡ Memory) × (id ≤ known)))
+Begins answers known id old text (Refused error) new =
+    (new ≡ old) × (((error ≡ MissingId) × (known < id)) ⊎ ((error ≡ Memory) × (id ≤ known)))
 
 -- the number of refused scopes after a `begin` with this outcome
 abbrev pub refused_after : ℕ → GuardState → ℕ
-refused_after n (On offset) = n
-refused_after n Off = n
-refused_after n (Refused e) = one_more n
+refused_after refused (On offset) = refused
+refused_after refused Off = refused
+refused_after refused (Refused error) = one_more refused
 
 -- The innermost scope was ended at the clock's time. If no other scope was open, all closed scopes were reported.
 pub record Ended {C R : Type 0} (answers : C → ℤ → C → Type 0)
@@ -85,7 +85,7 @@ pub record BeginsThere {C R : Type 0} (answers : C → ℤ → C → Type 0) (ol
   pub scopes : scopes_of new ≡ scopes_of old
   pub refused : refused_of new ≡ refused_after (refused_of old) state
 
--- What waits was reported, or not, so that there may be room.
+-- The thread tried to report what waits, so that there may be room: that was accepted, or it still waits.
 pub record MakesRoom {C R : Type 0}
     (accepts : R → ThreadKey → List Details → StreamFacts → R → Type 0)
     (refuses : R → ThreadKey → List Details → StreamFacts → Error → R → Type 0)

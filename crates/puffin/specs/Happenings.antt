@@ -11,8 +11,9 @@ use Rattle.puffin_data.specs.Honesty.{StreamFacts, AreHonestFacts, AreUnlike}
 use Rattle.puffin_threads.specs.Thread.ThreadKey.{ThreadKey, key_code, has_same_key}
 use Rattle.puffin_frames.specs.Frame.Contents.{Streams, facts_code, streams_code, stream_under, reported_to}
 
--- What is marked of a share, beside its reports and frames: its thread did its part of a round; it closed a round; it saw at least
--- so many parts done, or so many rounds closed; or it was given back.
+-- What is marked of a share, beside its reports and frames. Its thread arrived: it did its part of a round. It released a round:
+-- the round is closed, and the threads go on. It saw that at least so many had arrived, or so many rounds were released. It left:
+-- it was given back.
 pub data Mark : Type 0 where
   arrived : Mark
   released : Mark
@@ -30,37 +31,41 @@ pub data Happening : Type 0 where
 abbrev pub History : Type 0
 History = List (ℕ × Happening)
 
+-- a mark as a pair of numbers: its kind, and the number that it saw
 abbrev pub number_of : Mark → ℕ × ℕ
 number_of arrived = (0, 0)
 number_of released = (1, 0)
-number_of (saw_arrived n) = (2, n)
-number_of (saw_released n) = (3, n)
+number_of (saw_arrived number) = (2, number)
+number_of (saw_released number) = (3, number)
 number_of left = (4, 0)
 
+-- the mark of this kind, with the number that it saw
 abbrev pub mark_of : ℕ → ℕ → Mark
-mark_of zero n = arrived
-mark_of (suc zero) n = released
-mark_of (suc (suc zero)) n = saw_arrived n
-mark_of (suc (suc (suc zero))) n = saw_released n
-mark_of (suc (suc (suc (suc kind)))) n = left
+mark_of zero number = arrived
+mark_of (suc zero) number = released
+mark_of (suc (suc zero)) number = saw_arrived number
+mark_of (suc (suc (suc zero))) number = saw_released number
+mark_of (suc (suc (suc (suc kind)))) number = left
 
+-- a happening as a sum: a report, a frame or a mark
 abbrev pub parts_of : Happening → (ThreadKey × StreamFacts) ⊎ (Streams ⊎ (ℕ × ℕ))
-parts_of (reported i r) = inl (i, r)
+parts_of (reported key report) = inl (key, report)
 parts_of (framed streams) = inr (inl streams)
 parts_of (marked mark) = inr (inr (number_of mark))
 
+-- the happening of such a sum
 abbrev pub of_parts : (ThreadKey × StreamFacts) ⊎ (Streams ⊎ (ℕ × ℕ)) → Happening
 of_parts (inl report) = reported report.0 report.1
 of_parts (inr (inl streams)) = framed streams
 of_parts (inr (inr number)) = marked (mark_of number.0 number.1)
 
-pub of_parts-parts_of : (h : Happening) → of_parts (parts_of h) ≡ h
-of_parts-parts_of (reported i r) = refl
+pub of_parts-parts_of : (happening : Happening) → of_parts (parts_of happening) ≡ happening
+of_parts-parts_of (reported key report) = refl
 of_parts-parts_of (framed streams) = refl
 of_parts-parts_of (marked arrived) = refl
 of_parts-parts_of (marked released) = refl
-of_parts-parts_of (marked (saw_arrived n)) = refl
-of_parts-parts_of (marked (saw_released n)) = refl
+of_parts-parts_of (marked (saw_arrived number)) = refl
+of_parts-parts_of (marked (saw_released number)) = refl
 of_parts-parts_of (marked left) = refl
 
 -- the encoding of a happening for contracts
@@ -70,156 +75,168 @@ happening_code =
     (coded⊎ (coded× key_code facts_code) (coded⊎ streams_code (coded× coded_ℕ coded_ℕ)))
     parts_of of_parts of_parts-parts_of
 
+-- whether this is the return of a share
 abbrev pub is_left : Happening → Bool
 is_left (marked left) = true
 is_left (marked arrived) = false
 is_left (marked released) = false
-is_left (marked (saw_arrived n)) = false
-is_left (marked (saw_released n)) = false
-is_left (reported i r) = false
+is_left (marked (saw_arrived number)) = false
+is_left (marked (saw_released number)) = false
+is_left (reported key report) = false
 is_left (framed streams) = false
 
 -- ---- what is pending and what is due
 
 -- the pending streams after one happening more
 abbrev pub after : Streams → Happening → Streams
-after pending (reported i r) = reported_to pending i r
+after pending (reported key report) = reported_to pending key report
 after pending (framed streams) = map.empty
 after pending (marked mark) = pending
 
+-- the pending streams after these happenings, one after the other
 abbrev pub pending_after : Streams → List Happening → Streams
 pending_after pending [] = pending
-pending_after pending (h ∷ hs) = pending_after (after pending h) hs
+pending_after pending (happening ∷ rest) = pending_after (after pending happening) rest
 
 -- Streams without scopes, which may be pending when a history begins: a profiler that took reports without scopes has such.
 abbrev pub HaveNoScopes : Streams → Type 0
-HaveNoScopes streams = (i : ThreadKey) → ∥ AreHonestFacts (stream_under streams i) empty ∥₁
+HaveNoScopes streams = (key : ThreadKey) → ∥ AreHonestFacts (stream_under streams key) empty ∥₁
 
 -- the streams that are pending at the end: all reports since the last frame, in order, after streams without scopes
-pub record ArePending (hs : List Happening) (pending : Streams) : Type 0 where
+pub record ArePending (happenings : List Happening) (pending : Streams) : Type 0 where
   pub start : Streams
   pub none : HaveNoScopes start
-  pub is : pending ≡ pending_after start hs
+  pub is : pending ≡ pending_after start happenings
 
+-- the streams that are due for a frame, if this is one: all that are pending
 abbrev pub due_at : Streams → Happening → List Streams
-due_at pending (reported i r) = []
+due_at pending (reported key report) = []
 due_at pending (framed streams) = pending ∷ []
 due_at pending (marked mark) = []
 
 -- the streams that were due for each frame: all reports since the frame before it, in order
 abbrev pub due_after : Streams → List Happening → List Streams
 due_after pending [] = []
-due_after pending (h ∷ hs) = due_at pending h ++ due_after (after pending h) hs
+due_after pending (happening ∷ rest) = due_at pending happening ++ due_after (after pending happening) rest
 
+-- the streams of a frame, if this is one
 abbrev pub frame_of : Happening → List Streams
-frame_of (reported i r) = []
+frame_of (reported key report) = []
 frame_of (framed streams) = streams ∷ []
 frame_of (marked mark) = []
 
 -- the streams of each frame, in order
 abbrev pub frames_in : List Happening → List Streams
-frames_in hs = flat_map frame_of hs
+frames_in happenings = flat_map frame_of happenings
 
 -- ---- reports
 
 -- a report is honest, and its form is that of what is pending under its thread
 abbrev pub IsReport : Streams → Happening → Type 0
-IsReport pending (reported i r) =
-    ∥ ((f : Forest) × AreHonestFacts r f) ∥₁ × ¬ AreUnlike (stream_under pending i) r
+IsReport pending (reported key report) =
+    ∥ ((forest : Forest) × AreHonestFacts report forest) ∥₁ × ¬ AreUnlike (stream_under pending key) report
 IsReport pending (framed streams) = Unit {0}
 IsReport pending (marked mark) = Unit {0}
 
+-- each report is one that may come where it does
 abbrev pub AreReports : Streams → List Happening → Type 0
 AreReports pending [] = Unit {0}
-AreReports pending (h ∷ hs) = IsReport pending h × AreReports (after pending h) hs
+AreReports pending (happening ∷ rest) = IsReport pending happening × AreReports (after pending happening) rest
 
+-- a report, if this is one under that thread's start and name
 abbrev pub report_under : ThreadKey → Happening → List StreamFacts
-report_under i (reported j r) = if has_same_key i j then r ∷ [] else []
-report_under i (framed streams) = []
-report_under i (marked mark) = []
+report_under key (reported other report) = if has_same_key key other then report ∷ [] else []
+report_under key (framed streams) = []
+report_under key (marked mark) = []
 
 -- what was reported under a thread's start and name, in order
 abbrev pub reports_under : ThreadKey → List Happening → List StreamFacts
-reports_under i hs = flat_map (report_under i) hs
+reports_under key happenings = flat_map (report_under key) happenings
 
 -- ---- rounds
 
+-- the mark alone if it is an arrival, else nothing
 abbrev pub arrivals_of : Mark → List Mark
 arrivals_of arrived = arrived ∷ []
 arrivals_of released = []
-arrivals_of (saw_arrived n) = []
-arrivals_of (saw_released n) = []
+arrivals_of (saw_arrived number) = []
+arrivals_of (saw_released number) = []
 arrivals_of left = []
 
+-- the mark alone if it is a release, else nothing
 abbrev pub releases_of : Mark → List Mark
 releases_of arrived = []
 releases_of released = released ∷ []
-releases_of (saw_arrived n) = []
-releases_of (saw_released n) = []
+releases_of (saw_arrived number) = []
+releases_of (saw_released number) = []
 releases_of left = []
 
+-- the marks that `kept` gives for this one; none for a report or a frame
 abbrev pub if_marked : (Mark → List Mark) → Happening → List Mark
-if_marked f (reported i r) = []
-if_marked f (framed streams) = []
-if_marked f (marked mark) = f mark
+if_marked kept (reported key report) = []
+if_marked kept (framed streams) = []
+if_marked kept (marked mark) = kept mark
 
--- reports and frames alone
+-- a report or a frame alone; no mark
 abbrev pub unless_marked : Happening → List Happening
-unless_marked (reported i r) = reported i r ∷ []
+unless_marked (reported key report) = reported key report ∷ []
 unless_marked (framed streams) = framed streams ∷ []
 unless_marked (marked mark) = []
 
+-- the reports and frames among these, in order
 abbrev pub unmarked : List Happening → List Happening
-unmarked hs = flat_map unless_marked hs
+unmarked happenings = flat_map unless_marked happenings
 
--- how many parts were done, and how many rounds closed
+-- how many times a thread arrived
 abbrev pub num_arrived : List Happening → ℕ
-num_arrived hs = length (flat_map (if_marked arrivals_of) hs)
+num_arrived happenings = length (flat_map (if_marked arrivals_of) happenings)
 
+-- how many rounds were released
 abbrev pub num_released : List Happening → ℕ
-num_released hs = length (flat_map (if_marked releases_of) hs)
+num_released happenings = length (flat_map (if_marked releases_of) happenings)
 
--- if a share saw a number of parts or rounds now, where so many parts were done and rounds closed, it is at most that
+-- What a share saw is so: where a thread had arrived so many times, and so many rounds were released, a number that it saw is at
+-- most that.
 abbrev pub IsSeen : ℕ → ℕ → Happening → Type 0
-IsSeen parts rounds (reported i r) = Unit {0}
+IsSeen parts rounds (reported key report) = Unit {0}
 IsSeen parts rounds (framed streams) = Unit {0}
 IsSeen parts rounds (marked arrived) = Unit {0}
 IsSeen parts rounds (marked released) = Unit {0}
-IsSeen parts rounds (marked (saw_arrived n)) = n ≤ parts
-IsSeen parts rounds (marked (saw_released n)) = n ≤ rounds
+IsSeen parts rounds (marked (saw_arrived number)) = number ≤ parts
+IsSeen parts rounds (marked (saw_released number)) = number ≤ rounds
 IsSeen parts rounds (marked left) = Unit {0}
 
--- each number that a share saw was at most what there was before, counted from these
+-- each number that a share saw is at most what there was before it, counted from these
 abbrev pub AreSeen : ℕ → ℕ → List Happening → Type 0
 AreSeen parts rounds [] = Unit {0}
-AreSeen parts rounds (h ∷ hs) = IsSeen parts rounds h
-    × AreSeen (parts + num_arrived (h ∷ [])) (rounds + num_released (h ∷ [])) hs
+AreSeen parts rounds (happening ∷ rest) = IsSeen parts rounds happening
+    × AreSeen (parts + num_arrived (happening ∷ [])) (rounds + num_released (happening ∷ [])) rest
 
-pub IsSeen-prop : (parts rounds : ℕ) (h : Happening) → IsProp (IsSeen parts rounds h)
-IsSeen-prop parts rounds (reported i r) = Unit-prop
+pub IsSeen-prop : (parts rounds : ℕ) (happening : Happening) → IsProp (IsSeen parts rounds happening)
+IsSeen-prop parts rounds (reported key report) = Unit-prop
 IsSeen-prop parts rounds (framed streams) = Unit-prop
 IsSeen-prop parts rounds (marked arrived) = Unit-prop
 IsSeen-prop parts rounds (marked released) = Unit-prop
-IsSeen-prop parts rounds (marked (saw_arrived n)) = le_prop
-IsSeen-prop parts rounds (marked (saw_released n)) = le_prop
+IsSeen-prop parts rounds (marked (saw_arrived number)) = le_prop
+IsSeen-prop parts rounds (marked (saw_released number)) = le_prop
 IsSeen-prop parts rounds (marked left) = Unit-prop
 
-pub AreSeen-prop : (parts rounds : ℕ) (hs : List Happening) → IsProp (AreSeen parts rounds hs)
+pub AreSeen-prop : (parts rounds : ℕ) (happenings : List Happening) → IsProp (AreSeen parts rounds happenings)
 AreSeen-prop parts rounds [] = Unit-prop
-AreSeen-prop parts rounds (h ∷ hs) = ×_prop (IsSeen-prop parts rounds h)
-    (AreSeen-prop (parts + num_arrived (h ∷ [])) (rounds + num_released (h ∷ [])) hs)
+AreSeen-prop parts rounds (happening ∷ rest) = ×_prop (IsSeen-prop parts rounds happening)
+    (AreSeen-prop (parts + num_arrived (happening ∷ [])) (rounds + num_released (happening ∷ [])) rest)
 
--- at least so many parts were done, and rounds closed
-pub record HasMet (parts rounds : ℕ) (hs : List Happening) : Type 0 where
-  pub arrived : parts ≤ num_arrived hs
-  pub released : rounds ≤ num_released hs
+-- a thread arrived at least so many times, and at least so many rounds were released
+pub record HasMet (parts rounds : ℕ) (happenings : List Happening) : Type 0 where
+  pub arrived : parts ≤ num_arrived happenings
+  pub released : rounds ≤ num_released happenings
 
 -- ---- a profiler with its history
 
 -- The history began with streams without scopes; what is pending is what it leaves pending, and each frame had what was due.
-pub record Stands (pending : Streams) (hs : List Happening) : Type 0 where
+pub record Stands (pending : Streams) (happenings : List Happening) : Type 0 where
   pub start : Streams
   pub none : HaveNoScopes start
-  pub pending_is : pending ≡ pending_after start hs
-  pub frames_are : frames_in hs ≡ due_after start hs
-  pub reports : AreReports start hs
+  pub pending_is : pending ≡ pending_after start happenings
+  pub frames_are : frames_in happenings ≡ due_after start happenings
+  pub reports : AreReports start happenings

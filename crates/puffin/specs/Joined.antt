@@ -15,29 +15,32 @@ use Rattle.puffin.specs.Members.{Member, all_handed}
 use Rattle.puffin.specs.Recounted.{Recounts}
 use Rattle.puffin.specs.Taking.{TookAll}
 
--- The thread with this number told this, through the share at this place. If no thread failed, its work didn't.
+-- The thread with this number told what `tells` relates, through the share at this place among `shares`; the counts at this place
+-- are its own. If no thread failed, its work didn't.
 pub record TellsAt {T W : Type 0} (tells : T → W → ℕ → ThreadEnd → List Happening → List Happening → Type 0)
     (thread : T) (program : W) (number : ℕ) (failed : Option Failed) (counts : List ThreadCounts)
-    (shares : List Member) (k : ℕ) : Type 0 where
+    (shares : List Member) (place : ℕ) : Type 0 where
   pub ended : ThreadEnd
   pub count : ThreadCounts
   pub share : Member
-  pub count_is : slice_get counts k ≡ Some count
-  pub share_is : slice_get shares k ≡ Some share
+  pub count_is : slice_get counts place ≡ Some count
+  pub share_is : slice_get shares place ≡ Some share
   pub unreported : count.unreported ≡ ended.left.unreported
   pub went_well : failed ≡ None → IsOk ended.result
   pub told : tells thread program number ended [] share.own
 
--- each handle's thread told what it promised, through the share at the handle's place
+-- Each handle's thread told what it promised, through the share at the handle's place. `tells` is what a thread of the type `T`
+-- tells in a program of the type `W`: by its number, how it ended, and what happened through its share before and after.
 abbrev pub EachJoined : {A T W : Type 0} →
     (T → W → ℕ → ThreadEnd → List Happening → List Happening → Type 0) →
     List (PromisedHandle A (ThreadPromise T W)) → Option Failed → List ThreadCounts → List Member → Type 0
 EachJoined {A} {T} {W} tells handles failed counts shares =
-    (k : ℕ) (handle : PromisedHandle A (ThreadPromise T W)) → slice_get handles k ≡ Some handle →
+    (place : ℕ) (handle : PromisedHandle A (ThreadPromise T W)) → slice_get handles place ≡ Some handle →
     TellsAt tells handle.promise.thread.value handle.promise.program.value handle.promise.number failed
-    counts shares k
+    counts shares place
 
--- these are the two shares of the leader, and then one for each handle, through which its thread told what it promised
+-- `shares` are the two of the leader, `taker` and `leader`, and then one for each handle, through which its thread told what it
+-- promised.
 pub record AreJoined {A T W : Type 0}
     (tells : T → W → ℕ → ThreadEnd → List Happening → List Happening → Type 0)
     (handles : List (PromisedHandle A (ThreadPromise T W))) (taker leader : Member) (failed : Option Failed)
@@ -47,26 +50,30 @@ pub record AreJoined {A T W : Type 0}
   pub as_many : length rest ≡ length handles
   pub each : EachJoined tells handles failed counts rest
 
--- each thread told what its type says, by its number
+-- each thread told what `tells` says of it, by its number, through the share at that place
 abbrev pub EachTells : {T W : Type 0} →
     (T → W → ℕ → ThreadEnd → List Happening → List Happening → Type 0) →
     List T → W → Option Failed → List ThreadCounts → List Member → Type 0
 EachTells {T} {W} tells threads program failed counts shares =
-    (k : ℕ) (thread : T) → slice_get threads k ≡ Some thread →
-    TellsAt tells thread program k failed counts shares k
+    (place : ℕ) (thread : T) → slice_get threads place ≡ Some thread →
+    TellsAt tells thread program place failed counts shares place
 
--- a started thread is one of these, with its number, in this program
+-- there is a handle at this place to this thread of this program, whose number is the place
+pub record StartedAt {A T W : Type 0} (handles : List (PromisedHandle A (ThreadPromise T W))) (thread : T) (program : W)
+    (place : ℕ) : Type 0 where
+  pub handle : PromisedHandle A (ThreadPromise T W)
+  pub handle_is : slice_get handles place ≡ Some handle
+  pub thread_is : handle.promise.thread.value ≡ thread
+  pub number_is : handle.promise.number ≡ place
+  pub program_is : handle.promise.program.value ≡ program
+
+-- each of these threads of a program has its handle, at the thread's place
 abbrev pub AreStarted : {A T W : Type 0} → List (PromisedHandle A (ThreadPromise T W)) → List T → W → Type 0
 AreStarted {A} {T} {W} handles threads program =
-    (k : ℕ) (thread : T) → slice_get threads k ≡ Some thread →
-    (handle : PromisedHandle A (ThreadPromise T W))
-    × (slice_get handles k ≡ Some handle)
-    × (handle.promise.thread.value ≡ thread)
-    × (handle.promise.number ≡ k)
-    × (handle.promise.program.value ≡ program)
+    (place : ℕ) (thread : T) → slice_get threads place ≡ Some thread → StartedAt handles thread program place
 
--- These are the two shares of the leader, of which one took this number of frames, and one for each thread; all told what their
--- types say.
+-- `shares` are the two of the leader, of which `taker` took this number of frames and `own` has its reports, and one for each thread.
+-- `tells`, `leads` and `takes` are what the threads, the leader and the taking of frames tell in such a program.
 pub record AreTold {T W : Type 0}
     (tells : T → W → ℕ → ThreadEnd → List Happening → List Happening → Type 0)
     (leads : T → W → ℕ → List Happening → List Happening → Type 0)
@@ -84,7 +91,7 @@ pub record AreTold {T W : Type 0}
   pub took : TookAll taker frames
   pub handed : all_handed shares ≡ taker.counts.handed
 
--- the history of all shares of a run, each of which told what its thread's type says
+-- Of a run with this outcome: the shares of its leader and its threads, each of which told what it had to, and their history.
 pub record HasTold {T W : Type 0}
     (tells : T → W → ℕ → ThreadEnd → List Happening → List Happening → Type 0)
     (leads : T → W → ℕ → List Happening → List Happening → Type 0)

@@ -27,7 +27,7 @@ with_thread guard thread = record guard { thread = record guard.thread { now = t
 abbrev pub with_reporter : {C P : Type 0} → Thread C P → P → Thread C P
 with_reporter thread reporter = record thread { reporter = reporter }
 
--- nothing changed but that its reporter tells this more
+-- a thread marked this: nothing changed but its reporter, which tells this mark after all that it told before
 abbrev pub MarksThere : {C P : Type 0} → (P → List Happening) → Thread C P → Mark → Thread C P → Type 0
 MarksThere told old mark new =
     (new ≡ with_reporter old (reporter_of new))

@@ -25,44 +25,45 @@ member_code =
     (coded× (coded× coded_ℕ coded_ℕ) (
     coded× coded_ℕ (
     coded× (coded_list happening_code) (coded_list (coded× coded_ℕ happening_code)))))
-    (λ m. ((m.counts.reported, m.counts.handed), (m.number, (m.own, m.seen))))
-    (λ p. record {
-      counts = record { reported = p.0.0; handed = p.0.1 };
-      number = p.1.0;
-      own = p.1.1.0;
-      seen = p.1.1.1;
+    (λ member. ((member.counts.reported, member.counts.handed), (member.number, (member.own, member.seen))))
+    (λ parts. record {
+      counts = record { reported = parts.0.0; handed = parts.0.1 };
+      number = parts.1.0;
+      own = parts.1.1.0;
+      seen = parts.1.1.1;
     })
     (λ _. refl)
 
 -- a share through which nothing happened yet
-pub record IsNewMember (m : Member) : Type 0 where
-  pub counts : m.counts ≡ no_counts
-  pub own : length m.own ≡ 0
-  pub seen : length m.seen ≡ 0
+pub record IsNewMember (member : Member) : Type 0 where
+  pub counts : member.counts ≡ no_counts
+  pub own : length member.own ≡ 0
+  pub seen : length member.seen ≡ 0
 
--- what all shares count together
+-- the number of scopes that were reported through these shares together
 abbrev pub all_reported : List Member → ℕ
-all_reported shares = sum_by (λ m. m.counts.reported) shares
+all_reported shares = sum_by (λ member. member.counts.reported) shares
 
+-- the number of scopes in the frames that were handed out to these shares together
 abbrev pub all_handed : List Member → ℕ
-all_handed shares = sum_by (λ m. m.counts.handed) shares
+all_handed shares = sum_by (λ member. member.counts.handed) shares
 
 -- its number, and what happened through it
 abbrev pub account_of : Member → ℕ × List Happening
-account_of m = (m.number, m.own)
+account_of member = (member.number, member.own)
 
 -- Something happened through a share, after all that is in the history `before`. That begins with what the share had seen, and
 -- has no more through this share than the share knows of. What it counts is told apart.
-pub record Tells (old : Member) (h : Happening) (before : History) (new : Member) : Type 0 where
+pub record Tells (old : Member) (happening : Happening) (before : History) (new : Member) : Type 0 where
   pub number : new.number ≡ old.number
-  pub own : new.own ≡ old.own ++ h ∷ []
-  pub seen : new.seen ≡ before ++ (old.number, h) ∷ []
+  pub own : new.own ≡ old.own ++ happening ∷ []
+  pub seen : new.seen ≡ before ++ (old.number, happening) ∷ []
   pub began : IsPrefix old.seen before
   pub known : old.own ≡ entries_by old.number before
 
 -- the same of some history, which only the holder of the lock sees whole
 abbrev pub Told : Member → Happening → Member → Type 0
-Told old h new = (before : History) × Tells old h before new
+Told old happening new = (before : History) × Tells old happening before new
 
 -- a share that marks this, and counts nothing more
 pub record Marks (old : Member) (mark : Mark) (new : Member) : Type 0 where

@@ -42,4 +42,4 @@ pub record Registers (old : List Details) (details : Details) (id : ℕ) (new : 
 
 -- the errors of registering a place after these: `IdsExhausted` only if no id is left
 abbrev pub IsPlaceCause : List Details → Error → Type 0
-IsPlaceCause ds e = ((e ≡ IdsExhausted) × (length ds + 1 ≡ 2 ^ 32)) ⊎ (e ≡ Memory)
+IsPlaceCause details error = ((error ≡ IdsExhausted) × (length details + 1 ≡ 2 ^ 32)) ⊎ (error ≡ Memory)

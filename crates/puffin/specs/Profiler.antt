@@ -6,13 +6,15 @@ use Rattle.puffin.specs.declared.global_profiler.profiler.GlobalProfiler.{Global
 use Rattle.puffin.specs.declared.global_profiler.sinks.SinkEntry.{SinkEntry}
 
 module _ {I : Type 0} {F : I → Type 0} where
+  -- what its collector holds
   abbrev pub collected_of : GlobalProfiler I F → Collected
   collected_of profiler = profiler.collector
 
-  -- its sinks, sorted by number, and the number of the next one
+  -- its sinks, sorted by number
   abbrev pub sinks_of : GlobalProfiler I F → List (SinkEntry I F)
   sinks_of profiler = profiler.sinks.entries.items
 
+  -- the number of the next sink
   abbrev pub next_sink_of : GlobalProfiler I F → ℕ
   next_sink_of profiler = profiler.sinks.next
 

@@ -7,21 +7,21 @@ pub use Rattle.puffin_threads.specs.Details.{IsAddingCause}
 
 -- the errors of a report with no details
 abbrev pub IsScopesCause : Error → Type 0
-IsScopesCause e = (e ≡ UnlikeForms) ⊎ (e ≡ TooLarge) ⊎ (e ≡ RangeTooLong) ⊎ (e ≡ Memory)
+IsScopesCause error = (error ≡ UnlikeForms) ⊎ (error ≡ TooLarge) ⊎ (error ≡ RangeTooLong) ⊎ (error ≡ Memory)
 
 -- the errors of a report with these details: `MissingId` exactly if some of them have no id
 abbrev pub IsReportCause : List Details → Error → Type 0
-IsReportCause ds e =
-    ((e ≡ MissingId) × ¬ AllHaveIds ds) ⊎ (AllHaveIds ds × IsScopesCause e)
+IsReportCause details error =
+    ((error ≡ MissingId) × ¬ AllHaveIds details) ⊎ (AllHaveIds details × IsScopesCause error)
 
 -- the errors of taking a frame
 abbrev pub IsFrameCause : Error → Type 0
-IsFrameCause e = (e ≡ IndexExhausted) ⊎ (e ≡ Memory)
+IsFrameCause error = (error ≡ IndexExhausted) ⊎ (error ≡ Memory)
 
 -- the errors of adding a sink
 abbrev pub IsSinkCause : Error → Type 0
-IsSinkCause e = (e ≡ SinkIdsExhausted) ⊎ (e ≡ Memory)
+IsSinkCause error = (error ≡ SinkIdsExhausted) ⊎ (error ≡ Memory)
 
 -- the errors of adding details or a frame: `MissingId` if some of the details have no id
 abbrev pub IsDetailsCause : Error → Type 0
-IsDetailsCause e = (e ≡ MissingId) ⊎ (e ≡ Memory)
+IsDetailsCause error = (error ≡ MissingId) ⊎ (error ≡ Memory)

@@ -17,13 +17,15 @@ pub record ShareCounts : Type 0 where
 abbrev pub no_counts : ShareCounts
 no_counts = record { reported = 0; handed = 0 }
 
+-- the counts after so many scopes more were reported
 abbrev pub with_reported : ShareCounts → ℕ → ShareCounts
-with_reported c n = record c { reported = c.reported + n }
+with_reported counts scopes = record counts { reported = counts.reported + scopes }
 
+-- the counts after so many scopes more were handed out
 abbrev pub with_handed : ShareCounts → ℕ → ShareCounts
-with_handed c n = record c { handed = c.handed + n }
+with_handed counts scopes = record counts { handed = counts.handed + scopes }
 
--- a blank of the ledger with this name and this number of parts, for the same number of shares
+-- a blank of the ledger with this name and this number of parts, which is also the number of shares
 abbrev pub IsBlankFor : ℕ → ℕ → ℕ → Blank → Type 0
 IsBlankFor name parts shares blank =
     (blank.name ≡ name) × (blank.parts ≡ parts) × (blank.parts ≡ shares)

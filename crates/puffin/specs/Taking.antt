@@ -12,7 +12,7 @@ use Rattle.puffin.specs.Recounted.{ReportsNothing}
 
 -- one more, but at most the largest `u64`
 abbrev pub one_more : ℕ → ℕ
-one_more n = min (n + 1) (2 ^ 64 - 1)
+one_more number = min (number + 1) (2 ^ 64 - 1)
 
 -- The numbers of frames and of missed frames, before and after: a frame counts if it was handed out, and also counts as missed
 -- if a sink refused it.

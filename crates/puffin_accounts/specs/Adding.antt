@@ -15,9 +15,9 @@ use Rattle.puffin_accounts.specs.Moments.{Moment, num_open, key_at}
 use Rattle.puffin_accounts.specs.Times.{Timed}
 
 -- an honest record of these events, which are a forest's
-pub record SpellsEvents (r : StreamFacts) (events : List Event) : Type 0 where
+pub record SpellsEvents (spelled : StreamFacts) (events : List Event) : Type 0 where
   pub forest : Forest
-  pub honest : AreHonestFacts r forest
+  pub honest : AreHonestFacts spelled forest
   pub toured : tour forest ≡ events
 
 -- a stream before and after these events were reported to it: nothing was reported, or the stream spells them after what it
@@ -25,10 +25,10 @@ pub record SpellsEvents (r : StreamFacts) (events : List Event) : Type 0 where
 abbrev pub Gains : Option StreamFacts → Option StreamFacts → List Event → Type 0
 Gains old new reported =
     ((new ≡ old) × (reported ≡ []))
-    ⊎ ((r : StreamFacts)
-    × (new ≡ Some r)
+    ⊎ ((spelled : StreamFacts)
+    × (new ≡ Some spelled)
     × ((before : List Event) → SpellsEvents (unwrap_or old no_scopes) before →
-    SpellsEvents r (before ++ reported)))
+    SpellsEvents spelled (before ++ reported)))
 
 -- Where no scope is open: first events and the thread's details were reported, and the others wait. Nothing is lost, doubled or
 -- moved.
@@ -41,8 +41,8 @@ pub record PassesOn {C : Type 0} (old new : Moment C) (events : List Event) : Ty
   pub balanced : IsBalanced old.thread.word → IsBalanced new.thread.word
   pub stream : Gains (get old.collected.streams (key_at new)) (get new.collected.streams (key_at new))
       reported
-  pub others : (i : ThreadKey) → has_same_key i (key_at new) ≡ false →
-      get new.collected.streams i ≡ get old.collected.streams i
+  pub others : (other : ThreadKey) → has_same_key other (key_at new) ≡ false →
+      get new.collected.streams other ≡ get old.collected.streams other
   -- before the first scope nothing is reported
   pub unstarted : new.thread.first_start ≡ None →
       (new.collected.streams ≡ old.collected.streams) × (reported ≡ [])
@@ -56,13 +56,13 @@ pub record PassesOn {C : Type 0} (old new : Moment C) (events : List Event) : Ty
 
 -- Code added these scopes to a thread, in order and with this nesting. Within an open scope nothing is reported.
 pub record AddsScopes {C : Type 0} (answers : C → ℤ → C → Type 0) (old new : Moment C)
-    (f : Forest) : Type 0 where
-  pub timed : Timed answers old new (tour f)
-  pub word : 0 < num_open old → new.thread.word ≡ old.thread.word ++ tour f
+    (scopes : Forest) : Type 0 where
+  pub timed : Timed answers old new (tour scopes)
+  pub word : 0 < num_open old → new.thread.word ≡ old.thread.word ++ tour scopes
   pub details : 0 < num_open old → new.thread.details ≡ old.thread.details
   pub collected : 0 < num_open old → new.collected ≡ old.collected
   pub none_open : num_open old ≡ 0 → num_open new ≡ 0
-  pub passed : num_open old ≡ 0 → PassesOn old new (tour f)
+  pub passed : num_open old ≡ 0 → PassesOn old new (tour scopes)
 
 -- A guard was opened at this place, in this state, and dropped after code that added these scopes.
 pub record AddsScope {C : Type 0} (answers : C → ℤ → C → Type 0) (old new : Moment C)

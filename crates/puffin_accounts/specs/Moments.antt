@@ -22,44 +22,46 @@ pub record Moment (C : Type 0) : Type 0 where
   pub thread : calls.Thread
   pub collected : Collected
 
--- where `seen` is what a thread's reporter has collected
+-- the thread as it is now, where `seen` is what its reporter has collected
 abbrev pub moment_by : {C R : Type 0} → (R → Collected) → Thread C R → Moment C
-moment_by seen t = record {
-  clock = clock_of (profiler_of t);
-  known = num_known (scopes_of t);
-  thread = thread_of (profiler_of t);
-  collected = seen (reporter_of t);
+moment_by seen thread = record {
+  clock = clock_of (profiler_of thread);
+  known = num_known (scopes_of thread);
+  thread = thread_of (profiler_of thread);
+  collected = seen (reporter_of thread);
 }
 
+-- the thread as it is now, where its reporter is a profiler
 abbrev pub moment_of : {C I : Type 0} {F : I → Type 0} → Thread C (GlobalProfiler I F) → Moment C
-moment_of t = moment_by collected_of t
+moment_of thread = moment_by collected_of thread
 
 -- the number of open scopes
 abbrev pub num_open : {C : Type 0} → Moment C → ℕ
-num_open m = open_after 0 m.thread.word
+num_open moment = open_after 0 moment.thread.word
 
 -- the info under which the thread reports
 abbrev pub key_at : {C : Type 0} → Moment C → ThreadKey
-key_at m = key_of_thread m.thread
+key_at moment = key_of_thread moment.thread
 
--- a reporter accepts and refuses as a collector does, as far as is seen
+-- a reporter accepts and refuses as a collector does, where `seen` is what it has collected
 pub record Sees {R : Type 0} (seen : R → Collected)
     (accepts : R → ThreadKey → List Details → StreamFacts → R → Type 0)
     (refuses : R → ThreadKey → List Details → StreamFacts → Error → R → Type 0) : Type 0 where
-  pub accepted : (old : R) (i : ThreadKey) (ds : List Details) (r : StreamFacts) (new : R) →
-      accepts old i ds r new → AcceptsReport (seen old) i ds r (seen new)
-  pub refused : (old : R) (i : ThreadKey) (ds : List Details) (r : StreamFacts) (e : Error)
+  pub accepted : (old : R) (key : ThreadKey) (details : List Details) (report : StreamFacts) (new : R) →
+      accepts old key details report new → AcceptsReport (seen old) key details report (seen new)
+  pub refused : (old : R) (key : ThreadKey) (details : List Details) (report : StreamFacts) (error : Error)
       (new : R) →
-      refuses old i ds r e new → RefusesReport (seen old) i ds r e (seen new)
+      refuses old key details report error new → RefusesReport (seen old) key details report error (seen new)
 
--- what a profiler that is a thread's reporter accepts and refuses
 module _ {I : Type 0} {F : I → Type 0} where
+  -- what a profiler that is a thread's reporter does when it accepts a report
   abbrev pub AcceptsThere : GlobalProfiler I F → ThreadKey → List Details → StreamFacts →
       GlobalProfiler I F → Type 0
-  AcceptsThere old i ds r new =
-      AcceptsReport (collected_of old) i ds r (collected_of new) × (sinks_of new ≡ sinks_of old)
+  AcceptsThere old key details report new =
+      AcceptsReport (collected_of old) key details report (collected_of new) × (sinks_of new ≡ sinks_of old)
 
+  -- and when it refuses one
   abbrev pub RefusesThere : GlobalProfiler I F → ThreadKey → List Details → StreamFacts → Error →
       GlobalProfiler I F → Type 0
-  RefusesThere old i ds r e new =
-      RefusesReport (collected_of old) i ds r e (collected_of new) × (sinks_of new ≡ sinks_of old)
+  RefusesThere old key details report error new =
+      RefusesReport (collected_of old) key details report error (collected_of new) × (sinks_of new ≡ sinks_of old)

@@ -51,12 +51,14 @@ module _ {C R : Type 0} (answers : C → ℤ → C → Type 0) (seen : R → Col
   MakesRounds (round ∷ later) old new =
       (next : Thread C R) × MakesRound round old next × MakesRounds later next new
 
--- the same for a thread that reports to a profiler of its own
+-- The same for a thread that reports to a profiler of its own.
 module _ {C I : Type 0} {F : I → Type 0} (answers : C → ℤ → C → Type 0) where
+  -- the calls of a round were made
   abbrev pub RunsRound : Round → Thread C (GlobalProfiler I F) → Thread C (GlobalProfiler I F) →
       Type 0
   RunsRound = MakesRound answers collected_of AcceptsThere RefusesThere
 
+  -- the rounds were made one after the other
   abbrev pub RunsRounds : List Round → Thread C (GlobalProfiler I F) →
       Thread C (GlobalProfiler I F) → Type 0
   RunsRounds = MakesRounds answers collected_of AcceptsThere RefusesThere
@@ -69,7 +71,7 @@ Shows (Some frame) index key listed shown =
 
 -- the frame, if there is one, lists these details
 abbrev pub Lists : Option (Arc FrameData Global) → Details → Type 0
-Lists frame details = IfSome frame (λ f. Contains (frame_details (arc_value f)) details)
+Lists frame details = IfSome frame (λ taken. Contains (frame_details (arc_value taken)) details)
 
 -- what the next frame lists, after a frame call with this answer: what a frame has listed isn't listed again
 abbrev pub listed_after : Option (Arc FrameData Global) → List Details → List Details

@@ -16,9 +16,9 @@ use Rattle.puffin_accounts.specs.Showing.{listed_next}
 -- no more scopes began than the code has; and if as many began, then all of them
 abbrev pub AllBegan : Type 0
 AllBegan =
-    (known : ℕ) (form : Form) (code : Code) (f : Forest) → AreScopesOf known form code f →
-    (scope_count f ≤ num_scopes_of code)
-    × (scope_count f ≡ num_scopes_of code → AreAllOf form code f)
+    (known : ℕ) (form : Form) (code : Code) (began : Forest) → AreScopesOf known form code began →
+    (scope_count began ≤ num_scopes_of code)
+    × (scope_count began ≡ num_scopes_of code → AreAllOf form code began)
 
 -- a new thread with this name and clock, and a new profiler that was told these details
 abbrev pub at_first : {C : Type 0} → List ℕ → C → List Details → Moment C
@@ -32,5 +32,5 @@ at_first name clock details = record {
 -- the first frame of a new thread lists all places that its profiler was told: under each id, the first details with that id
 abbrev pub ListsPlaces : Type 0 → Type 0
 ListsPlaces C =
-    (name : List ℕ) (clock : C) (details : List Details) (id : ℕ) (d : Details) →
-    first_with_id id details ≡ Some d → Contains (listed_next (at_first name clock details)) d
+    (name : List ℕ) (clock : C) (details : List Details) (id : ℕ) (listed : Details) →
+    first_with_id id details ≡ Some listed → Contains (listed_next (at_first name clock details)) listed

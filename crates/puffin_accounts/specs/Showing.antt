@@ -13,16 +13,16 @@ use Rattle.puffin_collector.specs.Collector.State.{delta_of}
 use Rattle.puffin_accounts.specs.Moments.{Moment}
 
 -- A frame's only stream stands under this info, and spells this forest. Its meta has this index and the stream's measures.
-pub record ShowsForest (frame : FrameData) (index : ℕ) (key : ThreadKey) (f : Forest) :
+pub record ShowsForest (frame : FrameData) (index : ℕ) (key : ThreadKey) (forest : Forest) :
     Type 0 where
   pub stream : StreamFacts
   pub held : holding_of frame
       ≡ record { packed = None; unpacked = Some (map.insert map.empty key stream) }
-  pub honest : AreHonestFacts stream f
+  pub honest : AreHonestFacts stream forest
   pub meta : frame_meta frame ≡ meta_of index (stream ∷ [])
-  pub counted : (frame_meta frame).num_scopes ≡ scope_count f
-  pub some : 0 < scope_count f
+  pub counted : (frame_meta frame).num_scopes ≡ scope_count forest
+  pub some : 0 < scope_count forest
 
 -- the details that the next frame lists
 abbrev pub listed_next : {C : Type 0} → Moment C → List Details
-listed_next m = delta_of m.collected.collection m.collected.new_details m.collected.wants_all
+listed_next moment = delta_of moment.collected.collection moment.collected.new_details moment.collected.wants_all

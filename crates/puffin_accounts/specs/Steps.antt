@@ -51,8 +51,8 @@ module _ {C R : Type 0} (answers : C → ℤ → C → Type 0) (seen : R → Col
       × (clock_of (profiler_of new) ≡ clock_of (profiler_of old))
       × (scopes_of new ≡ scopes_of old)
   Does (frame result) old new =
-      IfOk result (λ f. Collects (seen (reporter_of old)) f (seen (reporter_of new)))
-      × IfErr result (λ e. KeepsPending (seen (reporter_of old)) e (seen (reporter_of new)))
+      IfOk result (λ taken. Collects (seen (reporter_of old)) taken (seen (reporter_of new)))
+      × IfErr result (λ error. KeepsPending (seen (reporter_of old)) error (seen (reporter_of new)))
       × (profiler_of new ≡ profiler_of old)
       × (scopes_of new ≡ scopes_of old)
 
@@ -68,12 +68,13 @@ Marks known form (begins place text (On offset)) events =
     MayBe known place (On offset)
     × (start : ℤ) × (events ≡ Open place.id (cut_text form text) start ∷ [])
 Marks known form (begins place text Off) events = events ≡ []
-Marks known form (begins place text (Refused e)) events =
-    MayBe known place (Refused e) × (events ≡ [])
+Marks known form (begins place text (Refused error)) events =
+    MayBe known place (Refused error) × (events ≡ [])
 Marks known form (ends offset) events = (events ≡ []) ⊎ ((stop : ℤ) × (events ≡ Close stop ∷ []))
 Marks known form (reports result) events = events ≡ []
 Marks known form (frame result) events = events ≡ []
 
+-- all of these events, one list after the other
 abbrev pub flat : List (List Event) → List Event
 flat [] = []
 flat (word ∷ words) = word ++ flat words
@@ -81,33 +82,34 @@ flat (word ∷ words) = word ++ flat words
 -- the frames that were handed out, in order
 abbrev pub frames_in : List Call → List FrameData
 frames_in [] = []
-frames_in (frame (Ok (Some f)) ∷ later) = arc_value f ∷ frames_in later
+frames_in (frame (Ok (Some taken)) ∷ later) = arc_value taken ∷ frames_in later
 frames_in (frame (Ok None) ∷ later) = frames_in later
-frames_in (frame (Err e) ∷ later) = frames_in later
+frames_in (frame (Err error) ∷ later) = frames_in later
 frames_in (begins place text state ∷ later) = frames_in later
 frames_in (ends offset ∷ later) = frames_in later
 frames_in (reports result ∷ later) = frames_in later
 
+-- the events of these forests, one after the other
 abbrev pub tours : List Forest → List Event
 tours [] = []
-tours (f ∷ later) = tour f ++ tours later
+tours (forest ∷ later) = tour forest ++ tours later
 
 -- the frame's only stream stands under this thread's name, and spells this forest
 abbrev pub ShowsOf : List ℕ → FrameData → Forest → Type 0
-ShowsOf name f forest =
-    (index : ℕ) × (key : ThreadKey) × (key.name ≡ name) × ShowsForest f index key forest
+ShowsOf name shown forest =
+    (index : ℕ) × (key : ThreadKey) × (key.name ≡ name) × ShowsForest shown index key forest
 
 -- these events of the thread, and nothing else, are due for the next frame
-pub record IsDue {C : Type 0} (m : Moment C) (events : List Event) : Type 0 where
-  pub here : ((get m.collected.streams (key_at m) ≡ None) × (events ≡ []))
-      ⊎ ((r : StreamFacts)
-      × (get m.collected.streams (key_at m) ≡ Some r)
-      × SpellsEvents r events)
-  pub only : (i : ThreadKey) → has_same_key i (key_at m) ≡ false →
-      get m.collected.streams i ≡ None
+pub record IsDue {C : Type 0} (moment : Moment C) (events : List Event) : Type 0 where
+  pub here : ((get moment.collected.streams (key_at moment) ≡ None) × (events ≡ []))
+      ⊎ ((stream : StreamFacts)
+      × (get moment.collected.streams (key_at moment) ≡ Some stream)
+      × SpellsEvents stream events)
+  pub only : (other : ThreadKey) → has_same_key other (key_at moment) ≡ false →
+      get moment.collected.streams other ≡ None
   -- before the first scope there is nothing
-  pub unstarted : m.thread.first_start ≡ None →
-      (events ≡ []) × (m.thread.word ≡ []) × (m.collected.streams ≡ empty)
+  pub unstarted : moment.thread.first_start ≡ None →
+      (events ≡ []) × (moment.thread.word ≡ []) × (moment.collected.streams ≡ empty)
 
 -- What the calls of a run did: each records at most its own event, at the time that the clock gave; and the events shown by the
 -- frames, those that are due and those that wait are, one after the other, those that were due and waited before, and then those
@@ -136,11 +138,11 @@ CallsAccount {C} {R} answers accepts refuses =
 -- a new thread that reports to what has collected nothing has nothing due
 abbrev pub NoneDueAtFirst : Type 0 → Type 0
 NoneDueAtFirst C =
-    (m : Moment C) (name : List ℕ) (form : Form) → m.thread ≡ new_thread name form →
-    m.collected.streams ≡ empty → IsDue m []
+    (moment : Moment C) (name : List ℕ) (form : Form) → moment.thread ≡ new_thread name form →
+    moment.collected.streams ≡ empty → IsDue moment []
 
 -- a frame call that answers that there is no frame says that nothing was due
 abbrev pub NoFrameNothingDue : Type 0 → Type 0
 NoFrameNothingDue C =
-    (m : Moment C) (due : List Event) (later : Collected) → IsDue m due →
-    Collects {A = Global} m.collected None later → due ≡ []
+    (moment : Moment C) (due : List Event) (later : Collected) → IsDue moment due →
+    Collects {A = Global} moment.collected None later → due ≡ []

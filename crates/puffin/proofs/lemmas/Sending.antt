@@ -43,7 +43,8 @@ module _ (L M : RattleType) (l : led.Ghosts L.Denot) (m : led.Ghosts M.Denot) wh
 
 module _ (D : RattleType) (g : Ghosts D.Denot) (s : Sends (table_of D.Denot g)) (sd : IsSend D) where
   pub sink_send : IsSend (Sink.the_field D g).row
-  sink_send = enum_send (shape (Sink.the_type D g)) ((search (view_send, crosses, sendable) depth 30 fits 10000, tt), ((dyn_box_send D g s sd, tt), tt))
+  sink_send = enum_send (shape (Sink.the_type D g))
+      ((search (view_send, crosses, sendable) depth 30 fits 10000, tt), ((dyn_box_send D g s sd, tt), tt))
 
   pub entry_send : IsSend (SinkEntry.the_field D g).row
   entry_send = search (sink_send, crosses, sendable) depth 30 fits 10000
@@ -56,7 +57,25 @@ module _ (D : RattleType) (g : Ghosts D.Denot) (s : Sends (table_of D.Denot g)) 
 
   module _ (L M : RattleType) (l : led.Ghosts L.Denot) (h : hist.Ghosts L.Denot) (m : led.Ghosts M.Denot) where
     pub booked_send : IsSend (Booked.the_field L M D l h m g).row
-    booked_send = struct_send (struct_shape (Booked.the_type L M D l h m g)) (search (crosses, sendable) depth 30 fits 10000, (global_send, (ledger_book.the_send L l, (ledger_book.the_send M m, (parts_send L M l m, (search (crosses, sendable) depth 30 fits 10000, (search (crosses, sendable) depth 30 fits 10000, (event_log_send L h, tt))))))))
+    booked_send = struct_send (struct_shape (Booked.the_type L M D l h m g)) (
+      search (crosses, sendable) depth 30 fits 10000,
+      (
+        global_send,
+        (
+          ledger_book.the_send L l,
+          (
+            ledger_book.the_send M m,
+            (
+              parts_send L M l m,
+              (
+                search (crosses, sendable) depth 30 fits 10000,
+                (search (crosses, sendable) depth 30 fits 10000, (event_log_send L h, tt)),
+              ),
+            ),
+          ),
+        ),
+      ),
+    )
 
     pub shared_send : IsSend (Shared.the_field L M D l h m g).row
     shared_send = search (booked_send, crosses, sendable) depth 30 fits 10000

@@ -23,26 +23,27 @@ use Rattle.puffin.specs.Sinks.Handing.{HandsOn, HandsOnAny}
 
 module _ {I : Type 0} {F : I → Type 0} where
   -- a report of scopes under a thread's info, with these details
-  pub record TakesReport (old : GlobalProfiler I F) (i : ThreadKey) (ds : List Details) (r : StreamFacts)
+  pub record TakesReport (old : GlobalProfiler I F) (key : ThreadKey) (details : List Details) (report : StreamFacts)
       (result : Result (Unit {0}) Error) (new : GlobalProfiler I F) : Type 0 where
-    pub ok : OnOk result (AcceptsReport (collected_of old) i ds r (collected_of new))
-    pub err : IfErr result (λ e. RefusesReport (collected_of old) i ds r e (collected_of new))
+    pub ok : OnOk result (AcceptsReport (collected_of old) key details report (collected_of new))
+    pub err : IfErr result (λ error. RefusesReport (collected_of old) key details report error (collected_of new))
     pub sinks : SameSinks old new
 
   -- the registration of the caller's own scopes, of which each gets an id
-  pub record RegistersScopes {X : Type 0} (ids : X → List ℕ) (old : GlobalProfiler I F) (ds : List Details)
+  pub record RegistersScopes {X : Type 0} (ids : X → List ℕ) (old : GlobalProfiler I F) (details : List Details)
       (result : Result X Error) (new : GlobalProfiler I F) : Type 0 where
-    pub ok : IfOk result (λ x. Adds (collected_of old) ds (ids x) (collected_of new))
-    pub err : IfErr result (λ e. AddsSome (collected_of old) ds e (collected_of new))
+    pub ok : IfOk result (λ registered. Adds (collected_of old) details (ids registered) (collected_of new))
+    pub err : IfErr result (λ error. AddsSome (collected_of old) details error (collected_of new))
     pub sinks : SameSinks old new
 
   -- a new frame, which each sink is handed; `accepts` is what `FrameSink::accepts` relates, for the sink in any box
   pub record HandsOutFrame
-      (accepts : (b : DynBox I Global F) → F b.vtable → FrameData → Result (Unit {0}) Error →
-      F b.vtable → Type 0)
+      (accepts : (boxed : DynBox I Global F) → F boxed.vtable → FrameData → Result (Unit {0}) Error →
+      F boxed.vtable → Type 0)
       (old : GlobalProfiler I F) (result : Result Emitted Error) (new : GlobalProfiler I F) : Type 0 where
-    pub collected : CollectsFrame (λ e. e.frame) (collected_of old) result (collected_of new)
-    pub handed : IfOk result (λ e. HandsOnAny accepts e.frame (sinks_of old) e.refused (sinks_of new))
+    pub collected : CollectsFrame (λ emitted. emitted.frame) (collected_of old) result (collected_of new)
+    pub handed : IfOk result (λ emitted.
+        HandsOnAny accepts emitted.frame (sinks_of old) emitted.refused (sinks_of new))
     pub kept : OnErr result (sinks_of new ≡ sinks_of old)
     pub next : next_sink_of new ≡ next_sink_of old
 
@@ -61,8 +62,8 @@ module _ {I : Type 0} {F : I → Type 0} where
 
   -- the same, and each sink is handed the frame
   pub record AddsFrame
-      (accepts : (b : DynBox I Global F) → F b.vtable → FrameData → Result (Unit {0}) Error →
-      F b.vtable → Type 0)
+      (accepts : (boxed : DynBox I Global F) → F boxed.vtable → FrameData → Result (Unit {0}) Error →
+      F boxed.vtable → Type 0)
       (old : GlobalProfiler I F) (frame : FrameData) (result : Result ℕ Error) (new : GlobalProfiler I F) :
       Type 0 where
     pub learns : LearnsFrame old frame result new
@@ -76,13 +77,13 @@ module _ {I : Type 0} {F : I → Type 0} where
         (id ≡ next_sink_of old)
         × (next_sink_of new ≡ next_sink_of old + 1)
         × PutsIn id sink (sinks_of old) (sinks_of new))
-    pub err : IfErr result (λ e.
-        (e.1 ≡ sink)
+    pub err : IfErr result (λ refused.
+        (refused.1 ≡ sink)
         × (sinks_of new ≡ sinks_of old)
         × (next_sink_of new ≡ next_sink_of old))
-    pub cause : IfErr result (λ e.
-        ((e.0 ≡ SinkIdsExhausted) × (next_sink_of old ≡ 2 ^ 64 - 1))
-        ⊎ ((e.0 ≡ Memory) × (next_sink_of old < 2 ^ 64 - 1)))
+    pub cause : IfErr result (λ refused.
+        ((refused.0 ≡ SinkIdsExhausted) × (next_sink_of old ≡ 2 ^ 64 - 1))
+        ⊎ ((refused.0 ≡ Memory) × (next_sink_of old < 2 ^ 64 - 1)))
     pub rest : collected_of new ≡ collected_of old
 
   -- the removal of the sink with this number

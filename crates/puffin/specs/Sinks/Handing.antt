@@ -21,28 +21,32 @@ refusal NoCopy = 1
 
 -- `accepts` is what `FrameSink::accepts` relates, for the sink in any box.
 module _ {I : Type 0} {F : I → Type 0}
-    (accepts : (b : DynBox I Global F) → F b.vtable → FrameData → Result (Unit {0}) Error →
-    F b.vtable → Type 0) where
-  -- the sink in a box returned this result for this frame, and `c` is the box after that
+    (accepts : (boxed : DynBox I Global F) → F boxed.vtable → FrameData → Result (Unit {0}) Error →
+    F boxed.vtable → Type 0) where
+  -- the sink in a box returned this result for this frame, and `boxed_then` is the box after that
   abbrev pub Answers : DynBox I Global F → FrameData → Result (Unit {0}) Error →
       DynBox I Global F → Type 0
-  Answers b frame r c =
-      (x : F b.vtable) × accepts b b.value frame r x × (c ≡ dyn_box_with b b.vtable x)
+  Answers boxed frame result boxed_then =
+      (sink_then : F boxed.vtable)
+      × accepts boxed boxed.value frame result sink_then
+      × (boxed_then ≡ dyn_box_with boxed boxed.vtable sink_then)
 
   -- One sink after an outcome. A view is still the same shared view; what it holds is left open.
   abbrev pub HandedTo : FrameData → Sink I F → Outcome → Sink I F → Type 0
-  HandedTo frame (View v) o new = new ≡ View v
-  HandedTo frame (Boxed b) Accepted new =
-      (c : DynBox I Global F) × Answers b frame (Ok tt) c × (new ≡ Boxed c)
-  HandedTo frame (Boxed b) Refused new =
-      (c : DynBox I Global F) × (e : Error) × Answers b frame (Err e) c × (new ≡ Boxed c)
-  HandedTo frame (Boxed b) NoCopy new = new ≡ Boxed b
+  HandedTo frame (View view) outcome new = new ≡ View view
+  HandedTo frame (Boxed boxed) Accepted new =
+      (boxed_then : DynBox I Global F) × Answers boxed frame (Ok tt) boxed_then × (new ≡ Boxed boxed_then)
+  HandedTo frame (Boxed boxed) Refused new =
+      (boxed_then : DynBox I Global F) × (error : Error)
+      × Answers boxed frame (Err error) boxed_then
+      × (new ≡ Boxed boxed_then)
+  HandedTo frame (Boxed boxed) NoCopy new = new ≡ Boxed boxed
 
   -- all sinks after their outcomes, one outcome for each sink, in order
   abbrev pub Handed : FrameData → List (SinkEntry I F) → List Outcome → List (SinkEntry I F) → Type 0
   Handed frame [] [] [] = Unit {0}
-  Handed frame (e ∷ es) (o ∷ os) (f ∷ fs) =
-      (f.id ≡ e.id) × HandedTo frame e.sink o f.sink × Handed frame es os fs
+  Handed frame (old ∷ olds) (outcome ∷ outcomes) (new ∷ news) =
+      (new.id ≡ old.id) × HandedTo frame old.sink outcome new.sink × Handed frame olds outcomes news
   Handed frame _ _ _ = ⊥
 
   -- a frame is handed to all sinks, and this number of them didn't take it
@@ -52,7 +56,7 @@ module _ {I : Type 0} {F : I → Type 0}
       × Handed frame old outcomes new
       × (refused ≡ sum_by refusal outcomes)
 
-  -- the same if there is a frame; if there is none, no sink changes, and none refuses
+  -- a frame, if there is one, is handed to all sinks; if there is none, no sink changes, and none refuses
   abbrev pub HandsOnAny : {A : Type 0} → Option (Arc FrameData A) → List (SinkEntry I F) → ℕ →
       List (SinkEntry I F) → Type 0
   HandsOnAny None old refused new = (new ≡ old) × (refused ≡ 0)

@@ -49,8 +49,9 @@ pub struct Booked<L: Ledger + History, M: Ledger> {
     reported: Book<L>,
     handed: Book<M>,
     parts: Parts<L, M>,
-    /// How many parts of rounds were done, and how many rounds were closed.
+    /// How many times a thread has arrived at the end of a round.
     arrived: u64,
+    /// How many rounds were released.
     released: u64,
     log: Log<Event, L>,
     ghost reported_is: { reported.total ≡ (collected_of profiler).reported },
@@ -74,7 +75,7 @@ pub struct Settled {
 }
 
 impl<L: Ledger + History, M: Ledger> Booked<L, M> {
-    ghost use Rattle.puffin.specs.Booked.{profiler_of, collected_in, entries_of, parts_done, rounds_closed};
+    ghost use Rattle.puffin.specs.Booked.{profiler_of, collected_in, entries_of, arrivals_in, releases_in};
 
     /// Combines a profiler to which no scopes were reported with its books and a log without entries.
     pub(crate) fn new(
@@ -205,7 +206,7 @@ impl<L: Ledger + History, M: Ledger> Booked<L, M> {
     /// the history's next entry.
     pub fn new_frame<R: Wait>(&mut self, rt: &R, share: &mut Share<L, M>) -> Result<Emitted>
         requires boxed_sinks { ⊤ }
-        ensures handed_out { HandsOutFrame (λ b. (FrameSink-box b).accepts)
+        ensures handed_out { HandsOutFrame (λ boxed. (FrameSink-box boxed).accepts)
             (profiler_of self.old) result (profiler_of self.new) }
         ensures counted { IfOk result (λ emitted.
             CountsFrame share.old.counts emitted.frame share.new.counts) }
@@ -228,7 +229,7 @@ impl<L: Ledger + History, M: Ledger> Booked<L, M> {
     /// entry of the history.
     pub fn add_frame<R: Wait>(&mut self, rt: &R, frame: Arc<FrameData>) -> Result<usize>
         requires boxed_sinks { ⊤ }
-        ensures added { AddsFrame (λ b. (FrameSink-box b).accepts)
+        ensures added { AddsFrame (λ boxed. (FrameSink-box boxed).accepts)
             (profiler_of self.old) (arc_value frame) result (profiler_of self.new) }
         ensures log { entries_of self.new ≡ entries_of self.old }
     {
@@ -270,54 +271,55 @@ impl<L: Ledger + History, M: Ledger> Booked<L, M> {
         self.profiler.totals()
     }
 
-    /// Counts a thread's part of a round, and returns how many parts were done so far.
+    /// Counts that a thread has arrived at the end of a round, and returns how many times one has so far.
     pub(crate) fn arrive(&mut self, share: &mut Share<L, M>) -> u64
         requires boxed_sinks { ⊤ }
         ensures marks { Marks share.old arrived share.new }
-        ensures counted { (result ≡ one_more (parts_done self.old))
-            × (parts_done self.new ≡ result)
-            × (rounds_closed self.new ≡ rounds_closed self.old) }
+        ensures counted { (result ≡ one_more (arrivals_in self.old))
+            × (arrivals_in self.new ≡ result)
+            × (releases_in self.new ≡ releases_in self.old) }
     {
         self.arrived = self.arrived.saturating_add(1);
         self.log.add::<(), Arrives>(&mut share.author, &());
         self.arrived
     }
 
-    /// Counts a round as closed.
+    /// Counts a round as released.
     pub(crate) fn release(&mut self, share: &mut Share<L, M>)
         requires boxed_sinks { ⊤ }
         ensures marks { Marks share.old released share.new }
-        ensures counted { (rounds_closed self.new ≡ one_more (rounds_closed self.old))
-            × (parts_done self.new ≡ parts_done self.old) }
+        ensures counted { (releases_in self.new ≡ one_more (releases_in self.old))
+            × (arrivals_in self.new ≡ arrivals_in self.old) }
     {
         self.released = self.released.saturating_add(1);
         self.log.add::<(), Releases>(&mut share.author, &());
     }
 
-    /// Returns whether at least this many parts were done. If so, the share has seen it.
-    pub(crate) fn have_arrived(&mut self, share: &mut Share<L, M>, parts: u64) -> bool
+    /// Returns whether threads have arrived at least this many times. If so, the share has seen it.
+    pub(crate) fn have_arrived(&mut self, share: &mut Share<L, M>, arrivals: u64) -> bool
         requires boxed_sinks { ⊤ }
-        ensures result { IsTrue result ↔ (parts ≤ parts_done self.old) }
-        ensures so { IsTrue result → Marks share.old (saw_arrived parts) share.new }
+        ensures result { IsTrue result ↔ (arrivals ≤ arrivals_in self.old) }
+        ensures so { IsTrue result → Marks share.old (saw_arrived arrivals) share.new }
         ensures otherwise { IsFalse result → share.new ≡ share.old }
-        ensures same { (parts_done self.new ≡ parts_done self.old)
-            × (rounds_closed self.new ≡ rounds_closed self.old) }
+        ensures same { (arrivals_in self.new ≡ arrivals_in self.old)
+            × (releases_in self.new ≡ releases_in self.old) }
     {
-        let have = self.arrived >= parts;
+        let have = self.arrived >= arrivals;
         if have {
-            self.log.add::<u64, SeesArrived>(&mut share.author, &parts);
+            self.log
+                .add::<u64, SeesArrived>(&mut share.author, &arrivals);
         }
         have
     }
 
-    /// Returns whether at least this many rounds were closed. If so, the share has seen it.
+    /// Returns whether at least this many rounds were released. If so, the share has seen it.
     pub(crate) fn have_released(&mut self, share: &mut Share<L, M>, rounds: u64) -> bool
         requires boxed_sinks { ⊤ }
-        ensures result { IsTrue result ↔ (rounds ≤ rounds_closed self.old) }
+        ensures result { IsTrue result ↔ (rounds ≤ releases_in self.old) }
         ensures so { IsTrue result → Marks share.old (saw_released rounds) share.new }
         ensures otherwise { IsFalse result → share.new ≡ share.old }
-        ensures same { (parts_done self.new ≡ parts_done self.old)
-            × (rounds_closed self.new ≡ rounds_closed self.old) }
+        ensures same { (arrivals_in self.new ≡ arrivals_in self.old)
+            × (releases_in self.new ≡ releases_in self.old) }
     {
         let have = self.released >= rounds;
         if have {
@@ -338,14 +340,15 @@ impl<L: Ledger + History, M: Ledger> Booked<L, M> {
         requires boxed_sinks { ⊤ }
         ensures full { OnOk result (
             (vec_len shares ≡ L.parts) × (vec_len shares ≡ M.parts)) }
-        ensures reported { IfOk result (λ s. s.reported ≡ all_reported shares.items) }
-        ensures handed { IfOk result (λ s. s.handed ≡ all_handed shares.items) }
-        ensures pending { IfOk result (λ s. s.pending
+        ensures reported { IfOk result (λ settled. settled.reported ≡ all_reported shares.items) }
+        ensures handed { IfOk result (λ settled. settled.handed ≡ all_handed shares.items) }
+        ensures pending { IfOk result (λ settled. settled.pending
             ≡ total_scopes (map.values (collected_in self.old).streams)) }
         ensures history { OnOk result (
             Recounts (vec_len shares) (accounts_of shares.items) (entries_of self.old)
             (collected_in self.old).streams) }
-        ensures err { IfErr result (λ v. (v ≡ shares) × ¬ (vec_len shares ≡ L.parts)) }
+        ensures err { IfErr result (λ returned.
+            (returned ≡ shares) × ¬ (vec_len shares ≡ L.parts)) }
         ensures same { profiler_of self.new ≡ profiler_of self.old }
     {
         if shares.len() as u64 != self.parts.n() {

@@ -37,7 +37,7 @@ impl<'a> Adds<Report<'a>, Event> for Reports {
     ghost use Rattle.puffin_threads.specs.Thread.ThreadKey.{key_of};
     ghost use Rattle.puffin.specs.Happenings.{reported};
 
-    ghost entry = { λ r. reported (key_of r.info.value) (facts_of_ref r.times.now) };
+    ghost entry = { λ report. reported (key_of report.info.value) (facts_of_ref report.times.now) };
 }
 
 /// Adds a frame.
@@ -60,7 +60,7 @@ impl Adds<(), Event> for Returns {
     ghost entry = { λ nothing. marked left };
 }
 
-/// Adds that a thread did its part of a round.
+/// Adds that a thread arrived at the end of a round.
 pub(crate) struct Arrives;
 
 impl Adds<(), Event> for Arrives {
@@ -69,7 +69,7 @@ impl Adds<(), Event> for Arrives {
     ghost entry = { λ nothing. marked arrived };
 }
 
-/// Adds that a round was closed.
+/// Adds that a round was released.
 pub(crate) struct Releases;
 
 impl Adds<(), Event> for Releases {
@@ -78,7 +78,7 @@ impl Adds<(), Event> for Releases {
     ghost entry = { λ nothing. marked released };
 }
 
-/// Adds that a share saw so many parts done.
+/// Adds that a share saw threads arrived so many times.
 pub(crate) struct SeesArrived;
 
 impl Adds<u64, Event> for SeesArrived {
@@ -87,7 +87,7 @@ impl Adds<u64, Event> for SeesArrived {
     ghost entry = { λ number. marked (saw_arrived number) };
 }
 
-/// Adds that a share saw so many rounds closed.
+/// Adds that a share saw so many rounds released.
 pub(crate) struct SeesReleased;
 
 impl Adds<u64, Event> for SeesReleased {

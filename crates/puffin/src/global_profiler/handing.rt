@@ -44,8 +44,8 @@ impl Outcome {
 
 /// Hands a frame to each of these sinks, in order. Returns how many sinks didn't take it.
 pub(crate) fn hand_all<R: Wait>(rt: &R, sinks: &mut [SinkEntry], frame: &Arc<FrameData>) -> usize
-    ensures { HandsOn (λ b. (FrameSink-box b).accepts) (arc_value frame.now) sinks.old result
-        sinks.new }
+    ensures { HandsOn (λ boxed. (FrameSink-box boxed).accepts) (arc_value frame.now) sinks.old
+        result sinks.new }
 {
     let mut refused = 0;
     for entry in sinks.iter_mut() {
@@ -57,8 +57,8 @@ pub(crate) fn hand_all<R: Wait>(rt: &R, sinks: &mut [SinkEntry], frame: &Arc<Fra
 
 /// Hands a frame to one sink, which shares it.
 fn hand<R: Wait>(rt: &R, sink: &mut Sink, frame: &Arc<FrameData>) -> Outcome
-    ensures { HandedTo (λ b. (FrameSink-box b).accepts) (arc_value frame.now) sink.old result
-        sink.new }
+    ensures { HandedTo (λ boxed. (FrameSink-box boxed).accepts) (arc_value frame.now) sink.old
+        result sink.new }
 {
     let Ok(copy) = Arc::try_clone(frame) else {
         return Outcome::NoCopy;
@@ -74,7 +74,8 @@ fn hand<R: Wait>(rt: &R, sink: &mut Sink, frame: &Arc<FrameData>) -> Outcome
 
 /// Hands a frame to a boxed sink.
 fn hand_to_box(sink: &mut Box<dyn FrameSink + Send>, frame: Arc<FrameData>) -> Result<()>
-    ensures { Answers (λ b. (FrameSink-box b).accepts) sink.old (arc_value frame) result sink.new }
+    ensures { Answers (λ boxed. (FrameSink-box boxed).accepts) sink.old (arc_value frame) result
+        sink.new }
 {
     sink.accept(frame)
 }

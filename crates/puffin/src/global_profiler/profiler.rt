@@ -164,7 +164,7 @@ impl GlobalProfiler {
     /// Fails as [`Collector::collect_frame`] does, before any sink is called.
     pub fn new_frame<R: Wait>(&mut self, rt: &R) -> Result<Emitted>
         requires boxed_sinks { ⊤ }
-        ensures { HandsOutFrame (λ b. (FrameSink-box b).accepts) self.old result self.new }
+        ensures { HandsOutFrame (λ boxed. (FrameSink-box boxed).accepts) self.old result self.new }
     {
         let Some(frame) = self.collector.collect_frame()? else {
             return Ok(Emitted {
@@ -187,8 +187,8 @@ impl GlobalProfiler {
     /// `Memory`, and then the first few of its details may have become known. If it fails, no sink is called.
     pub fn add_frame<R: Wait>(&mut self, rt: &R, frame: Arc<FrameData>) -> Result<usize>
         requires boxed_sinks { ⊤ }
-        ensures { AddsFrame (λ b. (FrameSink-box b).accepts) self.old (arc_value frame) result
-            self.new }
+        ensures { AddsFrame (λ boxed. (FrameSink-box boxed).accepts) self.old (arc_value frame)
+            result self.new }
     {
         self.collector.learn(&frame.scope_delta)?;
         Ok(self.sinks.hand_on(rt, &frame))
@@ -232,12 +232,12 @@ impl Reporter for GlobalProfiler {
     ghost use Rattle.puffin_collector.specs.Collector.State.{AcceptsReport, RefusesReport};
     ghost use Rattle.puffin.specs.Profiler.{collected_of, sinks_of};
 
-    ghost accepts = { λ old i ds r new.
-        AcceptsReport (collected_of old) i ds r (collected_of new)
+    ghost accepts = { λ old key details report new.
+        AcceptsReport (collected_of old) key details report (collected_of new)
         × (sinks_of new ≡ sinks_of old) };
 
-    ghost refuses = { λ old i ds r e new.
-        RefusesReport (collected_of old) i ds r e (collected_of new)
+    ghost refuses = { λ old key details report error new.
+        RefusesReport (collected_of old) key details report error (collected_of new)
         × (sinks_of new ≡ sinks_of old) };
 
     fn report(

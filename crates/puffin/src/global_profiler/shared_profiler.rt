@@ -94,8 +94,9 @@ impl<L: Ledger + History, M: Ledger> SharedProfiler<L, M> {
             × (handed.parts ≡ M.parts)
             × (handed.parts ≡ n) }
         requires log { log.name ≡ L.history }
-        ensures shares { IfOk result (λ r. (vec_len r.1 ≡ n) × All IsNewMember r.1.items) }
-        ensures err { IfErr result (λ e. e.0 ≡ Error.Memory) }
+        ensures shares { IfOk result (λ opened.
+            (vec_len opened.1 ≡ n) × All IsNewMember opened.1.items) }
+        ensures err { IfErr result (λ refused. refused.0 ≡ Error.Memory) }
     {
         let (reported, all_reported) = reported.open::<L>();
         let (handed, all_handed) = handed.open::<M>();
@@ -253,8 +254,8 @@ impl<L: Ledger + History, M: Ledger> SharedProfiler<L, M> {
         sink: Sink,
     ) -> std::result::Result<FrameSinkId, (Error, Sink)>
         requires boxed_sinks { ⊤ }
-        ensures err { IfErr result (λ e.
-            (e.1 ≡ sink) × IsSinkCause e.0) }
+        ensures err { IfErr result (λ refused.
+            (refused.1 ≡ sink) × IsSinkCause refused.0) }
     {
         self.lock(rt).add_sink(sink)
     }
@@ -292,20 +293,20 @@ impl<L: Ledger + History, M: Ledger> SharedProfiler<L, M> {
         self.lock(rt).release(share);
     }
 
-    /// Waits until at least this many parts were done. `changed` must be notified then.
+    /// Waits until threads have arrived at least this many times. `changed` must be notified then.
     pub(crate) fn wait_arrived<R: Wait>(
         &self,
         rt: &R,
         share: &mut Share<L, M>,
         changed: &Condvar,
-        parts: u64,
+        arrivals: u64,
     )
         requires boxed_sinks { ⊤ }
-        ensures { Marks share.old (saw_arrived parts) share.new }
+        ensures { Marks share.old (saw_arrived arrivals) share.new }
     {
         let mut booked = self.lock(rt);
         for _ in rt.forever() {
-            if booked.have_arrived(share, parts) {
+            if booked.have_arrived(share, arrivals) {
                 return;
             }
             booked = changed.wait(rt, booked);
@@ -313,7 +314,7 @@ impl<L: Ledger + History, M: Ledger> SharedProfiler<L, M> {
         unreachable!()
     }
 
-    /// Waits until at least this many rounds were closed. `changed` must be notified then.
+    /// Waits until at least this many rounds were released. `changed` must be notified then.
     pub(crate) fn wait_released<R: Wait>(
         &self,
         rt: &R,
@@ -350,13 +351,14 @@ impl<L: Ledger + History, M: Ledger> SharedProfiler<L, M> {
         requires boxed_sinks { ⊤ }
         ensures full { OnOk result (
             (vec_len shares ≡ L.parts) × (vec_len shares ≡ M.parts)) }
-        ensures reported { IfOk result (λ s. s.reported ≡ all_reported shares.items) }
-        ensures handed { IfOk result (λ s. s.handed ≡ all_handed shares.items) }
-        ensures history { IfOk result (λ s.
+        ensures reported { IfOk result (λ settled. settled.reported ≡ all_reported shares.items) }
+        ensures handed { IfOk result (λ settled. settled.handed ≡ all_handed shares.items) }
+        ensures history { IfOk result (λ settled.
             (log : History) × (streams : Streams)
             × Recounts (vec_len shares) (accounts_of shares.items) log streams
-            × (s.pending ≡ total_scopes (map.values streams))) }
-        ensures err { IfErr result (λ v. (v ≡ shares) × ¬ (vec_len shares ≡ L.parts)) }
+            × (settled.pending ≡ total_scopes (map.values streams))) }
+        ensures err { IfErr result (λ returned.
+            (returned ≡ shares) × ¬ (vec_len shares ≡ L.parts)) }
     {
         self.lock(rt).settle(shares)
     }

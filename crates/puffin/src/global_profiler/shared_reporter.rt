@@ -133,13 +133,14 @@ impl<L: Ledger + History, M: Ledger, R: Wait> Reporter for SharedReporter<L, M, 
     ghost use Rattle.puffin.specs.Happenings.{reported};
     ghost use Rattle.puffin.specs.Members.{Told};
 
-    ghost accepts = { λ old i ds r new.
-        ((share_of new).counts ≡ with_reported (share_of old).counts r.num_scopes)
-        × Told (share_of old) (reported i r) (share_of new)
-        × (length r.bytes < 2 ^ 64)
-        × AllHaveIds ds };
+    ghost accepts = { λ old key details report new.
+        ((share_of new).counts ≡ with_reported (share_of old).counts report.num_scopes)
+        × Told (share_of old) (reported key report) (share_of new)
+        × (length report.bytes < 2 ^ 64)
+        × AllHaveIds details };
 
-    ghost refuses = { λ old i ds r e new. (share_of new ≡ share_of old) × IsReportCause ds e };
+    ghost refuses = { λ old key details report error new.
+        (share_of new ≡ share_of old) × IsReportCause details error };
 
     #[inline]
     fn report(

@@ -46,13 +46,13 @@ impl Sinks {
             (id ≡ self.old.next)
             × (self.new.next ≡ self.old.next + 1)
             × PutsIn self.old.next sink self.old.entries.items self.new.entries.items) }
-        ensures err { IfErr result (λ e.
-            (e.1 ≡ sink)
+        ensures err { IfErr result (λ refused.
+            (refused.1 ≡ sink)
             × (self.new.entries.items ≡ self.old.entries.items)
             × (self.new.next ≡ self.old.next)) }
-        ensures cause { IfErr result (λ e.
-            ((e.0 ≡ Error.SinkIdsExhausted) × (self.old.next ≡ 2 ^ 64 - 1))
-            ⊎ ((e.0 ≡ Error.Memory) × (self.old.next < 2 ^ 64 - 1))) }
+        ensures cause { IfErr result (λ refused.
+            ((refused.0 ≡ Error.SinkIdsExhausted) × (self.old.next ≡ 2 ^ 64 - 1))
+            ⊎ ((refused.0 ≡ Error.Memory) × (self.old.next < 2 ^ 64 - 1))) }
     {
         let id = self.next;
         let Some(next) = id.checked_add(1) else {
@@ -88,7 +88,7 @@ impl Sinks {
 
     /// Hands a frame to each sink, in ascending order of number. Returns how many sinks didn't take it.
     pub(crate) fn hand_on<R: Wait>(&mut self, rt: &R, frame: &Arc<FrameData>) -> usize
-        ensures handed { HandsOn (λ b. (FrameSink-box b).accepts) (arc_value frame.now)
+        ensures handed { HandsOn (λ boxed. (FrameSink-box boxed).accepts) (arc_value frame.now)
             self.old.entries.items result self.new.entries.items }
         ensures next { self.new.next ≡ self.old.next }
     {
@@ -98,8 +98,9 @@ impl Sinks {
 
 /// Returns the position of the sink with this number.
 fn place_of(entries: &[SinkEntry], id: FrameSinkId) -> Option<usize>
-    ensures some { IfSome result (λ i.
-        (e : _) × (slice_get entries.now i ≡ Some e) × (e.id ≡ id) × (i < length entries.now)) }
+    ensures some { IfSome result (λ place.
+        (entry : _) × (slice_get entries.now place ≡ Some entry) × (entry.id ≡ id)
+        × (place < length entries.now)) }
     ensures none { IfNone result (HasNone id entries.now) }
 {
     for at in 0..entries.len() {

@@ -4,7 +4,6 @@ ghost use Rattle.std.specs.Prelude.{◌≡◌, ◌<◌, ◌^◌};
 use crate::global_profiler::{Share, SharedReporter};
 use crate::light::meeting::{Meeting, Meets};
 use crate::light::outcome::ThreadCounts;
-use crate::light::ready::NotReported;
 use crate::scope_details::ScopeDetails;
 use crate::thread_profiler::{Reporter, ThreadInfo};
 use history::History;
@@ -49,8 +48,8 @@ impl<L: Ledger + History, M: Ledger, R: Wait> Counting<L, M, R> {
 }
 
 impl<L: Ledger + History, M: Ledger, R: Wait + Drop> Counting<L, M, R> {
-    /// Returns the share, with the number of scopes that it counts and the numbers of those that were left.
-    pub(crate) fn into_share(self, left: NotReported) -> CountedShare<L, M>
+    /// Returns the share, with the number of scopes that were reported and these numbers of those that weren't.
+    pub(crate) fn into_share(self, left: ThreadCounts) -> CountedShare<L, M>
         ensures share { result.share ≡ self.reporter.share }
         ensures counts { (result.counts.unreported ≡ left.unreported)
             × (result.counts.refused ≡ left.refused)
@@ -59,12 +58,7 @@ impl<L: Ledger + History, M: Ledger, R: Wait + Drop> Counting<L, M, R> {
         let Counting { reporter, reported } = self;
         CountedShare {
             share: reporter.into_share(),
-            counts: ThreadCounts {
-                reported,
-                unreported: left.unreported,
-                refused: left.refused,
-                left_open: left.left_open,
-            },
+            counts: ThreadCounts { reported, ..left },
         }
     }
 }
@@ -77,15 +71,16 @@ impl<L: Ledger + History, M: Ledger, R: Wait> Reporter for Counting<L, M, R> {
     ghost use Rattle.puffin.specs.Members.{Told};
     ghost use Rattle.puffin.specs.SharedCauses.{IsReportCause};
 
-    ghost accepts = { λ old i ds r new.
-        (new.reporter.share.counts ≡ with_reported old.reporter.share.counts r.num_scopes)
-        × Told old.reporter.share (reported i r) new.reporter.share
-        × (length r.bytes < 2 ^ 64)
-        × AllHaveIds ds };
+    ghost accepts = { λ old key details report new.
+        (new.reporter.share.counts ≡ with_reported old.reporter.share.counts report.num_scopes)
+        × Told old.reporter.share (reported key report) new.reporter.share
+        × (length report.bytes < 2 ^ 64)
+        × AllHaveIds details };
 
-    ghost refuses = { λ old i ds r e new.
-        (new.reporter.share ≡ old.reporter.share) × IsReportCause ds e };
+    ghost refuses = { λ old key details report error new.
+        (new.reporter.share ≡ old.reporter.share) × IsReportCause details error };
 
+    /// Reports through the share, and counts the scopes if the report is accepted.
     fn report(
         &mut self,
         info: ThreadInfo,
@@ -103,18 +98,20 @@ impl<L: Ledger + History, M: Ledger, R: Wait> Meets for Counting<L, M, R> {
 
     ghost told = { λ counting. counting.reporter.share.own };
 
+    /// Counts the thread as arrived. The last one of a round wakes the leader, which alone waits for that.
     fn arrive(&mut self, meeting: &Meeting) {
-        if self.reporter.arrive() % meeting.parts == 0 {
+        if self.reporter.arrive() % meeting.threads == 0 {
             meeting.arrived.notify_one();
         }
     }
 
+    /// Waits on the profiler's lock until this number of rounds is released.
     fn wait_released(&mut self, meeting: &Meeting, rounds: u64) {
         self.reporter.wait_released(&meeting.released, rounds);
     }
 
     ghost keeps = { record {
-      accepted = λ old i ds r new h. (h.1.1.own, h.2);
-      refused = λ old i ds r e new h. ap (λ m. m.own) h.0;
+      accepted = λ old key details report new (counts, told, fits, ids). (told.1.own, fits);
+      refused = λ old key details report error new (same, cause). ap (λ member. member.own) same;
     } };
 }

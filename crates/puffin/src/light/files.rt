@@ -147,7 +147,7 @@ fn is_no_file(rt: &impl Files, path: &str) -> bool {
 }
 
 /// Does what [`save`] does, and returns the cause without the file's name.
-fn saved<R: Files + AllocGlobal>(
+fn save_file<R: Files + AllocGlobal>(
     rt: &R,
     path: &str,
     view: &FrameView,
@@ -184,7 +184,7 @@ pub fn save<'p, R: Files + AllocGlobal>(
     path: &'p str,
     view: &FrameView,
 ) -> result::Result<(), SaveError<'p>> {
-    match saved(rt, path, view) {
+    match save_file(rt, path, view) {
         Ok(()) => Ok(()),
         Err(cause) => Err(SaveError { path, cause }),
     }

@@ -29,7 +29,7 @@ pub(crate) struct Joined<L: Ledger + History, M: Ledger> {
     ghost some_each: { frames ≤ all_handed shares.items },
     ghost some: { missed ≤ frames },
     ghost counted: { all_reported shares.items < 2 ^ 64
-        → leader.reported + sum_by (λ t. t.reported) counts.items
+        → leader.reported + sum_by (λ thread. thread.reported) counts.items
         ≡ all_reported shares.items },
 }
 

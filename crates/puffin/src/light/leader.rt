@@ -76,8 +76,8 @@ pub(crate) struct FrameTaker<'p, L: Ledger + History, M: Ledger, R: Wait> {
     ghost took: { TookAll share frames },
 }
 
-/// Counts a frame, if one was handed out. Returns the numbers of frames and of missed frames.
-fn counted(emitted: &Emitted, frames: u64, missed: u64) -> (u64, u64)
+/// Counts a frame, if one was handed out, as missed too if the view refused it. Returns the numbers of frames and of missed frames.
+fn count_frame(emitted: &Emitted, frames: u64, missed: u64) -> (u64, u64)
     requires { missed ≤ frames }
     ensures counts { CountsTaken emitted.now.frame emitted.now.refused (frames, missed) result }
     ensures some { result.1 ≤ result.0 }
@@ -101,6 +101,7 @@ impl<L: Ledger + History, M: Ledger, R: Wait + Clock> Frames for FrameTaker<'_, 
 
     ghost taken = { λ taker. frames_in taker.share.own };
 
+    /// Takes a frame of the profiler through the leader's share, and counts it.
     fn new_frame(&mut self) -> Result<Emitted>
         ensures spells { IfOk result (λ emitted. SpellsItsScopes emitted.frame) }
         ensures cause { IfErr result IsFrameCause }
@@ -122,7 +123,7 @@ impl<L: Ledger + History, M: Ledger, R: Wait + Clock> Frames for FrameTaker<'_, 
             frames_in self.new.share.own ≡ frames_in self.old.share.own) }
     {
         let emitted = self.profiler.new_frame(&self.rt, &mut self.share)?;
-        (self.frames, self.missed) = counted(&emitted, self.frames, self.missed);
+        (self.frames, self.missed) = count_frame(&emitted, self.frames, self.missed);
         Ok(emitted)
     }
 
@@ -144,15 +145,16 @@ impl<L: Ledger + History, M: Ledger, R: Wait + Clock> Gathers for FrameTaker<'_,
 
     ghost told = { λ taker. taker.share.own };
 
-    fn wait_arrived(&mut self, meeting: &Meeting, parts: u64) {
+    fn wait_arrived(&mut self, meeting: &Meeting, arrivals: u64) {
         self.profiler
-            .wait_arrived(&self.rt, &mut self.share, &meeting.arrived, parts);
+            .wait_arrived(&self.rt, &mut self.share, &meeting.arrived, arrivals);
     }
 
     fn take(&mut self) -> Result<Emitted> {
         self.new_frame()
     }
 
+    /// Counts the round as released, and then wakes all threads that wait for that.
     fn release(&mut self, meeting: &Meeting) {
         self.profiler.release(&self.rt, &mut self.share);
         meeting.released.notify_all();

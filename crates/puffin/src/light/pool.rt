@@ -8,9 +8,9 @@ ghost use Rattle.puffin.specs.Telling.{Named};
 use crate::light::gate::Gate;
 use crate::light::guard::Records;
 use crate::light::meeting::{Gathers, Meets};
-use crate::light::outcome::Outcome;
+use crate::light::outcome::{Outcome, ThreadCounts};
 use crate::light::program::{Frames, run_named};
-use crate::light::ready::{AnyProgram, NotReported, Ready, ThreadEnd, end};
+use crate::light::ready::{AnyProgram, Ready, ThreadEnd, end};
 use crate::light::scopes::Scopes;
 use crate::light::settings::Settings;
 use crate::thread_profiler::SystemClock;
@@ -139,7 +139,7 @@ impl<C: Clock + Copy + Drop, W: Pool> AnyProgram<Ready<SystemClock<C>>> for Jobs
             mut scopes,
             max_bytes,
         } = thread;
-        let mut left = NotReported::none();
+        let mut left = ThreadCounts::none();
         if !self.gate.may_begin(rt) {
             let result = Err(io::Error::from(io::ErrorKind::Interrupted));
             return (ThreadEnd { result, left }, reporter);
@@ -162,7 +162,13 @@ impl<C: Clock + Copy + Drop, W: Pool> AnyProgram<Ready<SystemClock<C>>> for Jobs
                     reporter,
                 ),
             };
-            let ready = Ready::new(alloc, name, clock.another(), scopes, max_bytes);
+            let ready = Ready {
+                alloc,
+                name,
+                clock: clock.another(),
+                scopes,
+                max_bytes,
+            };
             let mut thread = ready.start(reporter);
             let result = self.pool.work(rt, job, &mut thread);
             let (of_job, back, known) = end(thread);
@@ -183,13 +189,14 @@ impl<C: Clock + Copy + Drop, W: Pool> AnyProgram<Ready<SystemClock<C>>> for Jobs
         unreachable!()
     }
 
+    /// Runs the pool's leader, and reports what is left.
     fn lead<R: Wait, P: Meets, F: Gathers>(
         &self,
         rt: &R,
         thread: Ready<SystemClock<C>>,
         reporter: P,
         frames: &mut F,
-    ) -> (NotReported, P) {
+    ) -> (ThreadCounts, P) {
         let mut thread = thread.start(reporter);
         self.pool.lead(rt, &mut thread, frames);
         let (left, reporter, _scopes) = end(thread);

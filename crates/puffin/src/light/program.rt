@@ -11,11 +11,11 @@ use crate::global_profiler::Emitted;
 use crate::light::gate::Gate;
 use crate::light::guard::Records;
 use crate::light::meeting::{Gathers, Meets};
-use crate::light::outcome::Outcome;
-use crate::light::ready::{AnyProgram, NotReported, Ready, ReadyThreads, ThreadEnd, end};
+use crate::light::outcome::{Outcome, ThreadCounts};
+use crate::light::ready::{AnyProgram, Ready, ReadyThreads, ThreadEnd, end};
 use crate::light::scopes::Scopes;
 use crate::light::settings::Settings;
-use crate::light::started::run;
+use crate::light::started::{Blanks, run};
 use crate::thread_profiler::{NsSource, SystemClock};
 use history::NewLog;
 use puffin_data::Result;
@@ -204,6 +204,7 @@ impl<C: NsSource + Drop, W: Program> AnyProgram<Ready<C>> for Gated<'_, W> {
         &self.gate
     }
 
+    /// Does the thread's work, once the gate is open, and reports what is left.
     fn run<R: Wait, P: Meets>(
         &self,
         rt: &R,
@@ -217,13 +218,14 @@ impl<C: NsSource + Drop, W: Program> AnyProgram<Ready<C>> for Gated<'_, W> {
         (ThreadEnd { result, left }, reporter)
     }
 
+    /// Runs the program's leader, and reports what is left.
     fn lead<R: Wait, P: Meets, F: Gathers>(
         &self,
         rt: &R,
         thread: Ready<C>,
         reporter: P,
         frames: &mut F,
-    ) -> (NotReported, P) {
+    ) -> (ThreadCounts, P) {
         let mut thread = thread.start(reporter);
         self.program.lead(rt, &mut thread, frames);
         let (left, reporter, _scopes) = end(thread);
@@ -232,7 +234,7 @@ impl<C: NsSource + Drop, W: Program> AnyProgram<Ready<C>> for Gated<'_, W> {
 }
 
 /// Prepares a thread under this name and with these settings, with a clock that has the start of this one.
-fn ready<R: AllocGlobal + Clock + Copy>(
+fn prepare<R: AllocGlobal + Clock + Copy>(
     rt: R,
     name: &str,
     clock: &SystemClock<R>,
@@ -249,12 +251,17 @@ fn ready<R: AllocGlobal + Clock + Copy>(
     let Ok(scopes) = scopes.for_thread() else {
         return Err(io::Error::from(io::ErrorKind::OutOfMemory));
     };
-    let max_bytes = settings.max_thread_bytes;
-    Ok(Ready::new(rt.alloc(), name, clock.another(), scopes, max_bytes))
+    Ok(Ready {
+        alloc: rt.alloc(),
+        name,
+        clock: clock.another(),
+        scopes,
+        max_bytes: settings.max_thread_bytes,
+    })
 }
 
 /// Prepares a thread for each name, and one for the leader. All have the same clock, the system's.
-fn all_ready<R: AllocGlobal + Clock + Copy>(
+fn prepare_all<R: AllocGlobal + Clock + Copy>(
     rt: R,
     settings: &Settings,
     names: &[&str],
@@ -273,9 +280,9 @@ fn all_ready<R: AllocGlobal + Clock + Copy>(
     let clock = SystemClock::new(rt)?;
     let mut threads = Vec::new(rt.alloc());
     for name in names {
-        threads.push(ready(rt, name, &clock, scopes, settings)?)?;
+        threads.push(prepare(rt, name, &clock, scopes, settings)?)?;
     }
-    let leader = ready(rt, settings.leader, &clock, scopes, settings)?;
+    let leader = prepare(rt, settings.leader, &clock, scopes, settings)?;
     Ok(ReadyThreads { leader, threads })
 }
 
@@ -289,19 +296,15 @@ pub(crate) fn run_named<
         NamedTold W.tells W.leads W.takes (length (details_in scopes.now)) settings.now.leader.now
         (map (λ name. name.now) names.now) program.now outcome) }
 {
-    let crew = all_ready(rt, settings, names, scopes)?;
-    let parts = names.len() + 2;
-    run::<Brand, Brand, R, Ready<SystemClock<R>>, W>(
-        rt,
-        scopes,
-        settings,
-        crew,
-        program,
-        parts,
-        Blank::new(parts as u64),
-        Blank::new(parts as u64),
-        NewLog::new(),
-    )
+    let crew = prepare_all(rt, settings, names, scopes)?;
+    let shares = names.len() + 2;
+    let blanks = Blanks {
+        shares,
+        reported: Blank::new(shares as u64),
+        handed: Blank::new(shares as u64),
+        log: NewLog::new(),
+    };
+    run::<Brand, Brand, R, Ready<SystemClock<R>>, W>(rt, scopes, settings, crew, program, blanks)
 }
 
 /// Runs a program: starts a thread for each of these names, runs the program's leader on the calling thread, joins all threads

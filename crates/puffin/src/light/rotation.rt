@@ -107,7 +107,7 @@ impl<R: Files<File = File> + AllocGlobal + Copy + Drop> Rotation<R> {
         prefix: &'p str,
         limits: RotationLimits,
     ) -> result::Result<Rotation<R>, SaveError<'p>> {
-        match Rotation::prepared(rt, prefix, limits) {
+        match Rotation::prepare(rt, prefix, limits) {
             Ok(rotation) => Ok(rotation),
             Err(cause) => Err(SaveError {
                 path: prefix,
@@ -117,7 +117,7 @@ impl<R: Files<File = File> + AllocGlobal + Copy + Drop> Rotation<R> {
     }
 
     /// Does what [`Rotation::new`] does, and returns the cause without a name.
-    fn prepared(
+    fn prepare(
         rt: R,
         prefix: &str,
         limits: RotationLimits,
@@ -138,7 +138,7 @@ impl<R: Files<File = File> + AllocGlobal + Copy + Drop> Rotation<R> {
     /// nothing is written any more, and [`Rotation::finish`] tells what failed.
     pub fn write(&mut self, frame: &FrameData) -> bool {
         if self.failure.is_none() {
-            self.failure = self.written(frame).err();
+            self.failure = self.write_frame(frame).err();
         }
         self.failure.is_none()
     }
@@ -161,7 +161,7 @@ impl<R: Files<File = File> + AllocGlobal + Copy + Drop> Rotation<R> {
     /// name of the file, if there was one.
     pub fn finish(&mut self) -> result::Result<(), SaveError<'_>> {
         if self.failure.is_none() && self.writer.is_some() {
-            self.failure = self.stored(self.path.as_str()).err();
+            self.failure = self.sync(self.path.as_str()).err();
         }
         match self.failure {
             Some(cause) => Err(SaveError {
@@ -173,7 +173,7 @@ impl<R: Files<File = File> + AllocGlobal + Copy + Drop> Rotation<R> {
     }
 
     /// Waits until the system has stored a file.
-    fn stored(&self, path: &str) -> result::Result<(), SaveCause> {
+    fn sync(&self, path: &str) -> result::Result<(), SaveCause> {
         Ok(File::open(&self.rt, path)?.sync_all()?)
     }
 
@@ -190,7 +190,7 @@ impl<R: Files<File = File> + AllocGlobal + Copy + Drop> Rotation<R> {
     }
 
     /// Writes a frame, and returns the cause of a failure.
-    fn written(&mut self, frame: &FrameData) -> result::Result<(), SaveCause> {
+    fn write_frame(&mut self, frame: &FrameData) -> result::Result<(), SaveCause> {
         if self.is_full()? {
             self.begin_file()?;
             self.remove_oldest()?;
@@ -208,16 +208,16 @@ impl<R: Files<File = File> + AllocGlobal + Copy + Drop> Rotation<R> {
     }
 
     /// Returns the name of the file with this number.
-    fn name(&self, number: u64) -> result::Result<String, SaveCause> {
+    fn file_name(&self, number: u64) -> result::Result<String, SaveCause> {
         format!(in self.rt.alloc(); "{}{number}.puffin", self.prefix).map_err(|_| no_memory())
     }
 
     /// Stores the file that was written, and begins the next.
     fn begin_file(&mut self) -> result::Result<(), SaveCause> {
         if self.writer.is_some() {
-            self.stored(self.path.as_str())?;
+            self.sync(self.path.as_str())?;
         }
-        self.path = self.name(self.next)?;
+        self.path = self.file_name(self.next)?;
         let file = Counted::new(File::create_new(&self.rt, self.path.as_str())?);
         match &mut self.writer {
             Some(writer) => {
@@ -236,7 +236,7 @@ impl<R: Files<File = File> + AllocGlobal + Copy + Drop> Rotation<R> {
         let Some(oldest) = self.next.checked_sub(kept) else {
             return Ok(());
         };
-        let name = self.name(oldest)?;
+        let name = self.file_name(oldest)?;
         match fs::remove_file(&self.rt, name.as_str()) {
             Err(e) if e.kind() != ErrorKind::NotFound => {
                 self.path = name;

@@ -9,9 +9,9 @@ use crate::global_profiler::Emitted;
 use crate::light::gate::Gate;
 use crate::light::guard::Records;
 use crate::light::meeting::{Gathers, Meeting, Meets};
-use crate::light::outcome::Outcome;
+use crate::light::outcome::{Outcome, ThreadCounts};
 use crate::light::program::{Frames, run_named};
-use crate::light::ready::{AnyProgram, NotReported, Ready, ThreadEnd, end};
+use crate::light::ready::{AnyProgram, Ready, ThreadEnd, end};
 use crate::light::scopes::Scopes;
 use crate::light::settings::Settings;
 use crate::thread_profiler::NsSource;
@@ -89,6 +89,7 @@ struct InRounds<'p, W> {
     rounds: usize,
     /// Whether a thread has failed.
     failed: AtomicBool,
+    /// Whether the round that was released last is the last one.
     over: AtomicBool,
     gate: Gate,
     meeting: Meeting,
@@ -110,12 +111,14 @@ impl<C: NsSource + Drop, W: Rounds> AnyProgram<Ready<C>> for InRounds<'_, W> {
         (λ round. OrNothing (W.leads rounds.program.now round)) rounds.rounds
         (string_bytes ready.name) (num_known ready.scopes) after unreported };
 
-    ghost takes = { λ ready rounds told. TakesTurns rounds.meeting.parts rounds.rounds told };
+    ghost takes = { λ ready rounds told. TakesTurns rounds.meeting.threads rounds.rounds told };
 
     fn gate(&self) -> &Gate {
         &self.gate
     }
 
+    /// Makes the thread's state, and does its part of each round until the leader has stored that the round was the last one. A
+    /// thread that failed still arrives, so that the others don't wait for it.
     fn run<R: Wait, P: Meets>(
         &self,
         rt: &R,
@@ -127,7 +130,7 @@ impl<C: NsSource + Drop, W: Rounds> AnyProgram<Ready<C>> for InRounds<'_, W> {
         let mut state = Err(io::Error::from(io::ErrorKind::Interrupted));
         if self.gate.may_begin(rt) {
             state = self.program.state(rt, number);
-            for round in 0..self.meeting.most(self.rounds) {
+            for round in 0..self.meeting.most_rounds(self.rounds) {
                 state = match state {
                     Ok(mut values) => match self
                         .program
@@ -156,21 +159,23 @@ impl<C: NsSource + Drop, W: Rounds> AnyProgram<Ready<C>> for InRounds<'_, W> {
         (ThreadEnd { result, left }, reporter)
     }
 
+    /// Leads each round: does the leader's part, waits until all have arrived, takes the frame, and releases the round.
     fn lead<R: Wait, P: Meets, F: Gathers>(
         &self,
         rt: &R,
         thread: Ready<C>,
         reporter: P,
         frames: &mut F,
-    ) -> (NotReported, P) {
+    ) -> (ThreadCounts, P) {
         let mut thread = thread.start(reporter);
-        for round in 0..self.meeting.most(self.rounds) {
+        for round in 0..self.meeting.most_rounds(self.rounds) {
             self.program.lead(rt, round, &mut thread);
             thread.arrive(&self.meeting);
-            frames.wait_arrived(&self.meeting, self.meeting.parts * (round as u64 + 1));
+            frames.wait_arrived(&self.meeting, self.meeting.threads * (round as u64 + 1));
             let taken = frames.take();
             let goes_on = self.program.goes_on(rt, round, &taken, &*frames)
                 && !self.failed.load(Ordering::SeqCst);
+            // Stored before the release, so that each thread that goes on sees it.
             self.over.store(!goes_on, Ordering::SeqCst);
             frames.release(&self.meeting);
             thread.wait_released(&self.meeting, round as u64 + 1);
@@ -210,14 +215,14 @@ pub fn run_rounds<R: AllocGlobal + Threads + Wait + Clock + Copy + Send + Sync, 
         (λ round. OrNothing (W.leads program.now round)) (W.runs program.now)
         (settings.now.leader.now ∷ map (λ name. name.now) names.now) outcome) }
 {
-    let parts = names.len() as u64 + 1;
+    let threads = names.len() as u64 + 1;
     let program = InRounds {
         program,
         rounds,
         failed: AtomicBool::new(false),
         over: AtomicBool::new(false),
         gate: Gate::new(names.len()),
-        meeting: Meeting::new(parts),
+        meeting: Meeting::new(threads),
     };
     let outcome = run_named(rt, names, scopes, settings, &program);
     let InRounds {

@@ -195,7 +195,7 @@ fn run_all<
 }
 
 /// Calls [`run_all`] in a thread scope.
-fn scoped<
+fn run_in_scope<
     L: Ledger + History + Send + Sync,
     M: Ledger + Send + Sync,
     R: AllocGlobal + Threads + Wait + Clock + Copy + Send + Sync,
@@ -230,6 +230,15 @@ fn scoped<
     )
 }
 
+/// What the two ledgers and the history of a program are opened from.
+pub(crate) struct Blanks {
+    /// The number of shares, which is also that of the parts of both ledgers.
+    pub(crate) shares: usize,
+    pub(crate) reported: Blank,
+    pub(crate) handed: Blank,
+    pub(crate) log: NewLog<Event>,
+}
+
 /// A shared profiler with its view, the leader's two shares and a share for each thread.
 struct Opened<L: Ledger + History, M: Ledger> {
     profiler: SharedProfiler<L, M>,
@@ -240,22 +249,25 @@ struct Opened<L: Ledger + History, M: Ledger> {
 }
 
 impl<L: Ledger + History, M: Ledger> Opened<L, M> {
-    /// Opens a new profiler with this number of shares, whose first frame lists these places, and whose view has these
-    /// settings. Fails if memory runs out.
+    /// Opens a new profiler from these blanks, whose first frame lists these places, and whose view has these settings. Fails if
+    /// memory runs out.
     fn new<R: AllocGlobal + Wait>(
         rt: &R,
         scopes: &Scopes,
         settings: &Settings,
-        parts: usize,
-        reported: Blank,
-        handed: Blank,
-        log: NewLog<Event>,
+        blanks: Blanks,
     ) -> io::Result<Opened<L, M>>
-        requires some { 0 < parts }
-        requires reported { IsBlankFor L.name L.parts parts reported }
-        requires handed { IsBlankFor M.name M.parts parts handed }
-        requires log { log.name ≡ L.history }
+        requires some { 0 < blanks.shares }
+        requires reported { IsBlankFor L.name L.parts blanks.shares blanks.reported }
+        requires handed { IsBlankFor M.name M.parts blanks.shares blanks.handed }
+        requires log { blanks.log.name ≡ L.history }
     {
+        let Blanks {
+            shares,
+            reported,
+            handed,
+            log,
+        } = blanks;
         let mut profiler = GlobalProfiler::new(rt.alloc());
         let Ok(()) = profiler.add_scopes(scopes.details()) else {
             return Err(no_memory());
@@ -264,7 +276,7 @@ impl<L: Ledger + History, M: Ledger> Opened<L, M> {
         let opened = SharedProfiler::<L, M>::open(
             rt.alloc(),
             profiler,
-            parts,
+            shares,
             reported,
             handed,
             log,
@@ -300,7 +312,7 @@ impl<L: Ledger + History, M: Ledger> Opened<L, M> {
 }
 
 /// Settles all shares, and returns the program's outcome.
-fn settled<L: Ledger + History, M: Ledger, R: Wait>(
+fn settle<L: Ledger + History, M: Ledger, R: Wait>(
     rt: &R,
     profiler: &SharedProfiler<L, M>,
     view: GlobalFrameView,
@@ -339,7 +351,7 @@ fn settled<L: Ledger + History, M: Ledger, R: Wait>(
     }
 }
 
-/// Opens a shared profiler with a share for each thread and two for the leader, and runs the program.
+/// Opens a shared profiler with a share for each thread and two for the leader, from these blanks, and runs the program.
 pub(crate) fn run<
     L: Ledger + History + Send + Sync,
     M: Ledger + Send + Sync,
@@ -352,27 +364,24 @@ pub(crate) fn run<
     settings: &Settings,
     crew: ReadyThreads<T>,
     program: &W,
-    parts: usize,
-    reported: Blank,
-    handed: Blank,
-    log: NewLog<Event>,
+    blanks: Blanks,
 ) -> io::Result<Outcome>
-    requires some { vec_len crew.threads + 2 ≡ parts }
-    requires reported { IsBlankFor L.name L.parts parts reported }
-    requires handed { IsBlankFor M.name M.parts parts handed }
-    requires log { log.name ≡ L.history }
+    requires some { vec_len crew.threads + 2 ≡ blanks.shares }
+    requires reported { IsBlankFor L.name L.parts blanks.shares blanks.reported }
+    requires handed { IsBlankFor M.name M.parts blanks.shares blanks.handed }
+    requires log { blanks.log.name ≡ L.history }
     ensures threads { IfOk result (λ outcome.
         vec_len outcome.threads ≡ vec_len crew.threads) }
     ensures told { IfOk result (λ outcome.
         HasTold W.tells W.leads W.takes crew.threads.items crew.leader program.now outcome) }
 {
-    let opened = Opened::<L, M>::new(&rt, scopes, settings, parts, reported, handed, log)?;
+    let opened = Opened::<L, M>::new(&rt, scopes, settings, blanks)?;
     let Opened {
         profiler,
         view,
         leader_shares,
         shares,
     } = opened;
-    let joined = scoped(rt, &profiler, leader_shares, shares, crew, program)?;
-    Ok(settled(&rt, &profiler, view, joined))
+    let joined = run_in_scope(rt, &profiler, leader_shares, shares, crew, program)?;
+    Ok(settle(&rt, &profiler, view, joined))
 }

@@ -94,7 +94,7 @@ impl<C> Thread<C, GlobalProfiler> {
     /// }
     /// ```
     pub fn new_frame(&mut self, rt: &impl Wait) -> Result<Emitted>
-        ensures handed_out { HandsOutFrame (λ b. (FrameSink-box b).accepts)
+        ensures handed_out { HandsOutFrame (λ boxed. (FrameSink-box boxed).accepts)
             (reporter_of self.old) result (reporter_of self.new) }
         ensures thread { self.new ≡ with_reporter self.old (reporter_of self.new) }
     {
@@ -235,6 +235,8 @@ impl<C: NsSource, P: Reporter> Records for Thread<C, P> {
         self.scopes.switch()
     }
 
+    /// Begins a scope if scopes are on. A place that the thread doesn't know is refused. Where there is no room, what waits is
+    /// reported, and the scope is tried once more.
     #[inline(always)]
     fn begin(&mut self, place: &Place, text: &str) -> GuardState {
         if !self.scopes.switch().are_scopes_on() {
@@ -249,6 +251,7 @@ impl<C: NsSource, P: Reporter> Records for Thread<C, P> {
         }
     }
 
+    /// Ends the innermost scope if it has this offset. Only the end of the outermost one reports: the others just close.
     #[inline(always)]
     fn end(&mut self, offset: usize) {
         if self.profiler.depth() > 1 {
@@ -263,14 +266,14 @@ impl<C, P: Meets> Thread<C, P> {
     ghost use Rattle.puffin.specs.Happenings.{arrived, saw_released};
     ghost use Rattle.puffin.specs.Lent.{MarksThere};
 
-    /// Says that the thread has done its part of a round.
+    /// Says that the thread has arrived at the end of a round.
     pub(crate) fn arrive(&mut self, meeting: &Meeting)
         ensures { MarksThere P.told self.old arrived self.new }
     {
         self.reporter.arrive(meeting);
     }
 
-    /// Waits until this number of rounds is closed.
+    /// Waits until this number of rounds is released.
     pub(crate) fn wait_released(&mut self, meeting: &Meeting, rounds: u64)
         ensures { MarksThere P.told self.old (saw_released rounds) self.new }
     {

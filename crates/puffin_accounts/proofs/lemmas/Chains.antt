@@ -11,15 +11,19 @@ use Rattle.puffin.specs.Guards.{BeginsAt, EndsIn, Leaves}
 use Rattle.puffin_accounts.specs.Running.{Code, nothing, scope, Runs}
 use Rattle.puffin_accounts.specs.Steps.{Call, begins, ends, Run}
 
-module _ {C R : Type 0} (answers : C → ℤ → C → Type 0) (seen : R → Collected) (accepts : R → ThreadKey → List Details → StreamFacts → R → Type 0) (refuses : R → ThreadKey → List Details → StreamFacts → Error → R → Type 0) where
+module _ {C R : Type 0} (answers : C → ℤ → C → Type 0)
+    (seen : R → Collected) (accepts : R → ThreadKey → List Details → StreamFacts → R → Type 0)
+    (refuses : R → ThreadKey → List Details → StreamFacts → Error → R → Type 0) where
   abbrev Made : Thread C R → Thread C R → Type 0
   Made old last = (made : List Call) × Run answers seen accepts refuses old made last
 
-  left : (offset : Option ℕ) (old new last : Thread C R) → Leaves (EndsIn answers accepts refuses) offset old new → Made new last → Made old last
+  left : (offset : Option ℕ) (old new last : Thread C R) → Leaves (EndsIn answers accepts refuses) offset old new → Made new last
+      → Made old last
   left None old new last same later = subst (λ t. Made t last) same later
   left (Some offset) old new last ended later = (ends offset ∷ later.0, (new, ended, later.1))
 
-  pub calls_of_code : (code : Code) (old new last : Thread C R) → Runs (BeginsAt answers accepts refuses) (EndsIn answers accepts refuses) code old new → Made new last → Made old last
+  pub calls_of_code : (code : Code) (old new last : Thread C R)
+      → Runs (BeginsAt answers accepts refuses) (EndsIn answers accepts refuses) code old new → Made new last → Made old last
   calls_of_code nothing old new last same later = subst (λ t. Made t last) same later
   calls_of_code (scope place text within after) old new last (state, begun, inner, ended, began, inside, leaves, rest) later =
       let behind = calls_of_code after ended new last rest later in

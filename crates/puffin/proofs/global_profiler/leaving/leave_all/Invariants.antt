@@ -1,3 +1,4 @@
+-- The shares so far are merged, and each has left the history with a last entry.
 use Rattle.std.specs.Prelude.{◌≡◌, ◌++◌, length}
 use Rattle.puffin.specs.Members.{all_reported, all_handed}
 use Rattle.puffin.specs.Leaving.{accounts_of, last_entries, AreAuthors}

@@ -1,3 +1,4 @@
+-- No sink before this one has the number.
 use Rattle.std.specs.Prelude.{◌≢◌, take, All}
 use Rattle.puffin.proofs.global_profiler.sinks.place_of.Given as goal
 

@@ -1,3 +1,4 @@
+-- Each part of the law is a lemma.
 use Rattle.puffin.proofs.EndedScopes.{ends, leaves, begins, reports_by}
 use Rattle.puffin.proofs.light.laws.ended_scopes_are_counted.Goals as goal
 

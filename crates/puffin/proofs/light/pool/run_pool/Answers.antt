@@ -9,4 +9,8 @@ use Rattle.puffin.proofs.light.pool.run_pool.Goals as goal
 pub returns-clause-shows : goal.returns-clause-shows
 returns-clause-shows g c =
     let W = g.W.Pool in
-    pool_shows_if _ (λ (jobs : Jobs g.row.W.Denot). W.states jobs.pool.now) (λ (jobs : Jobs g.row.W.Denot). Named (W.names jobs.pool.now) (W.runs jobs.pool.now)) (λ (jobs : Jobs g.row.W.Denot). W.leads jobs.pool.now) (λ (jobs : Jobs g.row.W.Denot). W.takes jobs.pool.now) (length (details_in c.args.scopes.now)) c.args.settings.now.leader.now (map (λ name. name.now) c.deref.result.now) (record { pool = c.args.pool; gate = c.new.result }) c.run_named-outcome.result c.run_named-outcome.ensures.told
+    pool_shows_if _ (λ (jobs : Jobs g.row.W.Denot). W.states jobs.pool.now)
+    (λ (jobs : Jobs g.row.W.Denot). Named (W.names jobs.pool.now) (W.runs jobs.pool.now))
+    (λ (jobs : Jobs g.row.W.Denot). W.leads jobs.pool.now) (λ (jobs : Jobs g.row.W.Denot). W.takes jobs.pool.now)
+    (length (details_in c.args.scopes.now)) c.args.settings.now.leader.now (map (λ name. name.now) c.deref.result.now)
+    (record { pool = c.args.pool; gate = c.new.result }) c.run_named-outcome.result c.run_named-outcome.ensures.told

@@ -7,6 +7,8 @@ use Rattle.puffin.proofs.light.program.run_named.Goals as goal
 
 pub returns-clause-told : goal.returns-clause-told
 returns-clause-told g c =
-    let W = g.W.AnyProgram in let e = c.in_ok-crew.ensures in let crew = c.in_ok-crew.crew in
-    named_told W.tells W.leads W.takes (length (details_in c.args.scopes.now)) c.args.settings.now.leader.now (map (λ name. name.now) c.args.names.now) c.args.program.now crew.threads.items crew.leader c.run.result
-    (sym crew.threads.ok.0 ∙ e.threads ∙ sym (length-map c.args.names.now (λ name. name.now))) e.names e.leader c.run.ensures.told
+    let W = g.W.AnyProgram in let prepared = c.in_ok-crew.ensures in let crew = c.in_ok-crew.crew in
+    named_told W.tells W.leads W.takes (length (details_in c.args.scopes.now)) c.args.settings.now.leader.now
+    (map (λ name. name.now) c.args.names.now) c.args.program.now crew.threads.items crew.leader c.run.result
+    (sym crew.threads.ok.0 ∙ prepared.threads ∙ sym (length-map c.args.names.now (λ name. name.now))) prepared.names prepared.leader
+    c.run.ensures.told

@@ -8,4 +8,9 @@ use Rattle.puffin.proofs.light.program.run_threads.Goals as goal
 pub returns-clause-shows : goal.returns-clause-shows
 returns-clause-shows g c =
     let W = g.W.Program in
-    shows_if _ (λ (gated : Gated g.row.W.Denot). W.states gated.program.now) (λ (gated : Gated g.row.W.Denot). W.runs gated.program.now) (λ (gated : Gated g.row.W.Denot). W.leads gated.program.now) (λ (gated : Gated g.row.W.Denot). W.takes gated.program.now) (length (details_in c.args.scopes.now)) c.args.settings.now.leader.now (map (λ name. name.now) c.args.names.now) (record { program = c.args.program; gate = c.new.result }) c.run_named-outcome.result c.run_named-outcome.ensures.told
+    shows_if _ (λ (gated : Gated g.row.W.Denot). W.states gated.program.now)
+    (λ (gated : Gated g.row.W.Denot). W.runs gated.program.now) (λ (gated : Gated g.row.W.Denot). W.leads gated.program.now)
+    (λ (gated : Gated g.row.W.Denot). W.takes gated.program.now)
+    (length (details_in c.args.scopes.now)) c.args.settings.now.leader.now (map (λ name. name.now) c.args.names.now)
+    (record { program = c.args.program; gate = c.new.result }) c.run_named-outcome.result
+    c.run_named-outcome.ensures.told

@@ -4,13 +4,13 @@ use Rattle.puffin.proofs.light.started.run.Goals as goal
 
 pub returns-clause-told : goal.returns-clause-told
 returns-clause-told g c =
-    let crew = c.args.crew in let j = c.in_ok-joined.joined in let s = c.settled in let h = s.ensures.history in
+    let crew = c.args.crew in let joined = c.in_ok-joined.joined in let settled = c.settle.ensures in
     record {
-      shares = j.shares.items;
-      log = h.0;
-      pending = h.1;
+      shares = joined.shares.items;
+      log = settled.history.0;
+      pending = settled.history.1;
       are = search rules;
-      handed = s.ensures.handed;
-      left = h.3;
+      handed = settled.handed;
+      left = settled.history.3;
       recounts = search rules;
     }

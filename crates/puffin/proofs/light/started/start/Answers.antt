@@ -18,8 +18,13 @@ spawn_with-requires-send-F g c κs within =
     let D = Vt (dyn.slots g.row.E g.row.L g.row.M g.row.R g.row.T g.row.W) g.dyn-1.0 in
     let gh = ghosts_of (dyn.slots g.row.E g.row.L g.row.M g.row.R g.row.T g.row.W) g.dyn-1.0 g.dyn-1.1 in
     let sd : IsSend D = search sendable depth 20 in
-    let shared : IsSend (Shared.the_row (param 1 g.row.L) (param 2 g.row.M) D g.L.Ledger g.L.History g.M.Ledger gh) = shared_row_send D gh g.dyn-1.2 sd (param 1 g.row.L) (param 2 g.row.M) g.L.Ledger g.L.History g.M.Ledger in
-    let share : IsSend (Share.the_row (param 1 g.row.L) (param 2 g.row.M) g.L.Ledger g.L.History g.M.Ledger) = share_send (param 1 g.row.L) (param 2 g.row.M) g.L.Ledger g.L.History g.M.Ledger in
+    let shared : IsSend (Shared.the_row (param 1 g.row.L) (param 2 g.row.M) D g.L.Ledger g.L.History g.M.Ledger gh) =
+    shared_row_send D gh g.dyn-1.2 sd (param 1 g.row.L) (param 2 g.row.M) g.L.Ledger g.L.History g.M.Ledger in
+    let share : IsSend (Share.the_row (param 1 g.row.L) (param 2 g.row.M) g.L.Ledger g.L.History g.M.Ledger) =
+    share_send (param 1 g.row.L) (param 2 g.row.M) g.L.Ledger g.L.History g.M.Ledger in
     let number : IsSend (UInt w64) = search sendable depth 5 in
-    let captured = copied 3 g.row.R ∷ UInt w64 ∷ Shared.the_row (param 1 g.row.L) (param 2 g.row.M) D g.L.Ledger g.L.History g.M.Ledger gh ∷ Share.the_row (param 1 g.row.L) (param 2 g.row.M) g.L.Ledger g.L.History g.M.Ledger ∷ param 4 g.row.T ∷ ShrRef _ _ (param 5 g.row.W) ∷ [] in
-    param_send 2 _ (arg_send _ no _ (captures_send _ captured (c.type_bounds.send-R, (number, (shared, (share, (c.type_bounds.send-T, (shr_send _ _ _ c.type_bounds.sync-W, tt))))))))
+    let captured = copied 3 g.row.R ∷ UInt w64 ∷ Shared.the_row (param 1 g.row.L)
+    (param 2 g.row.M) D g.L.Ledger g.L.History g.M.Ledger gh ∷ Share.the_row (param 1 g.row.L)
+    (param 2 g.row.M) g.L.Ledger g.L.History g.M.Ledger ∷ param 4 g.row.T ∷ ShrRef _ _ (param 5 g.row.W) ∷ [] in
+    param_send 2 _ (arg_send _ no _ (captures_send _ captured
+    (c.type_bounds.send-R, (number, (shared, (share, (c.type_bounds.send-T, (shr_send _ _ _ c.type_bounds.sync-W, tt))))))))

@@ -1,3 +1,4 @@
+-- One thread more is started, with a share that counts nothing.
 use Rattle.std.proofs.Common.{◌≡◌, ◌∷◌, ◌++◌, [], ℕ, ◌+◌, Some, length, rules, ap, sym, subst, ◌∙◌}
 use Rattle.std.proofs.lemmas.Iterator.Consumers.{YieldsList-end}
 use Rattle.std.proofs.lemmas.Iterator.Adapters.{YieldsList-from_vec}
@@ -10,7 +11,8 @@ use Rattle.puffin.proofs.light.started.start_all.Goals as goal
 
 pub start-requires-after_bounds : goal.start-requires-after_bounds
 start-requires-after_bounds g c κs within =
-    let taken = All-pop IsNewMember c.loop-thread.shares.items _ (Some c.in-Some-pop.share) c.in-Some-pop.ensures.items c.loop-thread.invariant.new in
+    let taken = All-pop IsNewMember c.loop-thread.shares.items _
+    (Some c.in-Some-pop.share) c.in-Some-pop.ensures.items c.loop-thread.invariant.new in
     taken.1
 
 pub loop-thread-init : goal.loop-thread-init
@@ -26,15 +28,24 @@ loop-thread-preserved g c =
     let its_number : handle.promise.number ≡ length c.loop-thread.started.items = search rules in
     record {
       started =
-          ap length c.in_ok-push.ensures.items ∙ length-append c.loop-thread.started.items (handle ∷ []) ∙ ap (λ (n : ℕ). n + 1) c.loop-thread.invariant.started ∙ sym (length-append c.loop-thread.yielded (c.in-Some.thread ∷ []));
+          ap length c.in_ok-push.ensures.items ∙ length-append c.loop-thread.started.items (handle ∷ [])
+          ∙ ap (λ (n : ℕ). n + 1) c.loop-thread.invariant.started
+          ∙ sym (length-append c.loop-thread.yielded (c.in-Some.thread ∷ []));
       each =
-          subst (λ hs. AreStarted hs (c.loop-thread.yielded ++ c.in-Some.thread ∷ []) c.args.program.now) (sym c.in_ok-push.ensures.items)
-          (started_more c.loop-thread.started.items c.loop-thread.yielded c.args.program.now handle c.in-Some.thread c.loop-thread.invariant.each c.loop-thread.invariant.started c.in_ok-start.ensures.thread its_number c.in_ok-start.ensures.program);
-      new = (All-pop IsNewMember c.loop-thread.shares.items _ (Some c.in-Some-pop.share) c.in-Some-pop.ensures.items c.loop-thread.invariant.new).0;
+          subst (λ hs. AreStarted hs (c.loop-thread.yielded ++ c.in-Some.thread ∷ []) c.args.program.now)
+          (sym c.in_ok-push.ensures.items)
+          (started_more c.loop-thread.started.items c.loop-thread.yielded c.args.program.now handle c.in-Some.thread
+          c.loop-thread.invariant.each c.loop-thread.invariant.started c.in_ok-start.ensures.thread
+          its_number c.in_ok-start.ensures.program);
+      new = (All-pop IsNewMember c.loop-thread.shares.items _
+          (Some c.in-Some-pop.share) c.in-Some-pop.ensures.items c.loop-thread.invariant.new).0;
     }
 
 pub returns-clause-each : goal.returns-clause-each
 returns-clause-each g c =
-    let b = c.into_iter-thread-iterator.ensures.into_iter_gives in
-    let all = YieldsList-end (YieldsList-from_vec {s = c.into_iter-thread-iterator.result} c.args.threads.items b.0 (b.1 ∙ c.args.threads.ok.0)) c.loop-thread.yielded c.loop-thread.thread-iterator c.loop-thread.yielded_by c.next.result c.next.new.self c.in-None.is c.next.ensures.steps in
-    subst (λ ts. AreStarted c.loop-thread.started.items ts c.args.program.now) (sym (map-id c.loop-thread.yielded) ∙ all.0) c.loop-thread.invariant.each
+    let gives = c.into_iter-thread-iterator.ensures.into_iter_gives in
+    let all = YieldsList-end (YieldsList-from_vec {s = c.into_iter-thread-iterator.result} c.args.threads.items gives.0
+    (gives.1 ∙ c.args.threads.ok.0)) c.loop-thread.yielded c.loop-thread.thread-iterator c.loop-thread.yielded_by c.next.result
+    c.next.new.self c.in-None.is c.next.ensures.steps in
+    subst (λ ts. AreStarted c.loop-thread.started.items ts c.args.program.now)
+    (sym (map-id c.loop-thread.yielded) ∙ all.0) c.loop-thread.invariant.each

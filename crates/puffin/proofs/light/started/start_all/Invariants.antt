@@ -1,3 +1,4 @@
+-- Each thread so far is started under its number, and the shares that are left count nothing.
 use Rattle.std.specs.Prelude.{◌≡◌, length, All}
 use Rattle.puffin.specs.Members.{IsNewMember}
 use Rattle.puffin.specs.Joined.{AreStarted}

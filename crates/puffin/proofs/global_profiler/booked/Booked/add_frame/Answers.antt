@@ -1,3 +1,4 @@
+-- Learnt details leave the counts and what is pending as they were, and so all facts of the books and the history.
 use Rattle.std.proofs.Common.{sym, ◌∙◌}
 use Rattle.puffin_collector.specs.Collector.State.{Collected}
 use Rattle.puffin.specs.Profiler.{collected_of}
@@ -10,13 +11,14 @@ use Rattle.puffin.proofs.global_profiler.booked.Booked.add_frame.Goals as goal
 pub invariant_of-self : goal.invariant_of-self
 invariant_of-self g c =
     let old = c.args.self.now in
-    let a : Collected = collected_of old.profiler in let b : Collected = collected_of c.add_frame.new.self in
-    let keeps : Keeps a b = learning_keeps c.add_frame.result a b (frame_details (arc_value c.args.frame)) c.add_frame.ensures.learns.learnt c.add_frame.ensures.learns.known in
+    let before : Collected = collected_of old.profiler in let now : Collected = collected_of c.add_frame.new.self in
+    let keeps : Keeps before now = learning_keeps c.add_frame.result before now
+    (frame_details (arc_value c.args.frame)) c.add_frame.ensures.learns.learnt c.add_frame.ensures.learns.known in
     record {
       reported_is = old.reported_is ∙ sym keeps.0;
       handed_is = old.handed_is ∙ sym keeps.1;
       authors_are = old.authors_are;
-      stands = same_stands a.streams b.streams old.log.entries keeps.2 old.stands;
+      stands = same_stands before.streams now.streams old.log.entries keeps.2 old.stands;
       met = old.met;
       seen = old.seen;
     }

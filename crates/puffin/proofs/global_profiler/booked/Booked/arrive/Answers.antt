@@ -1,3 +1,4 @@
+-- The history has one arrival more, and so does the count.
 use Rattle.std.proofs.Common.{refl, ◌∙◌}
 use Rattle.puffin.specs.Happenings.{marked, arrived}
 use Rattle.puffin.proofs.Growing.{grows_by, still_seen, one_arrived}

@@ -1,3 +1,4 @@
+-- The history has one mark more: that threads were seen arrived so many times, which they had.
 use Rattle.std.proofs.Common.{refl, arith, ◌∙◌}
 use Rattle.puffin.specs.Happenings.{marked, saw_arrived}
 use Rattle.puffin.proofs.Growing.{grows_by, still_met, still_seen}
@@ -11,7 +12,9 @@ invariant_of-self g c =
       reported_is = old.reported_is;
       handed_is = old.handed_is;
       authors_are = c.add.ensures.log.0 ∙ old.authors_are;
-      stands = grows_by _ _ old.log.entries c.add.new.self.entries _ (marked (saw_arrived c.args.parts)) old.stands longer refl refl tt;
-      met = still_met _ _ _ (marked (saw_arrived c.args.parts)) old.log.entries c.add.new.self.entries longer old.met;
-      seen = still_seen _ (marked (saw_arrived c.args.parts)) old.log.entries c.add.new.self.entries longer (omega (arith, so, old.met.arrived)) old.seen;
+      stands = grows_by _ _ old.log.entries c.add.new.self.entries _
+          (marked (saw_arrived c.args.arrivals)) old.stands longer refl refl tt;
+      met = still_met _ _ _ (marked (saw_arrived c.args.arrivals)) old.log.entries c.add.new.self.entries longer old.met;
+      seen = still_seen _ (marked (saw_arrived c.args.arrivals)) old.log.entries c.add.new.self.entries longer
+          (omega (arith, so, old.met.arrived)) old.seen;
     }

@@ -1,3 +1,4 @@
+-- Registered scopes leave the counts and what is pending as they were, and so all facts of the books and the history.
 use Rattle.std.proofs.Common.{sym, ◌∙◌}
 use Rattle.puffin_collector.specs.Collector.State.{Collected}
 use Rattle.puffin.specs.Profiler.{collected_of}
@@ -9,13 +10,14 @@ use Rattle.puffin.proofs.global_profiler.booked.Booked.register_user_scopes.Goal
 pub invariant_of-self : goal.invariant_of-self
 invariant_of-self g c =
     let old = c.args.self.now in
-    let a : Collected = collected_of old.profiler in let b : Collected = collected_of c.register_user_scopes.new.self in
-    let keeps : Keeps a b = adding_keeps (λ v. v.items) c.register_user_scopes.result a b (details_seen c.args.details.now) c.register_user_scopes.ensures.ok c.register_user_scopes.ensures.err in
+    let before : Collected = collected_of old.profiler in let now : Collected = collected_of c.register_user_scopes.new.self in
+    let keeps : Keeps before now = adding_keeps (λ v. v.items) c.register_user_scopes.result before now
+    (details_seen c.args.details.now) c.register_user_scopes.ensures.ok c.register_user_scopes.ensures.err in
     record {
       reported_is = old.reported_is ∙ sym keeps.0;
       handed_is = old.handed_is ∙ sym keeps.1;
       authors_are = old.authors_are;
-      stands = same_stands a.streams b.streams old.log.entries keeps.2 old.stands;
+      stands = same_stands before.streams now.streams old.log.entries keeps.2 old.stands;
       met = old.met;
       seen = old.seen;
     }

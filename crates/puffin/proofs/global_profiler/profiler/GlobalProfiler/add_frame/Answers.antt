@@ -1,3 +1,4 @@
+-- Where learning the frame's details fails, the first few may have become known.
 use Rattle.std.proofs.Common.{◌≡◌, Result, Ok, Err, subst, rules}
 use Rattle.std.specs.Prelude.{OnErr}
 use Rattle.std.specs.Arc.{arc_value}
@@ -9,13 +10,13 @@ use Rattle.puffin.proofs.global_profiler.profiler.GlobalProfiler.add_frame.Goals
 
 -- what holds at any result holds at a refusal
 always : {T E P : Type 0} (r : Result T E) → P → OnErr r P
-always (Ok x) p = tt
-always (Err e) p = p
+always (Ok x) holds = tt
+always (Err e) holds = holds
 
--- what a refusal left
-left : {T E P : Type 0} (r : Result T E) (e : E) → r ≡ Err e → OnErr r P → P
-left (Ok x) e is h = absurd (cc)
-left (Err d) e is h = h
+-- what holds at a refusal holds, where the result is one
+refused : {T E P : Type 0} (r : Result T E) (e : E) → r ≡ Err e → OnErr r P → P
+refused (Ok x) e is none = absurd (cc)
+refused (Err d) e is holds = holds
 
 pub returns-in_err-learn : goal.returns-in_err-learn
 returns-in_err-learn g c =
@@ -26,7 +27,9 @@ returns-in_err-learn g c =
         missing = search rules;
         unchanged = search rules;
         cause = search rules;
-        known = always c.from_residual.result (subst (λ ds. KnowsSome (collected_of c.args.self.now) ds c.learn.new.self) told (left c.learn.result _ c.in_err-learn.was c.learn.ensures.err));
+        known = always c.from_residual.result
+            (subst (λ ds. KnowsSome (collected_of c.args.self.now) ds c.learn.new.self) told
+            (refused c.learn.result _ c.in_err-learn.was c.learn.ensures.err));
         kept = search rules;
         next = search rules;
       };

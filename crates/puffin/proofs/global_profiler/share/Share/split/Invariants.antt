@@ -1,3 +1,4 @@
+-- So many shares are made, each with a part of both ledgers and an author; the others' parts are left.
 use Rattle.std.specs.Prelude.{◌≡◌, ◌+◌, ◌≤◌, [], vec_len, vec_capacity, All}
 use Rattle.puffin.specs.Members.{IsNewMember}
 use Rattle.puffin.proofs.global_profiler.share.Share.split.Given as goal

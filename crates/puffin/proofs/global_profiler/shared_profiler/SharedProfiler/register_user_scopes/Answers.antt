@@ -1,3 +1,4 @@
+-- The cause of a refusal, where the profiler's state is forgotten.
 use Rattle.puffin.proofs.SharedRefusals.{adding_refused}
 use Rattle.puffin.proofs.global_profiler.shared_profiler.SharedProfiler.register_user_scopes.Goals as goal
 

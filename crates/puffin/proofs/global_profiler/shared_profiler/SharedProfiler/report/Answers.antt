@@ -1,3 +1,4 @@
+-- What an accepted report shows of its details, and the cause of a refusal, where the profiler's state is forgotten.
 use Rattle.puffin.proofs.SharedRefusals.{report_accepted, report_refused}
 use Rattle.puffin.proofs.global_profiler.shared_profiler.SharedProfiler.report.Goals as goal
 

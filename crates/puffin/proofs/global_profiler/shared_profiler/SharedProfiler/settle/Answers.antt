@@ -1,3 +1,4 @@
+-- What all shares know together, where the profiler's state is forgotten.
 use Rattle.puffin.proofs.SettledShares.{knows_all}
 use Rattle.puffin.proofs.global_profiler.shared_profiler.SharedProfiler.settle.Goals as goal
 

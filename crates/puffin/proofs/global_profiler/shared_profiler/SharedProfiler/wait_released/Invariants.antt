@@ -1,3 +1,4 @@
+-- While it waits, the share doesn't change.
 use Rattle.std.specs.Prelude.{◌≡◌}
 use Rattle.puffin.proofs.global_profiler.shared_profiler.SharedProfiler.wait_released.Given as goal
 

@@ -11,5 +11,6 @@ invariant_of-self g c =
       none_handed = λ none. ap (λ n. n.handed) marks.counts ∙ old.none_handed none;
       some_each = omega (arith, old.some_each, ap (λ n. n.handed) marks.counts);
       some = old.some;
-      took = still_took old.share c.release.new.share (released) old.frames (record { counts = marks.counts; own = marks.own }) old.took;
+      took = still_took old.share c.release.new.share (released) old.frames
+          (record { counts = marks.counts; own = marks.own }) old.took;
     }

@@ -12,10 +12,13 @@ use Rattle.puffin.proofs.light.pool.JobsAnyProgramReadySystemClock.run.Goals as 
 
 pub loop-init : goal.loop-init
 loop-init g c =
-    let W = g.W.Pool in let pool = c.args.self.now.pool.now in let is = Named (W.names pool) (W.runs pool) in let known = num_known c.args.thread.scopes in
+    let W = g.W.Pool in let pool = c.args.self.now.pool.now in let is = Named (W.names pool) (W.runs pool) in
+    let known = num_known c.args.thread.scopes in
     record {
       known = λ stated. refl;
-      ran = let told = g.P.Meets.told in subst (λ (n : ℕ). HaveRunAs (W.states pool) is known (told c.args.reporter) (told c.args.reporter) n) (sym c.none-left.ensures) (none_run is known (W.states pool) (told c.args.reporter));
+      ran = let told = g.P.Meets.told in subst
+          (λ (n : ℕ). HaveRunAs (W.states pool) is known (told c.args.reporter) (told c.args.reporter) n) (sym c.none-left.ensures)
+          (none_run is known (W.states pool) (told c.args.reporter));
     }
 
 pub returns-in-Ok-None : goal.returns-in-Ok-None
@@ -24,19 +27,29 @@ returns-in-Ok-None g c = c.loop.invariant.ran
 pub loop-preserved : goal.loop-preserved
 loop-preserved g c =
     let W = g.W.Pool in let pool = c.args.self.now.pool.now in let is = Named (W.names pool) (W.runs pool) in
-    let next = c.in-Ok-Some.next in let name = string_bytes c.new-ready.result.name in let its = W.runs pool next.1 in
+    let next = c.in-Ok-Some.next in let name = string_bytes next.0 in let its = W.runs pool next.1 in
     let s = c.start-thread.ensures in let e = c.end-back.ensures.reports in let r = c.work-result.result in
     let known = num_known c.args.thread.scopes in let own = c.end-back.result.0.unreported in
-    let at_first : W.states pool ≡ true → scopes_of c.start-thread.result ≡ c.args.thread.scopes = λ stated. s.scopes ∙ c.new-ready.ensures.scopes ∙ c.loop.invariant.known stated in
-    let told_next = subst (λ o. IfSome o (λ n. W.names pool n.1 (string_bytes n.0))) c.in-Ok-Some.field-0-is c.in-Ok-Some.ensures in
-    let named = subst (λ n. W.names pool next.1 (string_bytes n)) (sym c.new-ready.ensures.name) told_next in
+    let at_first : W.states pool ≡ true → scopes_of c.start-thread.result ≡ c.args.thread.scopes =
+    λ stated. s.scopes ∙ c.loop.invariant.known stated in
+    let named =
+    subst (λ found. IfSome found (λ job. W.names pool job.1 (string_bytes job.0))) c.in-Ok-Some.field-0-is c.in-Ok-Some.ensures in
     let well = ap is_ok c.in-Ok.is in
     record {
-      known = λ stated. c.end-back.ensures.scopes ∙ scopes_stay _ g.P.Reporter.accepts g.P.Reporter.refuses (W.states pool) its c.start-thread.result c.work-result.new.thread r well c.work-result.ensures stated ∙ at_first stated;
+      known = λ stated. c.end-back.ensures.scopes
+          ∙ scopes_stay _ g.P.Reporter.accepts g.P.Reporter.refuses
+          (W.states pool) its c.start-thread.result c.work-result.new.thread r well c.work-result.ensures stated
+          ∙ at_first stated;
       ran =
           let told = g.P.Meets.told in let accepts = g.P.Reporter.accepts in let refuses = g.P.Reporter.refuses in
           let after = told c.end-back.result.1 in
-          let has = subst (λ (before : List Happening). HasRunAs (W.states pool) its name Short (num_known (scopes_of c.start-thread.result)) r before after own) (ap told s.reporter)
-          (has_run_as _ accepts refuses (λ r. unmarked (told r)) (keeps_unmarked accepts refuses told g.met.P.Meets.keeps) (W.states pool) its c.start-thread.result c.work-result.new.thread e.1 c.end-back.result.1 name Short r e.0 own (told (reporter_of c.start-thread.result)) after s.thread c.work-result.ensures e.2 e.3 refl refl) in
-          job_run is known (W.states pool) name its r (num_known (scopes_of c.start-thread.result)) (told c.args.reporter) (told c.loop.reporter) after c.loop.left.unreported own c.and-left.result.unreported (λ code it. (next.1, named, it)) well (λ stated. ap num_known (at_first stated)) c.loop.invariant.ran has c.and-left.ensures.unreported;
+          let has = subst (λ (before : List Happening). HasRunAs (W.states pool) its name Short
+          (num_known (scopes_of c.start-thread.result)) r before after own) (ap told s.reporter)
+          (has_run_as _ accepts refuses (λ r. unmarked (told r)) (keeps_unmarked accepts refuses told g.met.P.Meets.keeps)
+          (W.states pool) its c.start-thread.result c.work-result.new.thread e.1 c.end-back.result.1 name Short r e.0 own
+          (told (reporter_of c.start-thread.result)) after s.thread c.work-result.ensures e.2 e.3 refl refl) in
+          job_run is known (W.states pool) name its r (num_known (scopes_of c.start-thread.result)) (told c.args.reporter)
+          (told c.loop.reporter) after c.loop.left.unreported own c.and-left.result.unreported
+          (λ code it. (next.1, named, it)) well
+          (λ stated. ap num_known (at_first stated)) c.loop.invariant.ran has c.and-left.ensures.unreported;
     }

@@ -8,12 +8,14 @@ loop-init g c = takes_none (g.Self.Frames.taken c.args.self.now)
 pub loop-preserved : goal.loop-preserved
 loop-preserved g c =
     let taken = g.Self.Frames.taken in let n = c.new_frame-taken in
-    takes_next n.result (λ emitted. emitted.frame) (taken c.args.self.now) (taken c.loop.self) (taken n.new.self) c.loop.invariant n.ensures.spells n.ensures.taken n.ensures.unchanged
+    takes_next n.result (λ emitted. emitted.frame) (taken c.args.self.now) (taken c.loop.self)
+    (taken n.new.self) c.loop.invariant n.ensures.spells n.ensures.taken n.ensures.unchanged
 
 pub returns-then-not-works-clause-last : goal.returns-then-not-works-clause-last
 returns-then-not-works-clause-last g c =
     let taken = g.Self.Frames.taken in let n = c.new_frame-taken in
-    takes_last n.result (λ emitted. emitted.frame) (taken c.args.self.now) (taken c.loop.self) (taken n.new.self) c.loop.invariant n.ensures.taken
+    takes_last n.result (λ emitted. emitted.frame) (taken c.args.self.now) (taken c.loop.self)
+    (taken n.new.self) c.loop.invariant n.ensures.taken
 
 pub returns-then-not-works-clause-refused : goal.returns-then-not-works-clause-refused
 returns-then-not-works-clause-refused g c =

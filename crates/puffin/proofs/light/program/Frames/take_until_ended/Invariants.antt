@@ -1,3 +1,4 @@
+-- Any number of frames were taken.
 use Rattle.puffin.specs.Taking.{TakesMore}
 use Rattle.puffin.proofs.light.program.Frames.take_until_ended.Given as goal
 

@@ -15,10 +15,15 @@ returns-clause-tells g c =
     let states = g.W.Program.states c.args.self.now.program.now in let is = g.W.Program.leads c.args.self.now.program.now in
     let after = told c.end-reporter.result.1 in let waiting = c.end-reporter.result.0.unreported in
     subst (λ (known : ℕ). HasLedAs states is name Short known (told c.args.reporter) after waiting) (ap num_known s.scopes)
-    (subst (λ (before : List Happening). HasLedAs states is name Short (num_known (scopes_of c.start-thread.result)) before after waiting) (ap told s.reporter)
-    (has_led_as g.C.NsSource.answers accepts refuses (λ r. unmarked (told r)) (keeps_unmarked accepts refuses told g.met.P.Meets.keeps) states is c.start-thread.result c.lead.new.thread e.1 c.end-reporter.result.1 name Short e.0 waiting (told (reporter_of c.start-thread.result)) after s.thread c.lead.ensures.runs e.2 e.3 refl refl))
+    (subst (λ (before : List Happening). HasLedAs states is name Short
+    (num_known (scopes_of c.start-thread.result)) before after waiting) (ap told s.reporter)
+    (has_led_as g.C.NsSource.answers accepts refuses (λ r. unmarked (told r))
+    (keeps_unmarked accepts refuses told g.met.P.Meets.keeps) states is c.start-thread.result c.lead.new.thread e.1
+    c.end-reporter.result.1 name Short e.0 waiting
+    (told (reporter_of c.start-thread.result)) after s.thread c.lead.ensures.runs e.2 e.3 refl refl))
 
 pub returns-clause-takes : goal.returns-clause-takes
 returns-clause-takes g c none =
     let is = g.met.F.Gathers.taken_is in
-    subst (g.W.Program.takes c.args.self.now.program.now) (is c.lead.new.frames) (c.lead.ensures.takes (is c.args.frames.now ∙ ap frames_in none))
+    subst (g.W.Program.takes c.args.self.now.program.now) (is c.lead.new.frames)
+    (c.lead.ensures.takes (is c.args.frames.now ∙ ap frames_in none))

@@ -12,8 +12,13 @@ pub returns : goal.returns
 returns g c =
     let told = g.P.Meets.told in let accepts = g.P.Reporter.accepts in let refuses = g.P.Reporter.refuses in
     let s = c.start-thread.ensures in let e = c.end-reporter.ensures.reports in let name = string_bytes c.args.thread.name in
-    let states = g.W.Program.states c.args.self.now.program.now in let is = g.W.Program.runs c.args.self.now.program.now c.args.number in
+    let states = g.W.Program.states c.args.self.now.program.now in
+    let is = g.W.Program.runs c.args.self.now.program.now c.args.number in
     let r = c.work-result.result in let after = told c.end-reporter.result.1 in let waiting = c.end-reporter.result.0.unreported in
     subst (λ (known : ℕ). HasRunAs states is name Short known r (told c.args.reporter) after waiting) (ap num_known s.scopes)
-    (subst (λ (before : List Happening). HasRunAs states is name Short (num_known (scopes_of c.start-thread.result)) r before after waiting) (ap told s.reporter)
-    (has_run_as g.C.NsSource.answers accepts refuses (λ r. unmarked (told r)) (keeps_unmarked accepts refuses told g.met.P.Meets.keeps) states is c.start-thread.result c.work-result.new.thread e.1 c.end-reporter.result.1 name Short r e.0 waiting (told (reporter_of c.start-thread.result)) after s.thread c.work-result.ensures e.2 e.3 refl refl))
+    (subst (λ (before : List Happening). HasRunAs states is name Short
+    (num_known (scopes_of c.start-thread.result)) r before after waiting) (ap told s.reporter)
+    (has_run_as g.C.NsSource.answers accepts refuses (λ r. unmarked (told r))
+    (keeps_unmarked accepts refuses told g.met.P.Meets.keeps) states is c.start-thread.result c.work-result.new.thread e.1
+    c.end-reporter.result.1 name Short r e.0 waiting
+    (told (reporter_of c.start-thread.result)) after s.thread c.work-result.ensures e.2 e.3 refl refl))

@@ -1,9 +1,10 @@
+-- The threads so far have their names and the one clock's start.
 use Rattle.std.specs.Prelude.{◌≡◌, vec_len, length, map, All}
 use Rattle.puffin_threads.specs.Thread.Clock.{clock_start, clock_begun}
 use Rattle.puffin.specs.Clocks.{StartsAt}
 use Rattle.puffin.specs.Places.{details_in}
 use Rattle.puffin.specs.Shown.{AreNamed}
-use Rattle.puffin.proofs.light.program.all_ready.Given as goal
+use Rattle.puffin.proofs.light.program.prepare_all.Given as goal
 
 abbrev pub invariant-loop-name : goal.invariant-loop-name
 invariant-loop-name g l = record {
