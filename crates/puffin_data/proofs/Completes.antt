@@ -35,16 +35,16 @@ pub record Completed (form : Form) (bytes : List ℕ) (level : ℕ) (w v : Walk)
 
 pub nothing_reached : (form : Form) (bytes : List ℕ) (p e q f : ℕ) (fault : Error) → region bytes p e ≡ [] → Reaches form bytes p e q f → IsFaultAt form bytes q f fault → ⊥
 nothing_reached form bytes p e q f fault h here at = nothing_is_no_fault form (region bytes p e) fault h at
-nothing_reached form bytes p e q f fault h (child {s = s} sound r) at = nothing_is_not_sound form (region bytes p e) s h sound
-nothing_reached form bytes p e q f fault h (sibling {s = s} sound r) at = nothing_is_not_sound form (region bytes p e) s h sound
+nothing_reached form bytes p e q f fault h (child {found = s} sound r) at = nothing_is_not_sound form (region bytes p e) s h sound
+nothing_reached form bytes p e q f fault h (sibling {found = s} sound r) at = nothing_is_not_sound form (region bytes p e) s h sound
 
 -- what is reached from a place where a sound scope stands
 pub after_sound : (form : Form) (bytes : List ℕ) (p e q f : ℕ) (s : FoundScope) (fault : Error) → IsSoundAt form bytes p e s
     → (Reaches form bytes (p + s.child_begin) (p + s.child_end) q f → ⊥) → (Reaches form bytes (p + s.next_sibling) e q f → ⊥) → Reaches form bytes p e q f → IsFaultAt form bytes q f fault → ⊥
 after_sound form bytes p e q f s fault sound inner later here at = sound_is_no_fault form (region bytes p e) s fault sound at
-after_sound form bytes p e q f s fault sound inner later (child {s = t} other r) at =
+after_sound form bytes p e q f s fault sound inner later (child {found = t} other r) at =
     inner (subst (λ (x : FoundScope). Reaches form bytes (p + x.child_begin) (p + x.child_end) q f) (one_sound form (region bytes p e) t s other sound) r)
-after_sound form bytes p e q f s fault sound inner later (sibling {s = t} other r) at =
+after_sound form bytes p e q f s fault sound inner later (sibling {found = t} other r) at =
     later (subst (λ (x : FoundScope). Reaches form bytes (p + x.next_sibling) e q f) (one_sound form (region bytes p e) t s other sound) r)
 
 -- the spelling of a scope with its children and what follows it, from those of the parts
@@ -64,7 +64,7 @@ completed form bytes level w v p e fits h k ends =
       number_of_places = refl;
       faultless = λ q f fault r at. nothing_reached form bytes p p q f fault (empty_region bytes p) r at;
     }
-completed form bytes level w v p e fits h k (goes_on {v = u} {s = s} sound inner later) =
+completed form bytes level w v p e fits h k (goes_on {inner = u} {found = s} sound inner later) =
     let at = found_places form bytes p e s sound h k in
     let a = completed form bytes (suc level) (with_scope w (suc level) s.span) u (p + s.child_begin) (p + s.child_end) fits (omega (arith, at)) (omega (arith, at)) inner in
     let b = completed form bytes level u v (p + s.next_sibling) e fits (omega (arith, at)) k later in

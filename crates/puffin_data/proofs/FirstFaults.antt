@@ -50,7 +50,7 @@ below_none place p inner later le =
 -- the places of a region's scopes lie in it: so all of them, or none, are below a place after it, or before it
 all_below : (form : Form) (bytes : List ℕ) (p e place : ℕ) (xs : List ℕ) → p ≤ e → e ≤ length bytes → e ≤ place → Sounds form bytes p e xs → below place xs ≡ length xs
 all_below form bytes p e place xs h k le (no_more none) = refl
-all_below form bytes p e place xs h k le (one_more {s = s} {inner = inner} {later = later} sound a b) =
+all_below form bytes p e place xs h k le (one_more {found = s} {inner = inner} {later = later} sound a b) =
     let at = found_places form bytes p e s sound h k in
     let ia = all_below form bytes (p + s.child_begin) (p + s.child_end) place inner (omega (arith, at)) (omega (arith, at)) (omega (arith, at)) a in
     let ib = all_below form bytes (p + s.next_sibling) e place later (omega (arith, at)) k le b in
@@ -58,7 +58,7 @@ all_below form bytes p e place xs h k le (one_more {s = s} {inner = inner} {late
 
 none_below : (form : Form) (bytes : List ℕ) (p e place : ℕ) (xs : List ℕ) → p ≤ e → e ≤ length bytes → place ≤ p → Sounds form bytes p e xs → below place xs ≡ 0
 none_below form bytes p e place xs h k le (no_more none) = refl
-none_below form bytes p e place xs h k le (one_more {s = s} {inner = inner} {later = later} sound a b) =
+none_below form bytes p e place xs h k le (one_more {found = s} {inner = inner} {later = later} sound a b) =
     let at = found_places form bytes p e s sound h k in
     let ia = none_below form bytes (p + s.child_begin) (p + s.child_end) place inner (omega (arith, at)) (omega (arith, at)) (omega (arith, at)) a in
     let ib = none_below form bytes (p + s.next_sibling) e place later (omega (arith, at)) k (omega (arith, at)) b in
@@ -85,9 +85,9 @@ pub record Stops (form : Form) (bytes : List ℕ) (w : Walk) (p e : ℕ) (stop :
 pub by_parts : (form : Form) (bytes : List ℕ) (p e q f place : ℕ) (s : FoundScope) (fault : Error) → IsSoundAt form bytes p e s
     → (Reaches form bytes (p + s.child_begin) (p + s.child_end) q f → place ≤ q) → (Reaches form bytes (p + s.next_sibling) e q f → place ≤ q) → Reaches form bytes p e q f → IsFaultAt form bytes q f fault → place ≤ q
 by_parts form bytes p e q f place s fault sound inner later here at = absurd (sound_is_no_fault form (region bytes p e) s fault sound at)
-by_parts form bytes p e q f place s fault sound inner later (child {s = t} other r) at =
+by_parts form bytes p e q f place s fault sound inner later (child {found = t} other r) at =
     inner (subst (λ (x : FoundScope). Reaches form bytes (p + x.child_begin) (p + x.child_end) q f) (one_sound form (region bytes p e) t s other sound) r)
-by_parts form bytes p e q f place s fault sound inner later (sibling {s = t} other r) at =
+by_parts form bytes p e q f place s fault sound inner later (sibling {found = t} other r) at =
     later (subst (λ (x : FoundScope). Reaches form bytes (p + x.next_sibling) e q f) (one_sound form (region bytes p e) t s other sound) r)
 
 pub stopped_at : (form : Form) (bytes : List ℕ) (level : ℕ) (w : Walk) (p e : ℕ) (stop : Stop) → IsBytes bytes → p ≤ e → e ≤ length bytes → WalksTo form bytes level w p e (Err stop) → Stops form bytes w p e stop
@@ -101,7 +101,7 @@ stopped_at form bytes level w p e stop fits h k (stops {fault = fault} at) =
       sounds = no_more (λ s sound. sound_is_no_fault form (region bytes p e) s fault sound at);
       tries = omega arith;
     }
-stopped_at form bytes level w p e stop fits h k (stops_within {s = s} sound inner) =
+stopped_at form bytes level w p e stop fits h k (stops_within {found = s} sound inner) =
     let at = found_places form bytes p e s sound h k in
     let a = stopped_at form bytes (suc level) (with_scope w (suc level) s.span) (p + s.child_begin) (p + s.child_end) stop fits (omega (arith, at)) (omega (arith, at)) inner in
     let inside = between form bytes (p + s.child_begin) (p + s.child_end) stop.place a.end (omega (arith, at)) (omega (arith, at)) a.reached in
@@ -116,7 +116,7 @@ stopped_at form bytes level w p e stop fits h k (stops_within {s = s} sound inne
       sounds = one_more sound a.sounds b.1;
       tries = omega (arith, a.tries, none, below_more stop.place p a.places b.0 (omega (arith, at, inside)));
     }
-stopped_at form bytes level w p e stop fits h k (goes_on {v = v} {s = s} sound inner later) =
+stopped_at form bytes level w p e stop fits h k (goes_on {inner = v} {found = s} sound inner later) =
     let at = found_places form bytes p e s sound h k in
     let a = completed form bytes (suc level) (with_scope w (suc level) s.span) v (p + s.child_begin) (p + s.child_end) fits (omega (arith, at)) (omega (arith, at)) inner in
     let b = stopped_at form bytes level v (p + s.next_sibling) e stop fits (omega (arith, at)) k later in

@@ -9,38 +9,38 @@ use Rattle.puffin_data.proofs.Regions.{between, one_sound, ok_is_not_err, Answer
 
 only_here : (form : Form) (bytes : List ℕ) (p e q g : ℕ) → p ≤ e → e ≤ length bytes → Reaches form bytes p e q g → q ≡ p → e ≡ g
 only_here form bytes p e q g h k here same = refl
-only_here form bytes p e q g h k (child {s = t} sound b) same =
+only_here form bytes p e q g h k (child {found = t} sound b) same =
     let at = found_places form bytes p e t sound h k in
     let z = between form bytes (p + t.child_begin) (p + t.child_end) q g (omega (arith, at)) (omega (arith, at)) b in
     absurd (omega (arith, at, z))
-only_here form bytes p e q g h k (sibling {s = t} sound b) same =
+only_here form bytes p e q g h k (sibling {found = t} sound b) same =
     let at = found_places form bytes p e t sound h k in
     let z = between form bytes (p + t.next_sibling) e q g (omega (arith, at)) k b in
     absurd (omega (arith, at, z))
 
 pub one_end : (form : Form) (bytes : List ℕ) (p e q f g : ℕ) → p ≤ e → e ≤ length bytes → Reaches form bytes p e q f → Reaches form bytes p e q g → f ≡ g
 one_end form bytes p e q f g h k here b = only_here form bytes p e p g h k b refl
-one_end form bytes p e q f g h k (child {s = s} sound a) here =
+one_end form bytes p e q f g h k (child {found = s} sound a) here =
     let at = found_places form bytes p e s sound h k in
     let z = between form bytes (p + s.child_begin) (p + s.child_end) q f (omega (arith, at)) (omega (arith, at)) a in
     absurd (omega (arith, at, z))
-one_end form bytes p e q f g h k (sibling {s = s} sound a) here =
+one_end form bytes p e q f g h k (sibling {found = s} sound a) here =
     let at = found_places form bytes p e s sound h k in
     let z = between form bytes (p + s.next_sibling) e q f (omega (arith, at)) k a in
     absurd (omega (arith, at, z))
-one_end form bytes p e q f g h k (child {s = s} sound a) (child {s = t} other b) =
+one_end form bytes p e q f g h k (child {found = s} sound a) (child {found = t} other b) =
     let at = found_places form bytes p e s sound h k in
     one_end form bytes (p + s.child_begin) (p + s.child_end) q f g (omega (arith, at)) (omega (arith, at)) a (subst (λ (x : FoundScope). Reaches form bytes (p + x.child_begin) (p + x.child_end) q g) (one_sound form (region bytes p e) t s other sound) b)
-one_end form bytes p e q f g h k (sibling {s = s} sound a) (sibling {s = t} other b) =
+one_end form bytes p e q f g h k (sibling {found = s} sound a) (sibling {found = t} other b) =
     let at = found_places form bytes p e s sound h k in
     one_end form bytes (p + s.next_sibling) e q f g (omega (arith, at)) k a (subst (λ (x : FoundScope). Reaches form bytes (p + x.next_sibling) e q g) (one_sound form (region bytes p e) t s other sound) b)
-one_end form bytes p e q f g h k (child {s = s} sound a) (sibling {s = t} other b) =
+one_end form bytes p e q f g h k (child {found = s} sound a) (sibling {found = t} other b) =
     let at = found_places form bytes p e s sound h k in
     let b' = subst (λ (x : FoundScope). Reaches form bytes (p + x.next_sibling) e q g) (one_sound form (region bytes p e) t s other sound) b in
     let y = between form bytes (p + s.child_begin) (p + s.child_end) q f (omega (arith, at)) (omega (arith, at)) a in
     let z = between form bytes (p + s.next_sibling) e q g (omega (arith, at)) k b' in
     absurd (omega (arith, at, y, z))
-one_end form bytes p e q f g h k (sibling {s = s} sound a) (child {s = t} other b) =
+one_end form bytes p e q f g h k (sibling {found = s} sound a) (child {found = t} other b) =
     let at = found_places form bytes p e s sound h k in
     let b' = subst (λ (x : FoundScope). Reaches form bytes (p + x.child_begin) (p + x.child_end) q g) (one_sound form (region bytes p e) t s other sound) b in
     let y = between form bytes (p + s.child_begin) (p + s.child_end) q g (omega (arith, at)) (omega (arith, at)) b' in

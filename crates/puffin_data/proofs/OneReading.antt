@@ -26,24 +26,24 @@ same_fault x s t a b = let e : ◌≡◌ {A = Answer} (Err s) (Err t) = sym a �
 ended : (form : Form) (bytes : List ℕ) (p : ℕ) (items : List (Result ReadScope Error)) → scope_read form bytes p (length bytes) ≡ Ok None → ReaderGives form bytes p items → items ≡ []
 ended form bytes p items e (ends f) = refl
 ended form bytes p items e (stops {fault = x} f) = absurd (none_err _ x e f)
-ended form bytes p items e (goes_on {s = s} f r) = absurd (none_some _ s e f)
+ended form bytes p items e (goes_on {scope = s} f r) = absurd (none_some _ s e f)
 
 stopped : (form : Form) (bytes : List ℕ) (p : ℕ) (fault : Error) (items : List (Result ReadScope Error)) → scope_read form bytes p (length bytes) ≡ Err fault → ReaderGives form bytes p items → items ≡ Err fault ∷ []
 stopped form bytes p fault items e (ends f) = absurd (none_err _ fault f e)
 stopped form bytes p fault items e (stops {fault = x} f) = ap (λ (y : Error). Err y ∷ []) (same_fault _ x fault f e)
-stopped form bytes p fault items e (goes_on {s = s} f r) = absurd (some_err _ s fault f e)
+stopped form bytes p fault items e (goes_on {scope = s} f r) = absurd (some_err _ s fault f e)
 
 went_on : (form : Form) (bytes : List ℕ) (p : ℕ) (s : ReadScope) (items : List (Result ReadScope Error)) → scope_read form bytes p (length bytes) ≡ Ok (Some s) → ReaderGives form bytes p items → (later : List (Result ReadScope Error)) × ReaderGives form bytes s.next_sibling later × (items ≡ Ok s ∷ later)
 went_on form bytes p s items e (ends f) = absurd (none_some _ s f e)
 went_on form bytes p s items e (stops {fault = x} f) = absurd (some_err _ s x e f)
-went_on form bytes p s items e (goes_on {s = t} {later = later} f r) =
+went_on form bytes p s items e (goes_on {scope = t} {later = later} f r) =
     let same = same_scope _ t s f e in
     (later, subst (λ (x : ReadScope). ReaderGives form bytes x.next_sibling later) same r, ap (λ (x : ReadScope). Ok x ∷ later) same)
 
 pub one_reading : (form : Form) (bytes : List ℕ) (p : ℕ) (a b : List (Result ReadScope Error)) → ReaderGives form bytes p a → ReaderGives form bytes p b → a ≡ b
 one_reading form bytes p a b (ends e) r = sym (ended form bytes p b e r)
 one_reading form bytes p a b (stops {fault = fault} e) r = sym (stopped form bytes p fault b e r)
-one_reading form bytes p a b (goes_on {s = s} {later = later} e x) r =
+one_reading form bytes p a b (goes_on {scope = s} {later = later} e x) r =
     let w = went_on form bytes p s b e r in
     ap (λ (xs : List (Result ReadScope Error)). Ok s ∷ xs) (one_reading form bytes s.next_sibling later w.0 x w.1) ∙ sym w.2
 
@@ -70,7 +70,7 @@ all_are_read form bytes p low = read_up_to form (suc (length bytes - p)) bytes p
 at_end : (form : Form) (bytes : List ℕ) (items : List (Result ReadScope Error)) (p : ℕ) → p ≡ length bytes → ReaderGives form bytes p items → items ≡ []
 at_end form bytes items p e (ends f) = refl
 at_end form bytes items p e (stops {fault = fault} f) = absurd (omega (arith, fault_within form bytes p (length bytes) fault (omega arith) f))
-at_end form bytes items p e (goes_on {s = s} f r) = absurd (omega (arith, next_within form bytes p (length bytes) s (omega arith) (omega arith) f))
+at_end form bytes items p e (goes_on {scope = s} f r) = absurd (omega (arith, next_within form bytes p (length bytes) s (omega arith) (omega arith) f))
 
 pub nothing_at_end : (form : Form) (bytes : List ℕ) (items : List (Result ReadScope Error)) → ReaderGives form bytes (length bytes) items → items ≡ []
 nothing_at_end form bytes items r = at_end form bytes items (length bytes) refl r

@@ -73,11 +73,11 @@ pub record Between (p e q f : ℕ) : Type 0 where
 
 pub between : (form : Form) (bytes : List ℕ) (p e q f : ℕ) → p ≤ e → e ≤ length bytes → Reaches form bytes p e q f → Between p e q f
 between form bytes p e q f h k here = record { low = omega arith; middle = h; high = omega arith }
-between form bytes p e q f h k (child {s = s} sound r) =
+between form bytes p e q f h k (child {found = s} sound r) =
     let at = found_places form bytes p e s sound h k in
     let b = between form bytes (p + s.child_begin) (p + s.child_end) q f (omega (arith, at)) (omega (arith, at)) r in
     record { low = omega (arith, at, b); middle = b.middle; high = omega (arith, at, b) }
-between form bytes p e q f h k (sibling {s = s} sound r) =
+between form bytes p e q f h k (sibling {found = s} sound r) =
     let at = found_places form bytes p e s sound h k in
     let b = between form bytes (p + s.next_sibling) e q f (omega (arith, at)) k r in
     record { low = omega (arith, at, b); middle = b.middle; high = b.high }

@@ -42,9 +42,9 @@ first_is p around s t a e = ap (λ (x : FoundScope). record { place = p; scope =
 
 pub one_list_of_scopes : (form : Form) (bytes : List ℕ) (around : List Span) (p e : ℕ) (placed others : List PlacedScope) → Sees form bytes around p e placed → Sees form bytes around p e others → placed ≡ others
 one_list_of_scopes form bytes around p e placed others (no_scope none) (no_scope no_other) = refl
-one_list_of_scopes form bytes around p e placed others (no_scope none) (one_scope {s = t} other c d) = absurd (none t other)
-one_list_of_scopes form bytes around p e placed others (one_scope {s = s} sound a b) (no_scope none) = absurd (none s sound)
-one_list_of_scopes form bytes around p e placed others (one_scope {s = s} {inner = i} {later = l} sound a b) (one_scope {s = t} {inner = j} {later = m} other c d) =
+one_list_of_scopes form bytes around p e placed others (no_scope none) (one_scope {found = t} other c d) = absurd (none t other)
+one_list_of_scopes form bytes around p e placed others (one_scope {found = s} sound a b) (no_scope none) = absurd (none s sound)
+one_list_of_scopes form bytes around p e placed others (one_scope {found = s} {inner = i} {later = l} sound a b) (one_scope {found = t} {inner = j} {later = m} other c d) =
     let same : t ≡ s = one_sound form (region bytes p e) t s other sound in
     let inner : i ≡ j = one_list_of_scopes form bytes (around ++ (s.span ∷ [])) (p + s.child_begin) (p + s.child_end) i j a (subst (λ (x : FoundScope). Sees form bytes (around ++ (x.span ∷ [])) (p + x.child_begin) (p + x.child_end) j) same c) in
     let later : l ≡ m = one_list_of_scopes form bytes around (p + s.next_sibling) e l m b (subst (λ (x : FoundScope). Sees form bytes around (p + x.next_sibling) e m) same d) in
@@ -79,7 +79,7 @@ both_equal a b c d x y = ap (λ (t : List PlacedScope). t ++ c) x ∙ ap (λ (t 
 -- the placed scopes of a region lie in it: all of them are before a place after it, and none before a place before it
 pub all_before : (form : Form) (bytes : List ℕ) (around : List Span) (p e place : ℕ) (xs : List PlacedScope) → p ≤ e → e ≤ length bytes → e ≤ place → Sees form bytes around p e xs → before place xs ≡ xs
 all_before form bytes around p e place xs h k le (no_scope none) = refl
-all_before form bytes around p e place xs h k le (one_scope {s = s} {inner = inner} {later = later} sound a b) =
+all_before form bytes around p e place xs h k le (one_scope {found = s} {inner = inner} {later = later} sound a b) =
     let at = found_places form bytes p e s sound h k in
     let ia = all_before form bytes (around ++ (s.span ∷ [])) (p + s.child_begin) (p + s.child_end) place inner (omega (arith, at)) (omega (arith, at)) (omega (arith, at)) a in
     let ib = all_before form bytes around (p + s.next_sibling) e place later (omega (arith, at)) k le b in
@@ -88,7 +88,7 @@ all_before form bytes around p e place xs h k le (one_scope {s = s} {inner = inn
 
 pub none_before : (form : Form) (bytes : List ℕ) (around : List Span) (p e place : ℕ) (xs : List PlacedScope) → p ≤ e → e ≤ length bytes → place ≤ p → Sees form bytes around p e xs → before place xs ≡ []
 none_before form bytes around p e place xs h k le (no_scope none) = refl
-none_before form bytes around p e place xs h k le (one_scope {s = s} {inner = inner} {later = later} sound a b) =
+none_before form bytes around p e place xs h k le (one_scope {found = s} {inner = inner} {later = later} sound a b) =
     let at = found_places form bytes p e s sound h k in
     let ia = none_before form bytes (around ++ (s.span ∷ [])) (p + s.child_begin) (p + s.child_end) place inner (omega (arith, at)) (omega (arith, at)) (omega (arith, at)) a in
     let ib = none_before form bytes around (p + s.next_sibling) e place later (omega (arith, at)) k (omega (arith, at)) b in

@@ -36,9 +36,9 @@ both_parts p a b c d x y = ap (λ (t : List ℕ). p ∷ (t ++ c)) x ∙ ap (λ (
 
 pub one_list : (form : Form) (bytes : List ℕ) (p e : ℕ) (places others : List ℕ) → Sounds form bytes p e places → Sounds form bytes p e others → places ≡ others
 one_list form bytes p e places others (no_more none) (no_more no_other) = refl
-one_list form bytes p e places others (no_more none) (one_more {s = t} other c d) = absurd (none t other)
-one_list form bytes p e places others (one_more {s = s} sound a b) (no_more none) = absurd (none s sound)
-one_list form bytes p e places others (one_more {s = s} {inner = i} {later = l} sound a b) (one_more {s = t} {inner = j} {later = m} other c d) =
+one_list form bytes p e places others (no_more none) (one_more {found = t} other c d) = absurd (none t other)
+one_list form bytes p e places others (one_more {found = s} sound a b) (no_more none) = absurd (none s sound)
+one_list form bytes p e places others (one_more {found = s} {inner = i} {later = l} sound a b) (one_more {found = t} {inner = j} {later = m} other c d) =
     let same : t ≡ s = one_sound form (region bytes p e) t s other sound in
     let inner : i ≡ j = one_list form bytes (p + s.child_begin) (p + s.child_end) i j a (subst (λ (x : FoundScope). Sounds form bytes (p + x.child_begin) (p + x.child_end) j) same c) in
     let later : l ≡ m = one_list form bytes (p + s.next_sibling) e l m b (subst (λ (x : FoundScope). Sounds form bytes (p + x.next_sibling) e m) same d) in
@@ -61,7 +61,7 @@ rises_joined low a b high (x ∷ xs) ys from le to h k = (h.0, omega (arith, h.1
 
 pub places_rise : (form : Form) (bytes : List ℕ) (p e : ℕ) (places : List ℕ) → p ≤ e → e ≤ length bytes → Sounds form bytes p e places → Rises p e places
 places_rise form bytes p e places h k (no_more none) = tt
-places_rise form bytes p e places h k (one_more {s = s} {inner = inner} {later = later} sound a b) =
+places_rise form bytes p e places h k (one_more {found = s} {inner = inner} {later = later} sound a b) =
     let at = found_places form bytes p e s sound h k in
     let x = places_rise form bytes (p + s.child_begin) (p + s.child_end) inner (omega (arith, at)) (omega (arith, at)) a in
     let y = places_rise form bytes (p + s.next_sibling) e later (omega (arith, at)) k b in

@@ -14,10 +14,10 @@ use Rattle.puffin_data.proofs.Visited.{same_scopes}
 
 placed_of : (form : Form) (f : Forest) (bytes : List ℕ) (around : List Span) (p e : ℕ) (placed : List PlacedScope) → IsForest form f → p ≤ e → e ≤ length bytes → length bytes < 2 ^ 64 → region bytes p e ≡ spelling form f → Sees form bytes around p e placed → scopes_of placed ≡ nested_in around f
 placed_of form empty bytes around p e placed fits h k small is (no_scope none) = refl
-placed_of form empty bytes around p e placed fits h k small is (one_scope {s = t} sound a b) = absurd (nothing_is_not_sound form (region bytes p e) t is sound)
+placed_of form empty bytes around p e placed fits h k small is (one_scope {found = t} sound a b) = absurd (nothing_is_not_sound form (region bytes p e) t is sound)
 placed_of form (node s c o) bytes around p e placed fits h k small is (no_scope none) =
     absurd (none (found_at form s (length (spelling form c))) (ap (reading form) is ∙ reads_again form s (spelling form c) (spelling form o) fits.0 (omega (arith, long form s (spelling form c) (spelling form o), ap length is, length-region bytes p e k))))
-placed_of form (node s c o) bytes around p e placed fits h k small is (one_scope {s = t} {inner = i} {later = l} sound a b) =
+placed_of form (node s c o) bytes around p e placed fits h k small is (one_scope {found = t} {inner = i} {later = l} sound a b) =
     let x = found_at form s (length (spelling form c)) in
     let found = ap (reading form) is ∙ reads_again form s (spelling form c) (spelling form o) fits.0 (omega (arith, long form s (spelling form c) (spelling form o), ap length is, length-region bytes p e k)) in
     let place = found_places form bytes p e x found h k in

@@ -48,11 +48,11 @@ long form s inner more = omega (arith, length-append (begin_bytes form s.id s.st
 -- no fault is met in a spelling
 pub faultless : (form : Form) (f : Forest) (bytes : List ℕ) (p e q g : ℕ) (fault : Error) → IsForest form f → p ≤ e → e ≤ length bytes → length bytes < 2 ^ 64 → region bytes p e ≡ spelling form f → Reaches form bytes p e q g → IsFaultAt form bytes q g fault → ⊥
 faultless form empty bytes p e q g fault fits h k small is here at = nothing_is_no_fault form (region bytes p e) fault is at
-faultless form empty bytes p e q g fault fits h k small is (child {s = t} sound r) at = nothing_is_not_sound form (region bytes p e) t is sound
-faultless form empty bytes p e q g fault fits h k small is (sibling {s = t} sound r) at = nothing_is_not_sound form (region bytes p e) t is sound
+faultless form empty bytes p e q g fault fits h k small is (child {found = t} sound r) at = nothing_is_not_sound form (region bytes p e) t is sound
+faultless form empty bytes p e q g fault fits h k small is (sibling {found = t} sound r) at = nothing_is_not_sound form (region bytes p e) t is sound
 faultless form (node s c o) bytes p e q g fault fits h k small is here at =
     sound_is_no_fault form (region bytes p e) (found_at form s (length (spelling form c))) fault (ap (reading form) is ∙ reads_again form s (spelling form c) (spelling form o) fits.0 (omega (arith, long form s (spelling form c) (spelling form o), ap length is, length-region bytes p e k))) at
-faultless form (node s c o) bytes p e q g fault fits h k small is (child {s = t} sound r) at =
+faultless form (node s c o) bytes p e q g fault fits h k small is (child {found = t} sound r) at =
     let found = ap (reading form) is ∙ reads_again form s (spelling form c) (spelling form o) fits.0 (omega (arith, long form s (spelling form c) (spelling form o), ap length is, length-region bytes p e k)) in
     let x = found_at form s (length (spelling form c)) in
     let place = found_places form bytes p e x found h k in
@@ -60,7 +60,7 @@ faultless form (node s c o) bytes p e q g fault fits h k small is (child {s = t}
     let inner : region bytes (p + x.child_begin) (p + x.child_end) ≡ spelling form c =
     part_of_region bytes p e x.child_begin x.child_end place.inside (omega (arith, place)) ∙ ap (λ (n : ℕ). take n (drop x.child_begin (region bytes p e))) size ∙ ap (λ (y : List ℕ). take (length (spelling form c)) (drop x.child_begin y)) is ∙ children_at form s (spelling form c) (spelling form o) in
     faultless form c bytes (p + x.child_begin) (p + x.child_end) q g fault fits.1 (omega arith) (omega (arith, place)) small inner (subst (λ (y : FoundScope). Reaches form bytes (p + y.child_begin) (p + y.child_end) q g) (one_sound form (region bytes p e) t x sound found) r) at
-faultless form (node s c o) bytes p e q g fault fits h k small is (sibling {s = t} sound r) at =
+faultless form (node s c o) bytes p e q g fault fits h k small is (sibling {found = t} sound r) at =
     let found = ap (reading form) is ∙ reads_again form s (spelling form c) (spelling form o) fits.0 (omega (arith, long form s (spelling form c) (spelling form o), ap length is, length-region bytes p e k)) in
     let x = found_at form s (length (spelling form c)) in
     let place = found_places form bytes p e x found h k in

@@ -6,13 +6,13 @@ use Rattle.puffin_data.proofs.data.parts.read_up_to.Goals as goal
 pub reads-preserved : goal.reads-preserved
 reads-preserved g c =
     let before = c.reads.invariant in
-    let read = c.in_ok-n.ensures in
+    let read = c.in_ok-count.ensures in
     let size : length c.read_behind.new.buf ≡ length c.reads.buf = search rules in
     record {
       size = size ∙ before.size;
       within = read.fits;
-      consumed = filled_more _ _ _ c.reads.buf c.read_behind.new.buf c.reads.end c.in_ok-n.n read.front before.consumed read.took;
-      are_bytes = IsBytes-take (c.reads.end + c.in_ok-n.n) c.read_behind.new.buf (search rules);
+      consumed = filled_more _ _ _ c.reads.buf c.read_behind.new.buf c.reads.end c.in_ok-count.count read.front before.consumed read.took;
+      are_bytes = IsBytes-take (c.reads.end + c.in_ok-count.count) c.read_behind.new.buf (search rules);
       failures = read.failures ∙ before.failures;
     }
 

@@ -32,7 +32,7 @@ scopes-preserved-then-at-end c =
     let at = found_places c.args.form bytes c.scopes.at c.scopes.end s sound c.scopes.invariant.within (omega arith) in
     let grown : length c.push.new.self.items ≡ length c.scopes.ends.items + 1 = ap length c.in_ok-push.ensures.items ∙ length_push c.scopes.ends.items c.scopes.end in
     let deep : c.len.result ≡ length c.push.new.self.items = omega (arith, grown, c.len.ensures, c.in_ok-push.ensures.len) in
-    let one_more : c.counted-walk.result.num_scopes ≡ c.scopes.walk.num_scopes + 1 = ap (λ (w : Walk). w.num_scopes) c.counted-walk.ensures in
+    let one_more : c.with_scope-walk.result.num_scopes ≡ c.scopes.walk.num_scopes + 1 = ap (λ (w : Walk). w.num_scopes) c.with_scope-walk.ensures in
     let begins : get_or (region bytes c.scopes.at c.scopes.end) 0 0 ≡ 40 = (passes c.args.form (region bytes c.scopes.at c.scopes.end) s sound).begins in
     let tried : c.next_scope.new.tries ≡ c.scopes.tries + tries_in (region bytes c.scopes.at c.scopes.end) = c.next_scope.ensures.tried in
     let one_try : tries_in (region bytes c.scopes.at c.scopes.end) ≡ 1 = ap (λ (b : ℕ). cond (eqb b 40) 1 0) begins in
@@ -42,7 +42,7 @@ scopes-preserved-then-at-end c =
       inside = omega (arith, at, c.in_ok-push.ensures.len);
       tried = omega (arith, tried, one_try, one_more);
       few = omega (arith, at, one_more, grown);
-      resumes = λ out r. c.scopes.invariant.resumes out (enters c.args.form bytes c.scopes.ends.items c.push.new.self.items c.scopes.walk c.counted-walk.result c.len.result c.scopes.at c.scopes.end s out sound at.next c.in_ok-push.ensures.items deep c.counted-walk.ensures r);
+      resumes = λ out r. c.scopes.invariant.resumes out (enters c.args.form bytes c.scopes.ends.items c.push.new.self.items c.scopes.walk c.with_scope-walk.result c.len.result c.scopes.at c.scopes.end s out sound at.next c.in_ok-push.ensures.items deep c.with_scope-walk.ensures r);
     }
 
 pub scopes-smaller : goal.scopes-smaller

@@ -6,8 +6,8 @@ use Rattle.puffin_data.proofs.lemmas.Readers.{none_begins}
 use Rattle.puffin_data.proofs.lemmas.ValueReaders.{bytes_reader}
 use Rattle.puffin_data.proofs.wire.front.bytes_in.Goals as goal
 
-pub returns-then-rest-n-clause-reads : goal.returns-then-rest-n-clause-reads
-returns-then-rest-n-clause-reads c =
+pub returns-then-rest-len-clause-reads : goal.returns-then-rest-len-clause-reads
+returns-then-rest-len-clause-reads c =
     let none : bytes_at c.args.bytes.now ≡ None = search rules in
     none_begins IsBlock block bytes_at bytes_reader c.args.bytes.now none
 
