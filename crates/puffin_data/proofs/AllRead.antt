@@ -15,11 +15,13 @@ items scopes = map (λ scope. Ok scope) (map scope_seen scopes)
 pub record HasRead (from now : ReaderState) (scopes : List Scope) : Type 0 where
   pub same_form : now.form ≡ from.form
   pub same_bytes : now.bytes ≡ from.bytes
-  pub reads : (later : List (Result ReadScope Error)) → ReaderGives from.form from.bytes now.at later → ReaderGives from.form from.bytes from.at (items scopes ++ later)
+  pub reads : (later : List (Result ReadScope Error)) → ReaderGives from.form from.bytes now.at later
+      → ReaderGives from.form from.bytes from.at (items scopes ++ later)
 
 -- ---- what was read, from what the reader returned
 
-after_some : (from : ReaderState) (read : Result (Option ReadScope) Error) (scope : ReadScope) (at : ℕ) → (Some (Ok scope), at) ≡ next_after from read → (read ≡ Ok (Some scope)) × (at ≡ scope.next_sibling)
+after_some : (from : ReaderState) (read : Result (Option ReadScope) Error) (scope : ReadScope) (at : ℕ)
+    → (Some (Ok scope), at) ≡ next_after from read → (read ≡ Ok (Some scope)) × (at ≡ scope.next_sibling)
 after_some from (Ok None) scope at is = absurd (some_none _ (ap (λ both. both.0) is))
   where
     some_none : (any : Result ReadScope Error) → Some any ≡ None → ⊥
@@ -35,7 +37,8 @@ after_some from (Err fault) scope at is = absurd (ok_err scope fault (ap (λ bot
     ok_err : (one : ReadScope) (other : Error) → ◌≡◌ {A = Option (Result ReadScope Error)} (Some (Ok one)) (Some (Err other)) → ⊥
     ok_err one other is = cc
 
-after_fault : (from : ReaderState) (read : Result (Option ReadScope) Error) (fault : Error) (at : ℕ) → (Some (Err fault), at) ≡ next_after from read → read ≡ Err fault
+after_fault : (from : ReaderState) (read : Result (Option ReadScope) Error) (fault : Error) (at : ℕ)
+    → (Some (Err fault), at) ≡ next_after from read → read ≡ Err fault
 after_fault from (Ok None) fault at is = absurd (some_none _ (ap (λ both. both.0) is))
   where
     some_none : (any : Result ReadScope Error) → Some any ≡ None → ⊥
@@ -46,7 +49,8 @@ after_fault from (Ok (Some found)) fault at is = absurd (err_ok fault found (ap 
     err_ok other one is = cc
 after_fault from (Err other) fault at is = same_fault fault other (ap (λ both. both.0) is)
   where
-    same_fault : (one other : Error) → ◌≡◌ {A = Option (Result ReadScope Error)} (Some (Err one)) (Some (Err other)) → ◌≡◌ {A = Result (Option ReadScope) Error} (Err other) (Err one)
+    same_fault : (one other : Error) → ◌≡◌ {A = Option (Result ReadScope Error)} (Some (Err one)) (Some (Err other))
+        → ◌≡◌ {A = Result (Option ReadScope) Error} (Err other) (Err one)
     same_fault one other is = cc
 
 after_none : (from : ReaderState) (read : Result (Option ReadScope) Error) (at : ℕ) → (None, at) ≡ next_after from read → read ≡ Ok None
@@ -63,31 +67,49 @@ after_none from (Err other) at is = absurd (none_some _ (ap (λ both. both.0) is
 -- ---- what a loop has read
 
 -- what is read at the reader's place, as read from the bytes where it began
-read_there : (from now : ReaderState) (read : Result (Option ReadScope) Error) → now.form ≡ from.form → now.bytes ≡ from.bytes → scope_read now.form now.bytes now.at (length now.bytes) ≡ read → scope_read from.form from.bytes now.at (length from.bytes) ≡ read
-read_there from now read same_form same_bytes is = subst (λ (bytes : List ℕ). scope_read from.form bytes now.at (length bytes) ≡ read) same_bytes (subst (λ (form : Form). scope_read form now.bytes now.at (length now.bytes) ≡ read) same_form is)
+read_there : (from now : ReaderState) (read : Result (Option ReadScope) Error) → now.form ≡ from.form → now.bytes ≡ from.bytes
+    → scope_read now.form now.bytes now.at (length now.bytes) ≡ read
+    → scope_read from.form from.bytes now.at (length from.bytes) ≡ read
+read_there from now read same_form same_bytes is =
+    subst (λ (bytes : List ℕ). scope_read from.form bytes now.at (length bytes) ≡ read) same_bytes
+    (subst (λ (form : Form). scope_read form now.bytes now.at (length now.bytes) ≡ read) same_form is)
 
 -- one scope more was read
-pub one_more : (from now to : ReaderState) (scopes all : List Scope) (scope : Scope) → HasRead from now scopes → IsNextRead now (Some (Ok scope)) to → all ≡ scopes ++ scope ∷ [] → HasRead from to all
+pub one_more : (from now to : ReaderState) (scopes all : List Scope) (scope : Scope) → HasRead from now scopes
+    → IsNextRead now (Some (Ok scope)) to → all ≡ scopes ++ scope ∷ [] → HasRead from to all
 one_more from now to scopes all scope so_far step grown =
     let read = scope_read now.form now.bytes now.at (length now.bytes) in
     let told = after_some now read (scope_seen scope) to.at step.next in
     let there = read_there from now (Ok (Some (scope_seen scope))) so_far.same_form so_far.same_bytes told.0 in
-    let split : items all ≡ items scopes ++ (Ok (scope_seen scope) ∷ []) = ap items grown ∙ ap (map (λ (any : ReadScope). Ok any)) (map-append scope_seen scopes (scope ∷ [])) ∙ map-append (λ (any : ReadScope). Ok any) (map scope_seen scopes) (scope_seen scope ∷ []) in
+    let split : items all ≡ items scopes ++ (Ok (scope_seen scope) ∷ []) =
+    ap items grown
+    ∙ ap (map (λ (any : ReadScope). Ok any)) (map-append scope_seen scopes (scope ∷ []))
+    ∙ map-append (λ (any : ReadScope). Ok any) (map scope_seen scopes) (scope_seen scope ∷ []) in
     record {
       same_form = step.same_form ∙ so_far.same_form;
       same_bytes = step.same_bytes ∙ so_far.same_bytes;
       reads = λ later any.
-          let whole = so_far.reads (Ok (scope_seen scope) ∷ later) (goes_on there (subst (λ (any : ℕ). ReaderGives from.form from.bytes any later) told.1 any)) in
-          subst (ReaderGives from.form from.bytes from.at) (sym (ap (λ (any : List (Result ReadScope Error)). any ++ later) split ∙ append_assoc (items scopes) (Ok (scope_seen scope) ∷ []) later)) whole;
+          let whole =
+          so_far.reads (Ok (scope_seen scope) ∷ later)
+          (goes_on there (subst (λ (any : ℕ). ReaderGives from.form from.bytes any later) told.1 any)) in
+          subst (ReaderGives from.form from.bytes from.at)
+          (sym (ap (λ (any : List (Result ReadScope Error)). any ++ later) split
+          ∙ append_assoc (items scopes) (Ok (scope_seen scope) ∷ []) later)) whole;
     }
 
 -- the reader came to its end, or to a fault
-pub all_read : (from now to : ReaderState) (scopes : List Scope) → HasRead from now scopes → IsNextRead now None to → ReadsScopes from scopes
+pub all_read : (from now to : ReaderState) (scopes : List Scope) → HasRead from now scopes → IsNextRead now None to
+    → ReadsScopes from scopes
 all_read from now to scopes so_far step =
-    let there = read_there from now (Ok None) so_far.same_form so_far.same_bytes (after_none now (scope_read now.form now.bytes now.at (length now.bytes)) to.at step.next) in
+    let there =
+    read_there from now (Ok None) so_far.same_form so_far.same_bytes
+    (after_none now (scope_read now.form now.bytes now.at (length now.bytes)) to.at step.next) in
     subst (ReaderGives from.form from.bytes from.at) (append-nil (items scopes)) (so_far.reads [] (ends there))
 
-pub fault_read : (from now to : ReaderState) (scopes : List Scope) (fault : Error) → HasRead from now scopes → IsNextRead now (Some (Err fault)) to → ReadsFault from fault
+pub fault_read : (from now to : ReaderState) (scopes : List Scope) (fault : Error) → HasRead from now scopes
+    → IsNextRead now (Some (Err fault)) to → ReadsFault from fault
 fault_read from now to scopes fault so_far step =
-    let there = read_there from now (Err fault) so_far.same_form so_far.same_bytes (after_fault now (scope_read now.form now.bytes now.at (length now.bytes)) fault to.at step.next) in
+    let there =
+    read_there from now (Err fault) so_far.same_form so_far.same_bytes
+    (after_fault now (scope_read now.form now.bytes now.at (length now.bytes)) fault to.at step.next) in
     (map scope_seen scopes, so_far.reads (Err fault ∷ []) (stops there))

@@ -1,12 +1,12 @@
 -- What may be wrong where a scope is read.
-use Rattle.std.specs.Prelude.{◌≡◌, ℕ, ◌+◌, ◌-◌, ◌*◌, ◌^◌, ◌⊎◌, pos, ◌-ℤ◌, int_lt, List, [], ◌∷◌, length, drop, slice_index, nat_lt, nat_le, ◌==◌, not, ◌||◌, if◌then◌else◌, Bool, Option, Some, None, Result, Ok, Err}
+use Rattle.std.specs.Prelude.{◌≡◌, ℕ, ◌+◌, ◌-◌, ◌*◌, ◌^◌, ◌⊎◌, pos, ◌-ℤ◌, int_lt, List, [], ◌∷◌, length, drop, slice_index, nat_lt, nat_le, ◌==◌, not, ◌||◌, if◌then◌else◌, Bool, Some, None, Result, Ok, Err}
 use Rattle.std.proofs.Common.{true, false, inl, inr}
 use Rattle.puffin_data.specs.declared.data.form.Form.{Form}
 use Rattle.puffin_data.specs.declared.error.Error.{Error}
 use Rattle.puffin_data.specs.declared.error.Error.TheVariants.{PrematureEnd, InvalidStream, ScopeNeverEnded}
 use Rattle.puffin_data.specs.declared.data.form.Form.TheVariants.{Short, Long}
 use Rattle.puffin_data.specs.Text.Lengths.{length_at, with_second_group}
-use Rattle.puffin_data.specs.Walk.Reading.{FoundScope, reading, sized_reading, unless_fault, text_length_in, found_in, id_in, time_in, size_in, child_begin_in, child_end_in}
+use Rattle.puffin_data.specs.Walk.Reading.{reading, sized_reading, unless_fault, text_length_in, found_in, id_in, time_in, size_in, child_begin_in, child_end_in}
 use Rattle.puffin_data.specs.Walk.{region, IsFault}
 
 -- ---- results that fail only with one of three faults
@@ -33,7 +33,8 @@ invalid fault is = inr (inl (cc))
 unended : {A : Type 0} → HasCause {A = A} (Err ScopeNeverEnded)
 unended fault is = inr (inr (cc))
 
-unless : {A B : Type 0} (result : Result A Error) (after : Result B Error) → HasCause result → HasCause after → HasCause (unless_fault result after)
+unless : {A B : Type 0} (result : Result A Error) (after : Result B Error) → HasCause result → HasCause after
+    → HasCause (unless_fault result after)
 unless (Ok value) after of_result of_after = of_after
 unless (Err fault) after of_result of_after = λ other is. of_result other (cc)
 
@@ -58,7 +59,8 @@ sized_causes form part =
     (either (not (slice_index part (child_end_in form part) == 41)) _ _ invalid
     (either (nat_lt (length part) (child_end_in form part + 9)) _ _ premature
     (either (int_lt (time_in part (child_end_in form part + 1)) (time_in part 5)) _ _ invalid
-    (either (not (int_lt (time_in part (child_end_in form part + 1) -ℤ time_in part 5) (pos (2 ^ 63)))) _ _ invalid (fine (Some (found_in form part)))))))))
+    (either (not (int_lt (time_in part (child_end_in form part + 1) -ℤ time_in part 5) (pos (2 ^ 63)))) _ _ invalid
+    (fine (Some (found_in form part)))))))))
 
 causes : (form : Form) (part : List ℕ) → HasCause (reading form part)
 unfolding reading

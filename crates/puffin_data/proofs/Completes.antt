@@ -13,7 +13,7 @@ use Rattle.puffin_data.specs.Walk.Reading.{FoundScope}
 use Rattle.puffin_data.specs.Walk.{region, IsSoundAt, IsFaultAt, Reaches, here, child, sibling, Sounds, no_more, one_more}
 use Rattle.puffin_data.specs.inner.Walking.{with_scope, WalksTo, ends, goes_on}
 use Rattle.puffin_data.proofs.lemmas.Numbers.{IsBytes, IsBytes-drop, IsBytes-take}
-use Rattle.puffin_data.proofs.Spelled.{spelt}
+use Rattle.puffin_data.proofs.Spelled.{is_spelled}
 use Rattle.puffin_data.proofs.Resuming.{found_places}
 use Rattle.puffin_data.proofs.Regions.{length-region, part_of_region, rest_of_region, empty_region, sound_is_no_fault, nothing_is_no_fault, nothing_is_not_sound, one_sound}
 
@@ -34,27 +34,44 @@ pub record Completed (form : Form) (bytes : List ℕ) (level : ℕ) (old new : W
   pub faultless : (to to_end : ℕ) (fault : Error) → Reaches form bytes begin limit to to_end → IsFaultAt form bytes to to_end fault → ⊥
 
 -- no fault is reached in an empty region
-pub nothing_reached : (form : Form) (bytes : List ℕ) (begin limit to to_end : ℕ) (fault : Error) → region bytes begin limit ≡ [] → Reaches form bytes begin limit to to_end → IsFaultAt form bytes to to_end fault → ⊥
+pub nothing_reached : (form : Form) (bytes : List ℕ) (begin limit to to_end : ℕ) (fault : Error) → region bytes begin limit ≡ []
+    → Reaches form bytes begin limit to to_end → IsFaultAt form bytes to to_end fault → ⊥
 nothing_reached form bytes begin limit to to_end fault none here at = nothing_is_no_fault form (region bytes begin limit) fault none at
-nothing_reached form bytes begin limit to to_end fault none (child {found = found} sound reach) at = nothing_is_not_sound form (region bytes begin limit) found none sound
-nothing_reached form bytes begin limit to to_end fault none (sibling {found = found} sound reach) at = nothing_is_not_sound form (region bytes begin limit) found none sound
+nothing_reached form bytes begin limit to to_end fault none (child {found = found} sound reach) at =
+    nothing_is_not_sound form (region bytes begin limit) found none sound
+nothing_reached form bytes begin limit to to_end fault none (sibling {found = found} sound reach) at =
+    nothing_is_not_sound form (region bytes begin limit) found none sound
 
 -- a fault that is reached from a sound scope's place is reached from its children or from its next sibling
-pub after_sound : (form : Form) (bytes : List ℕ) (begin limit to to_end : ℕ) (found : FoundScope) (fault : Error) → IsSoundAt form bytes begin limit found
-    → (Reaches form bytes (begin + found.child_begin) (begin + found.child_end) to to_end → ⊥) → (Reaches form bytes (begin + found.next_sibling) limit to to_end → ⊥) → Reaches form bytes begin limit to to_end → IsFaultAt form bytes to to_end fault → ⊥
-after_sound form bytes begin limit to to_end found fault sound inner later here at = sound_is_no_fault form (region bytes begin limit) found fault sound at
+pub after_sound : (form : Form) (bytes : List ℕ) (begin limit to to_end : ℕ) (found : FoundScope) (fault : Error)
+    → IsSoundAt form bytes begin limit found
+    → (Reaches form bytes (begin + found.child_begin) (begin + found.child_end) to to_end → ⊥)
+    → (Reaches form bytes (begin + found.next_sibling) limit to to_end → ⊥) → Reaches form bytes begin limit to to_end
+    → IsFaultAt form bytes to to_end fault → ⊥
+after_sound form bytes begin limit to to_end found fault sound inner later here at =
+    sound_is_no_fault form (region bytes begin limit) found fault sound at
 after_sound form bytes begin limit to to_end found fault sound inner later (child {found = again} other reach) at =
-    inner (subst (λ (any : FoundScope). Reaches form bytes (begin + any.child_begin) (begin + any.child_end) to to_end) (one_sound form (region bytes begin limit) again found other sound) reach)
+    inner (subst (λ (any : FoundScope). Reaches form bytes (begin + any.child_begin) (begin + any.child_end) to to_end)
+    (one_sound form (region bytes begin limit) again found other sound) reach)
 after_sound form bytes begin limit to to_end found fault sound inner later (sibling {found = again} other reach) at =
-    later (subst (λ (any : FoundScope). Reaches form bytes (begin + any.next_sibling) limit to to_end) (one_sound form (region bytes begin limit) again found other sound) reach)
+    later (subst (λ (any : FoundScope). Reaches form bytes (begin + any.next_sibling) limit to to_end)
+    (one_sound form (region bytes begin limit) again found other sound) reach)
 
 -- the spelling of a scope with its children and what follows it, from those of the parts
-pub joined : (form : Form) (part inner rest : List ℕ) (span : Span) (size : ℕ) (children others : Forest) → part ≡ begin_bytes form span.id span.start span.text size ++ (inner ++ (end_bytes span.stop ++ rest)) → length inner ≡ size → inner ≡ spelling form children → rest ≡ spelling form others → part ≡ spelling form (node span children others)
+pub joined : (form : Form) (part inner rest : List ℕ) (span : Span) (size : ℕ) (children others : Forest)
+    → part ≡ begin_bytes form span.id span.start span.text size ++ (inner ++ (end_bytes span.stop ++ rest)) → length inner ≡ size
+    → inner ≡ spelling form children → rest ≡ spelling form others → part ≡ spelling form (node span children others)
 joined form part inner rest span size children others whole sized inner_is rest_is =
-    whole ∙ ap (λ (any : ℕ). begin_bytes form span.id span.start span.text any ++ (inner ++ (end_bytes span.stop ++ rest))) (sym sized) ∙ ap (λ (any : List ℕ). begin_bytes form span.id span.start span.text (length any) ++ (any ++ (end_bytes span.stop ++ rest))) inner_is ∙ ap (λ (any : List ℕ). begin_bytes form span.id span.start span.text (length (spelling form children)) ++ (spelling form children ++ (end_bytes span.stop ++ any))) rest_is
+    whole
+    ∙ ap (λ (any : ℕ). begin_bytes form span.id span.start span.text any ++ (inner ++ (end_bytes span.stop ++ rest))) (sym sized)
+    ∙ ap (λ (any : List ℕ). begin_bytes form span.id span.start span.text (length any) ++ (any ++ (end_bytes span.stop ++ rest)))
+    inner_is
+    ∙ ap (λ (any : List ℕ). begin_bytes form span.id span.start span.text (length (spelling form children))
+    ++ (spelling form children ++ (end_bytes span.stop ++ any))) rest_is
 
 -- By induction over how the walk went: the scope that it entered is the node, and its two parts are the forests.
-pub completed : (form : Form) (bytes : List ℕ) (level : ℕ) (old new : Walk) (begin limit : ℕ) → IsBytes bytes → begin ≤ limit → limit ≤ length bytes → WalksTo form bytes level old begin limit (Ok new) → Completed form bytes level old new begin limit
+pub completed : (form : Form) (bytes : List ℕ) (level : ℕ) (old new : Walk) (begin limit : ℕ) → IsBytes bytes → begin ≤ limit
+    → limit ≤ length bytes → WalksTo form bytes level old begin limit (Ok new) → Completed form bytes level old new begin limit
 completed form bytes level old new begin limit fits ordered bounded ends =
     record {
       forest = empty;
@@ -68,22 +85,36 @@ completed form bytes level old new begin limit fits ordered bounded ends =
     }
 completed form bytes level old new begin limit fits ordered bounded (goes_on {inner = between} {found = found} sound inner later) =
     let at = found_places form bytes begin limit found sound ordered bounded in
-    let children = completed form bytes (suc level) (with_scope old (suc level) found.span) between (begin + found.child_begin) (begin + found.child_end) fits (omega (arith, at)) (omega (arith, at)) inner in
+    let children =
+    completed form bytes (suc level) (with_scope old (suc level) found.span) between (begin + found.child_begin)
+    (begin + found.child_end) fits (omega (arith, at)) (omega (arith, at)) inner in
     let others = completed form bytes level between new (begin + found.next_sibling) limit fits (omega (arith, at)) bounded later in
     let part = region bytes begin limit in
-    let spell = spelt form part found (IsBytes-take (limit - begin) (drop begin bytes) (IsBytes-drop begin bytes fits)) sound in
-    let inner_is : take (found.child_end - found.child_begin) (drop found.child_begin part) ≡ region bytes (begin + found.child_begin) (begin + found.child_end) = sym (part_of_region bytes begin limit found.child_begin found.child_end at.inside (omega (arith, at))) in
-    let rest_is : drop found.next_sibling part ≡ region bytes (begin + found.next_sibling) limit = sym (rest_of_region bytes begin limit found.next_sibling (omega (arith, at))) in
-    let size : length (take (found.child_end - found.child_begin) (drop found.child_begin part)) ≡ found.child_end - found.child_begin = ap length inner_is ∙ length-region bytes (begin + found.child_begin) (begin + found.child_end) (omega (arith, at)) ∙ omega arith in
+    let spell = is_spelled form part found (IsBytes-take (limit - begin) (drop begin bytes) (IsBytes-drop begin bytes fits)) sound in
+    let inner_is : take (found.child_end - found.child_begin) (drop found.child_begin part)
+    ≡ region bytes (begin + found.child_begin) (begin + found.child_end) =
+    sym (part_of_region bytes begin limit found.child_begin found.child_end at.inside (omega (arith, at))) in
+    let rest_is : drop found.next_sibling part ≡ region bytes (begin + found.next_sibling) limit =
+    sym (rest_of_region bytes begin limit found.next_sibling (omega (arith, at))) in
+    let size : length (take (found.child_end - found.child_begin) (drop found.child_begin part))
+    ≡ found.child_end - found.child_begin =
+    ap length inner_is
+    ∙ length-region bytes (begin + found.child_begin) (begin + found.child_end) (omega (arith, at))
+    ∙ omega arith in
     record {
       forest = node found.span children.forest others.forest;
       fits = (spell.fits, children.fits, others.fits);
-      spelled = joined form part _ _ found.span (found.child_end - found.child_begin) children.forest others.forest spell.whole size (inner_is ∙ children.spelled) (rest_is ∙ others.spelled);
+      spelled =
+          joined form part _ _ found.span (found.child_end - found.child_begin) children.forest others.forest spell.whole size
+          (inner_is ∙ children.spelled) (rest_is ∙ others.spelled);
       numbers = others.numbers ∙ ap (λ (one : Walk). tallied level one others.forest) children.numbers;
       places = begin ∷ (children.places ++ others.places);
       sounds = one_more sound children.sounds others.sounds;
       number_of_places = omega (arith, length-append children.places others.places, children.number_of_places, others.number_of_places);
-      faultless = λ to to_end fault reach faulty. after_sound form bytes begin limit to to_end found fault sound (λ way. children.faultless to to_end fault way faulty) (λ way. others.faultless to to_end fault way faulty) reach faulty;
+      faultless =
+          λ to to_end fault reach faulty.
+          after_sound form bytes begin limit to to_end found fault sound (λ way. children.faultless to to_end fault way faulty)
+          (λ way. others.faultless to to_end fault way faulty) reach faulty;
     }
 
 -- ---- the numbers are the forest's
@@ -129,16 +160,33 @@ tallies level walk empty in_range = record {
 tallies level walk (node first children others) in_range =
     let with_first = with_scope walk (suc level) first in
     let with_children = tallied (suc level) with_first children in
-    let inner = tallies (suc level) with_first children (record { depth = omega arith; start = least_low walk.range_ns.0 first.start _ in_range.start; stop = greatest_high walk.range_ns.1 first.stop _ in_range.stop }) in
+    let inner =
+    tallies (suc level) with_first children
+    (record {
+      depth = omega arith;
+      start = least_low walk.range_ns.0 first.start _ in_range.start;
+      stop = greatest_high
+          walk.range_ns.1 first.stop _ in_range.stop;
+    }) in
     let children_in_range : IsOpen level with_children = record {
       depth = omega (arith, inner.depth);
-      start = subst (λ (any : ℤ). any ≤ℤ pos (2 ^ 63 - 1)) (sym inner.start) (least_low _ _ _ (least_low walk.range_ns.0 first.start _ in_range.start));
-      stop = subst (λ (any : ℤ). negsuc (2 ^ 63 - 1) ≤ℤ any) (sym inner.stop) (greatest_high _ _ _ (greatest_high walk.range_ns.1 first.stop _ in_range.stop));
+      start =
+          subst (λ (any : ℤ). any ≤ℤ pos (2 ^ 63 - 1)) (sym inner.start)
+          (least_low _ _ _ (least_low walk.range_ns.0 first.start _ in_range.start));
+      stop =
+          subst (λ (any : ℤ). negsuc (2 ^ 63 - 1) ≤ℤ any) (sym inner.stop)
+          (greatest_high _ _ _ (greatest_high walk.range_ns.1 first.stop _ in_range.stop));
     } in
     let later = tallies level with_children others children_in_range in
     record {
       num_scopes = omega (arith, inner.num_scopes, later.num_scopes);
       depth = omega (arith, inner.depth, later.depth);
-      start = later.start ∙ ap (λ (any : ℤ). int_min any (least_start others)) inner.start ∙ least_assoc walk.range_ns.0 first.start (least_start children) (least_start others);
-      stop = later.stop ∙ ap (λ (any : ℤ). int_max any (greatest_stop others)) inner.stop ∙ greatest_assoc walk.range_ns.1 first.stop (greatest_stop children) (greatest_stop others);
+      start =
+          later.start
+          ∙ ap (λ (any : ℤ). int_min any (least_start others)) inner.start
+          ∙ least_assoc walk.range_ns.0 first.start (least_start children) (least_start others);
+      stop =
+          later.stop
+          ∙ ap (λ (any : ℤ). int_max any (greatest_stop others)) inner.stop
+          ∙ greatest_assoc walk.range_ns.1 first.stop (greatest_stop children) (greatest_stop others);
     }

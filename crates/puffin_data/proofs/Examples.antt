@@ -1,5 +1,5 @@
 -- Worked examples, computed. Bytes stand as the characters of a text: `(` for 0x28, `\u{c8}` for 0xc8.
-use Rattle.std.proofs.Common.{◌≡◌, ℕ, ◌+◌, ◌<◌, ◌≤◌, List, [], ◌∷◌, ◌++◌, length, pos, negsuc, refl, sym, ap, ◌∙◌, arith, None, Some, Ok, Err, inl, inr}
+use Rattle.std.proofs.Common.{◌≡◌, ℕ, ◌+◌, ◌<◌, List, [], ◌∷◌, ◌++◌, length, pos, negsuc, refl, sym, ap, ◌∙◌, arith, None, Some, Ok, Err, inl, inr}
 use Rattle.std.specs.Prelude.{codes}
 use Rattle.std.proofs.lemmas.Int.{ints}
 use Rattle.std.proofs.lemmas.List.Elements.{All-from_recursion}
@@ -115,7 +115,13 @@ start_of_three = refl
 stop_of_three : greatest_stop three ≡ pos 400
 stop_of_three = refl
 
-read_three : reading Short three_bytes ≡ Ok (Some (record { span = record { id = 1; start = pos 100; stop = pos 400; text = codes "data_top" }; child_begin = 30; child_end = 118; next_sibling = 127 }))
+read_three :
+    reading Short three_bytes ≡ Ok (Some (record {
+      span = record { id = 1; start = pos 100; stop = pos 400; text = codes "data_top" };
+      child_begin = 30;
+      child_end = 118;
+      next_sibling = 127;
+    }))
 unfolding reading found_in id_in time_in size_in length_at sized_reading
 read_three = refl
 
@@ -179,15 +185,19 @@ left_over = record {
   end = 36;
   reached = sibling longer_sound here;
   stands = inr (omega arith, longer_rest, refl);
-  least = λ q f other r at. by_parts Short longer 0 36 q f 35 one_found other longer_sound (λ x. absurd (no_children q f other x at)) (λ x. (between Short longer 35 36 q f (omega arith) (omega arith) x).low) r at;
+  least =
+      λ q f other r at. by_parts Short longer 0 36 q f 35 one_found other longer_sound (λ x. absurd (no_children q f other x at))
+      (λ x. (between Short longer 35 36 q f (omega arith) (omega arith) x).low) r at;
 }
 
 -- A scope of 62 bytes, whose children end at 53. The child in it claims to end at 75.
 abbrev past : List ℕ
-past = codes "(\u{1}\0\0\0\0\0\0\0\0\0\0\0\0\u{1f}\0\0\0\0\0\0\0(\u{2}\0\0\0\0\0\0\0\0\0\0\0\0\u{1f}\0\0\0\0\0\0\0)\0\0\0\0\0\0\0\0)\0\0\0\0\0\0\0\0"
+past =
+    codes "(\u{1}\0\0\0\0\0\0\0\0\0\0\0\0\u{1f}\0\0\0\0\0\0\0(\u{2}\0\0\0\0\0\0\0\0\0\0\0\0\u{1f}\0\0\0\0\0\0\0)\0\0\0\0\0\0\0\0)\0\0\0\0\0\0\0\0"
 
 abbrev past_found : FoundScope
-past_found = record { span = record { id = 1; start = pos 0; stop = pos 0; text = [] }; child_begin = 22; child_end = 53; next_sibling = 62 }
+past_found =
+    record { span = record { id = 1; start = pos 0; stop = pos 0; text = [] }; child_begin = 22; child_end = 53; next_sibling = 62 }
 
 past_size : length past ≡ 62
 past_size = refl
@@ -205,7 +215,10 @@ past_first = record {
   end = 53;
   reached = child past_sound here;
   stands = inl past_child;
-  least = λ q f other r at. by_parts Short past 0 62 q f 22 past_found other past_sound (λ x. (between Short past 22 53 q f (omega arith) (omega arith) x).low) (λ x. omega (arith, (between Short past 62 62 q f (omega arith) (omega arith) x).low)) r at;
+  least =
+      λ q f other r at. by_parts Short past 0 62 q f 22 past_found other past_sound
+      (λ x. (between Short past 22 53 q f (omega arith) (omega arith) x).low)
+      (λ x. omega (arith, (between Short past 62 62 q f (omega arith) (omega arith) x).low)) r at;
 }
 
 -- the two tries are the sound scope at 0 and the reading at 22
@@ -214,6 +227,9 @@ past_refused = record {
   place = 22;
   first = past_first;
   sounds = 0 ∷ [];
-  are_sounds = one_more {found = past_found} {inner = []} {later = []} past_sound (no_more (λ s sound. ok_is_not_err (Some s) PrematureEnd (sym sound ∙ past_child))) (no_more (λ s sound. nothing_is_not_sound Short [] s refl sound));
+  are_sounds =
+      one_more {found = past_found} {inner = []} {later = []} past_sound
+      (no_more (λ s sound. ok_is_not_err (Some s) PrematureEnd (sym sound ∙ past_child)))
+      (no_more (λ s sound. nothing_is_not_sound Short [] s refl sound));
   number = refl;
 }

@@ -11,7 +11,8 @@ use Rattle.puffin_data.specs.Walk.Reading.{FoundScope, reading, sized_reading, u
 use Rattle.puffin_data.proofs.lemmas.Lengths.{used_least}
 
 -- a test that was not taken
-not_taken : {A : Type 0} (test : Bool) (one other value : A) → cond test one other ≡ value → (one ≡ value → ⊥) → (test ≡ false) × (other ≡ value)
+not_taken : {A : Type 0} (test : Bool) (one other value : A) → cond test one other ≡ value → (one ≡ value → ⊥)
+    → (test ≡ false) × (other ≡ value)
 not_taken true one other value is not_one = absurd (not_one is)
 not_taken false one other value is not_one = (refl, is)
 
@@ -44,11 +45,13 @@ below m n test = grind arith
 duration_fits : (start stop : ℤ) → int_lt stop start ≡ false → int_lt (stop -ℤ start) (pos (2 ^ 63)) ≡ true → FitsSigned w64 (stop -ℤ start)
 duration_fits start stop ordered short = grind (arith, ints)
 
-unless_ok : {A B : Type 0} (first : Result A Error) (after : Result B Error) (value : B) → unless_fault first after ≡ Ok value → after ≡ Ok value
+unless_ok : {A B : Type 0} (first : Result A Error) (after : Result B Error) (value : B) → unless_fault first after ≡ Ok value
+    → after ≡ Ok value
 unless_ok (Ok read) after value is = is
 unless_ok (Err fault) after value is = absurd cc
 
-read_length : {B : Type 0} (first : Result (ℕ × ℕ) Error) (after : Result B Error) (value : B) → unless_fault first after ≡ Ok value → first ≡ Ok (length_or_none first)
+read_length : {B : Type 0} (first : Result (ℕ × ℕ) Error) (after : Result B Error) (value : B) → unless_fault first after ≡ Ok value
+    → first ≡ Ok (length_or_none first)
 read_length (Ok read) after value is = refl
 read_length (Err fault) after value is = absurd cc
 
@@ -109,4 +112,5 @@ pub places : (form : Form) (region : List ℕ) (found : FoundScope) → reading 
 unfolding found_in
 places form region found read =
     let passed = passes form region found read in
-    subst (λ (any : FoundScope). Places (length region) any) passed.is (record { head = omega (arith, used_least form (drop 13 region)); inside = omega arith; next = refl; fits = passed.whole })
+    subst (λ (any : FoundScope). Places (length region) any) passed.is
+    (record { head = omega (arith, used_least form (drop 13 region)); inside = omega arith; next = refl; fits = passed.whole })

@@ -10,29 +10,64 @@ use Rattle.puffin_data.proofs.Again.{found_at, reads_again}
 use Rattle.puffin_data.proofs.Regions.{length-region, part_of_region, rest_of_region, whole_region, nothing_is_not_sound, one_sound}
 use Rattle.puffin_data.proofs.Resuming.{found_places}
 use Rattle.puffin_data.proofs.lemmas.Unique.{long, children_at, rest_at}
-use Rattle.puffin_data.proofs.Visited.{same_scopes}
+use Rattle.puffin_data.proofs.WalkedOver.{same_scopes}
 
 -- by induction over the forest: its first scope is read again, so it is the first that is seen
-placed_of : (form : Form) (forest : Forest) (bytes : List ℕ) (around : List Span) (begin end : ℕ) (placed : List PlacedScope) → IsForest form forest → begin ≤ end → end ≤ length bytes → length bytes < 2 ^ 64 → region bytes begin end ≡ spelling form forest → Sees form bytes around begin end placed → scopes_of placed ≡ nested_in around forest
+placed_of : (form : Form) (forest : Forest) (bytes : List ℕ) (around : List Span) (begin end : ℕ) (placed : List PlacedScope)
+    → IsForest form forest → begin ≤ end → end ≤ length bytes → length bytes < 2 ^ 64 → region bytes begin end ≡ spelling form forest
+    → Sees form bytes around begin end placed → scopes_of placed ≡ nested_in around forest
 placed_of form empty bytes around begin end placed fits ordered bounded small is (no_scope none) = refl
-placed_of form empty bytes around begin end placed fits ordered bounded small is (one_scope {found = found} sound sees_inner sees_later) = absurd (nothing_is_not_sound form (region bytes begin end) found is sound)
+placed_of form empty bytes around begin end placed fits ordered bounded small is
+    (one_scope {found = found} sound sees_inner sees_later) =
+    absurd (nothing_is_not_sound form (region bytes begin end) found is sound)
 placed_of form (node span children others) bytes around begin end placed fits ordered bounded small is (no_scope none) =
-    absurd (none (found_at form span (length (spelling form children))) (ap (reading form) is ∙ reads_again form span (spelling form children) (spelling form others) fits.0 (omega (arith, long form span (spelling form children) (spelling form others), ap length is, length-region bytes begin end bounded))))
-placed_of form (node span children others) bytes around begin end placed fits ordered bounded small is (one_scope {found = found} {inner = inner_placed} {later = later_placed} sound sees_inner sees_later) =
+    absurd (none (found_at form span (length (spelling form children)))
+    (ap (reading form) is ∙ reads_again form span (spelling form children) (spelling form others) fits.0
+    (omega (
+      arith,
+      long form span (spelling form children) (spelling form others),
+      ap length is,
+      length-region bytes begin end bounded,
+    ))))
+placed_of form (node span children others) bytes around begin end placed fits ordered bounded small is
+    (one_scope {found = found} {inner = inner_placed} {later = later_placed} sound sees_inner sees_later) =
     let spelled = found_at form span (length (spelling form children)) in
-    let reads = ap (reading form) is ∙ reads_again form span (spelling form children) (spelling form others) fits.0 (omega (arith, long form span (spelling form children) (spelling form others), ap length is, length-region bytes begin end bounded)) in
+    let reads =
+    ap (reading form) is
+    ∙ reads_again form span (spelling form children) (spelling form others) fits.0
+    (omega (
+      arith,
+      long form span (spelling form children) (spelling form others),
+      ap length is,
+      length-region bytes begin end bounded,
+    )) in
     let places = found_places form bytes begin end spelled reads ordered bounded in
     let same : found ≡ spelled = one_sound form (region bytes begin end) found spelled sound reads in
     let size : spelled.child_end - spelled.child_begin ≡ length (spelling form children) = omega arith in
     let inner : region bytes (begin + spelled.child_begin) (begin + spelled.child_end) ≡ spelling form children =
-    part_of_region bytes begin end spelled.child_begin spelled.child_end places.inside (omega (arith, places)) ∙ ap (λ (any : ℕ). take any (drop spelled.child_begin (region bytes begin end))) size ∙ ap (λ (any : List ℕ). take (length (spelling form children)) (drop spelled.child_begin any)) is ∙ children_at form span (spelling form children) (spelling form others) in
+    part_of_region bytes begin end spelled.child_begin spelled.child_end places.inside (omega (arith, places))
+    ∙ ap (λ (any : ℕ). take any (drop spelled.child_begin (region bytes begin end))) size
+    ∙ ap (λ (any : List ℕ). take (length (spelling form children)) (drop spelled.child_begin any)) is
+    ∙ children_at form span (spelling form children) (spelling form others) in
     let later : region bytes (begin + spelled.next_sibling) end ≡ spelling form others =
-    rest_of_region bytes begin end spelled.next_sibling (omega (arith, places)) ∙ ap (drop spelled.next_sibling) is ∙ rest_at form span (spelling form children) (spelling form others) in
-    let of_inner = placed_of form children bytes (around ++ (span ∷ [])) (begin + spelled.child_begin) (begin + spelled.child_end) inner_placed fits.1 (omega arith) (omega (arith, places)) small inner (subst (λ (any : FoundScope). Sees form bytes (around ++ (any.span ∷ [])) (begin + any.child_begin) (begin + any.child_end) inner_placed) same sees_inner) in
-    let of_later = placed_of form others bytes around (begin + spelled.next_sibling) end later_placed fits.2 (omega (arith, places)) bounded small later (subst (λ (any : FoundScope). Sees form bytes around (begin + any.next_sibling) end later_placed) same sees_later) in
-    same_scopes (record { place = begin; scope = record { around = around; span = found.span } }) inner_placed later_placed _ _ of_inner of_later
-    ∙ ap (λ (any : FoundScope). let first : ScopeInContext = record { around = around; span = any.span } in first ∷ (nested_in (around ++ (span ∷ [])) children ++ nested_in around others)) same
+    rest_of_region bytes begin end spelled.next_sibling (omega (arith, places))
+    ∙ ap (drop spelled.next_sibling) is
+    ∙ rest_at form span (spelling form children) (spelling form others) in
+    let of_inner =
+    placed_of form children bytes (around ++ (span ∷ [])) (begin + spelled.child_begin) (begin + spelled.child_end) inner_placed
+    fits.1 (omega arith) (omega (arith, places)) small inner
+    (subst (λ (any : FoundScope). Sees form bytes (around ++ (any.span ∷ [])) (begin + any.child_begin) (begin + any.child_end)
+    inner_placed) same sees_inner) in
+    let of_later =
+    placed_of form others bytes around (begin + spelled.next_sibling) end later_placed fits.2 (omega (arith, places)) bounded
+    small later (subst (λ (any : FoundScope). Sees form bytes around (begin + any.next_sibling) end later_placed) same sees_later) in
+    same_scopes (record { place = begin; scope = record { around = around; span = found.span } }) inner_placed later_placed _ _
+    of_inner of_later
+    ∙ ap (λ (any : FoundScope). let first : ScopeInContext = record { around = around; span = any.span } in first
+    ∷ (nested_in (around ++ (span ∷ [])) children ++ nested_in around others)) same
 
-pub scopes_of_spelling : (form : Form) (bytes : List ℕ) (forest : Forest) (placed : List PlacedScope) → length bytes < 2 ^ 64 → Spells form bytes forest → Sees form bytes [] 0 (length bytes) placed → scopes_of placed ≡ nested_in [] forest
+pub scopes_of_spelling : (form : Form) (bytes : List ℕ) (forest : Forest) (placed : List PlacedScope) → length bytes < 2 ^ 64
+    → Spells form bytes forest → Sees form bytes [] 0 (length bytes) placed → scopes_of placed ≡ nested_in [] forest
 scopes_of_spelling form bytes forest placed small spelled sees =
-    placed_of form forest bytes [] 0 (length bytes) placed spelled.fits (omega arith) (omega arith) small (whole_region bytes ∙ spelled.whole) sees
+    placed_of form forest bytes [] 0 (length bytes) placed spelled.fits (omega arith) (omega arith) small
+    (whole_region bytes ∙ spelled.whole) sees

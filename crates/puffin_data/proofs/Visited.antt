@@ -1,115 +1,27 @@
 -- What a walk with a visitor comes to, by induction over how it went.
-use Rattle.std.proofs.Common.{◌≡◌, ℕ, ◌+◌, ◌-◌, ◌≤◌, List, [], ◌∷◌, ◌++◌, length, take, drop, map, refl, sym, ap, subst, ◌∙◌, arith, append_assoc, get_or, cond, eqb}
-use Rattle.std.proofs.lemmas.List.{length-append, get_or-take, get_or-drop, map-append}
+use Rattle.std.proofs.Common.{◌≡◌, ℕ, ◌+◌, ◌-◌, ◌≤◌, List, [], ◌∷◌, ◌++◌, length, drop, map, refl, sym, ap, subst, ◌∙◌, arith, append_assoc, get_or, cond, eqb}
+use Rattle.std.proofs.lemmas.List.{length-append, get_or-take, get_or-drop}
 use Rattle.puffin_data.specs.declared.data.form.Form.{Form}
 use Rattle.puffin_data.specs.declared.error.Error.{Error}
-use Rattle.puffin_data.specs.Forest.{Span, Forest, empty, node, IsForest}
-use Rattle.puffin_data.specs.Forest.Spelling.{spelling}
-use Rattle.puffin_data.specs.Walk.Reading.{FoundScope}
+use Rattle.puffin_data.specs.Forest.{Span}
 use Rattle.puffin_data.specs.Walk.{region, IsFaultAt, Reaches, here, child, sibling}
 use Rattle.puffin_data.specs.inner.Walking.{tries_in}
-use Rattle.puffin_data.specs.Walk.PlacedScopes.{ScopeInContext, nested_in, PlacedScope, Sees, no_scope, one_scope, scopes_of, before}
+use Rattle.puffin_data.specs.Walk.PlacedScopes.{ScopeInContext, PlacedScope, Sees, no_scope, one_scope, scopes_of, before}
 use Rattle.puffin_data.specs.Walk.Visitor.{Entering, Refusing, TakesAll, StopsAtFault, StopsAtRefusal}
-use Rattle.puffin_data.proofs.lemmas.Numbers.{IsBytes, IsBytes-drop, IsBytes-take}
-use Rattle.puffin_data.proofs.Spelled.{spelt}
+use Rattle.puffin_data.proofs.lemmas.Numbers.{IsBytes}
 use Rattle.puffin_data.proofs.Resuming.{found_places}
-use Rattle.puffin_data.proofs.Regions.{length-region, part_of_region, rest_of_region, empty_region, whole_region, sound_is_no_fault, nothing_is_not_sound, between}
-use Rattle.puffin_data.proofs.Completes.{nothing_reached, after_sound, joined}
+use Rattle.puffin_data.proofs.Regions.{whole_region, sound_is_no_fault, between}
 use Rattle.puffin_data.proofs.FirstFaults.{by_parts}
 use Rattle.puffin_data.proofs.ScopesSeen.{placed_in, before-first, all_before, none_before}
 use Rattle.puffin_data.proofs.RangesTold.{fault_inside}
 use Rattle.puffin_data.proofs.Going.{over_all, at_fault, at_refusal, Goes, ends, meets_fault, is_refused, stops_within, goes_on}
-
--- laws of what a visitor takes, and of what it keeps of open scopes
-pub record VisitorLaws {V W : Type 0} (takes : V → List ScopeInContext → V → Type 0)
-    (stands_for : V → W → List Span → Type 0) : Type 0 where
-  pub none : (state : V) → takes state [] state
-  pub more : (old mid new : V) (first second : List ScopeInContext) → takes old first mid → takes mid second new →
-      takes old (first ++ second) new
-  pub still : (old new : V) (scopes : List ScopeInContext) (within : W) (around : List Span) → takes old scopes new →
-      stands_for old within around → stands_for new within around
-
--- a scope that was found, at its place within others
-abbrev placed_at : ℕ → List Span → FoundScope → PlacedScope
-placed_at place around found = record { place = place; scope = record { around = around; span = found.span } }
-
--- the scopes of a placed one, of those in it and of those after it
-scopes_split : (first : PlacedScope) (inner later : List PlacedScope) → scopes_of (first ∷ (inner ++ later)) ≡ (first.scope ∷ []) ++ (scopes_of inner ++ scopes_of later)
-scopes_split first inner later = ap (λ (any : List ScopeInContext). first.scope ∷ any) (map-append (λ (one : PlacedScope). one.scope) inner later)
-
--- ---- a walk over its whole region
-
--- the region spells a forest, and the visitor has taken its scopes
-pub record Done (form : Form) {V : Type 0} (takes : V → List ScopeInContext → V → Type 0) (bytes : List ℕ) (around : List Span) (old new : V) (tries_before tries_after begin limit : ℕ) : Type 0 where
-  pub forest : Forest
-  pub fits : IsForest form forest
-  pub spelled : region bytes begin limit ≡ spelling form forest
-  pub placed : List PlacedScope
-  pub sees : Sees form bytes around begin limit placed
-  pub same : scopes_of placed ≡ nested_in around forest
-  pub taken : takes old (scopes_of placed) new
-  pub tries : tries_after ≡ tries_before + length placed
-  pub faultless : (to to_end : ℕ) (fault : Error) → Reaches form bytes begin limit to to_end → IsFaultAt form bytes to to_end fault → ⊥
-
--- the scopes of a placed one and of those behind it, from those of its parts
-pub same_scopes : (first : PlacedScope) (inner later : List PlacedScope) (inner_scopes later_scopes : List ScopeInContext) → scopes_of inner ≡ inner_scopes → scopes_of later ≡ later_scopes → scopes_of (first ∷ (inner ++ later)) ≡ first.scope ∷ (inner_scopes ++ later_scopes)
-same_scopes first inner later inner_scopes later_scopes inner_is later_is =
-    scopes_split first inner later ∙ ap (λ (any : List ScopeInContext). first.scope ∷ (any ++ scopes_of later)) inner_is ∙ ap (λ (any : List ScopeInContext). first.scope ∷ (inner_scopes ++ any)) later_is
-
--- what is taken of a scope, its children and its later siblings is taken of all of them
-taken_more : {V : Type 0} {W : Type 0} {takes : V → List ScopeInContext → V → Type 0} {stands_for : V → W → List Span → Type 0} (laws : VisitorLaws takes stands_for) (old visited left new : V) (scope : PlacedScope) (inner later : List PlacedScope)
-    → takes old (scope.scope ∷ []) visited → takes visited (scopes_of inner) left → takes left (scopes_of later) new → takes old (scopes_of (scope ∷ (inner ++ later))) new
-taken_more {V = V} {takes = takes} laws old visited left new scope inner later takes_scope takes_inner takes_later =
-    subst (λ (any : List ScopeInContext). takes old any new) (sym (scopes_split scope inner later))
-    (laws.more old visited new (scope.scope ∷ []) (scopes_of inner ++ scopes_of later) takes_scope (laws.more visited left new (scopes_of inner) (scopes_of later) takes_inner takes_later))
-
--- what is kept around a scope still stands after it
-still_after : {V : Type 0} {W : Type 0} {takes : V → List ScopeInContext → V → Type 0} {stands_for : V → W → List Span → Type 0} (laws : VisitorLaws takes stands_for) (old visited left : V) (scope : ScopeInContext) (inner : List ScopeInContext) (within : W) (around : List Span)
-    → takes old (scope ∷ []) visited → takes visited inner left → stands_for old within around → stands_for left within around
-still_after laws old visited left scope inner within around takes_scope takes_inner stands = laws.still visited left inner within around takes_inner (laws.still old visited (scope ∷ []) within around takes_scope stands)
-
--- A walk over its whole region. The scope that goes on gives the node, its children and its siblings the two forests.
-pub done : (form : Form) → {V W : Type 0} {takes : V → List ScopeInContext → V → Type 0} (refuses : V → ScopeInContext → Error → Type 0) {stands_for : V → W → List Span → Type 0} (laws : VisitorLaws takes stands_for) (bytes : List ℕ) (around : List Span) (within : W) (old new : V) (tries_before tries_after begin limit : ℕ)
-    → IsBytes bytes → begin ≤ limit → limit ≤ length bytes → stands_for old within around → Goes form (Entering takes stands_for) (Refusing refuses stands_for) bytes within old tries_before begin limit (over_all new tries_after) → Done form takes bytes around old new tries_before tries_after begin limit
-done form refuses laws bytes around within old new tries_before tries_after begin limit fits ordered bounded stands ends =
-    record {
-      forest = empty;
-      fits = tt;
-      spelled = empty_region bytes begin;
-      placed = [];
-      sees = no_scope (λ found sound. nothing_is_not_sound form (region bytes begin begin) found (empty_region bytes begin) sound);
-      same = refl;
-      taken = laws.none old;
-      tries = omega arith;
-      faultless = λ to to_end fault reach faulty. nothing_reached form bytes begin begin to to_end fault (empty_region bytes begin) reach faulty;
-    }
-done form refuses laws bytes around within old new tries_before tries_after begin limit fits ordered bounded stands (stops_within sound enter early inner) = absurd early
-done form refuses laws bytes around within old new tries_before tries_after begin limit fits ordered bounded stands (goes_on {kept = kept} {visited = visited} {left = left} {later_tries = tries_between} {found = found} sound enter inner later) =
-    let places = found_places form bytes begin limit found sound ordered bounded in
-    let first = enter around stands in
-    let children = done form refuses laws bytes (around ++ (found.span ∷ [])) kept visited left (tries_before + 1) tries_between (begin + found.child_begin) (begin + found.child_end) fits (omega (arith, places)) (omega (arith, places)) first.1 inner in
-    let others = done form refuses laws bytes around within left new tries_between tries_after (begin + found.next_sibling) limit fits (omega (arith, places)) bounded (still_after laws old visited left _ _ within around first.0 children.taken stands) later in
-    let part = region bytes begin limit in
-    let spell = spelt form part found (IsBytes-take (limit - begin) (drop begin bytes) (IsBytes-drop begin bytes fits)) sound in
-    let inner_is : take (found.child_end - found.child_begin) (drop found.child_begin part) ≡ region bytes (begin + found.child_begin) (begin + found.child_end) = sym (part_of_region bytes begin limit found.child_begin found.child_end places.inside (omega (arith, places))) in
-    let rest_is : drop found.next_sibling part ≡ region bytes (begin + found.next_sibling) limit = sym (rest_of_region bytes begin limit found.next_sibling (omega (arith, places))) in
-    let size : length (take (found.child_end - found.child_begin) (drop found.child_begin part)) ≡ found.child_end - found.child_begin = ap length inner_is ∙ length-region bytes (begin + found.child_begin) (begin + found.child_end) (omega (arith, places)) ∙ omega arith in
-    record {
-      forest = node found.span children.forest others.forest;
-      fits = (spell.fits, children.fits, others.fits);
-      spelled = joined form part _ _ found.span (found.child_end - found.child_begin) children.forest others.forest spell.whole size (inner_is ∙ children.spelled) (rest_is ∙ others.spelled);
-      placed = placed_at begin around found ∷ (children.placed ++ others.placed);
-      sees = one_scope sound children.sees others.sees;
-      same = same_scopes (placed_at begin around found) children.placed others.placed _ _ children.same others.same;
-      taken = taken_more laws old visited left new (placed_at begin around found) children.placed others.placed first.0 children.taken others.taken;
-      tries = omega (arith, length-append children.placed others.placed, children.tries, others.tries);
-      faultless = λ to to_end fault reach faulty. after_sound form bytes begin limit to to_end found fault sound (λ way. children.faultless to to_end fault way faulty) (λ way. others.faultless to to_end fault way faulty) reach faulty;
-    }
+use Rattle.puffin_data.proofs.WalkedOver.{VisitorLaws, placed_at, taken_more, still_after, walks_over}
 
 -- ---- a walk that meets a fault
 
 -- the first fault of the region is at `place`, and the visitor has taken the scopes before it
-pub record Meets (form : Form) {V : Type 0} (takes : V → List ScopeInContext → V → Type 0) (bytes : List ℕ) (around : List Span) (old new : V) (tries_before tries_after begin limit place : ℕ) (fault : Error) : Type 0 where
+pub record Meets (form : Form) {V : Type 0} (takes : V → List ScopeInContext → V → Type 0) (bytes : List ℕ) (around : List Span)
+    (old new : V) (tries_before tries_after begin limit place : ℕ) (fault : Error) : Type 0 where
   pub end : ℕ
   pub reached : Reaches form bytes begin limit place end
   pub stands : IsFaultAt form bytes place end fault
@@ -120,9 +32,15 @@ pub record Meets (form : Form) {V : Type 0} (takes : V → List ScopeInContext �
   pub tries : tries_after ≡ tries_before + length (before place placed) + tries_in (region bytes place end)
 
 -- A walk that meets a fault. If it is within a scope, nothing behind that scope is before it; if it is behind, all in the scope is.
-pub meets : (form : Form) → {V W : Type 0} {takes : V → List ScopeInContext → V → Type 0} (refuses : V → ScopeInContext → Error → Type 0) {stands_for : V → W → List Span → Type 0} (laws : VisitorLaws takes stands_for) (bytes : List ℕ) (around : List Span) (within : W) (old new : V) (tries_before tries_after begin limit place : ℕ) (fault : Error)
-    → IsBytes bytes → begin ≤ limit → limit ≤ length bytes → stands_for old within around → Goes form (Entering takes stands_for) (Refusing refuses stands_for) bytes within old tries_before begin limit (at_fault new place fault tries_after) → Meets form takes bytes around old new tries_before tries_after begin limit place fault
-meets form refuses laws bytes around within old new tries_before tries_after begin limit place fault fits ordered bounded stands (meets_fault faulty_here) =
+pub meets : (form : Form)
+    → {V W : Type 0} {takes : V → List ScopeInContext → V → Type 0} (refuses : V → ScopeInContext → Error → Type 0)
+    {stands_for : V → W → List Span → Type 0} (laws : VisitorLaws takes stands_for) (bytes : List ℕ) (around : List Span) (within : W)
+    (old new : V) (tries_before tries_after begin limit place : ℕ) (fault : Error)
+    → IsBytes bytes → begin ≤ limit → limit ≤ length bytes → stands_for old within around
+    → Goes form (Entering takes stands_for) (Refusing refuses stands_for) bytes within old tries_before begin limit
+    (at_fault new place fault tries_after) → Meets form takes bytes around old new tries_before tries_after begin limit place fault
+meets form refuses laws bytes around within old new tries_before tries_after begin limit place fault fits ordered bounded stands
+    (meets_fault faulty_here) =
     record {
       end = limit;
       reached = here;
@@ -133,47 +51,83 @@ meets form refuses laws bytes around within old new tries_before tries_after beg
       taken = laws.none old;
       tries = omega arith;
     }
-meets form {takes = takes} refuses laws bytes around within old new tries_before tries_after begin limit place fault fits ordered bounded stands (stops_within {kept = kept} {visited = visited} {found = found} sound enter early inner) =
+meets form {takes = takes} refuses laws bytes around within old new tries_before tries_after begin limit place fault fits ordered
+    bounded stands (stops_within {kept = kept} {visited = visited} {found = found} sound enter early inner) =
     let places = found_places form bytes begin limit found sound ordered bounded in
     let first = enter around stands in
-    let children = meets form refuses laws bytes (around ++ (found.span ∷ [])) kept visited new (tries_before + 1) tries_after (begin + found.child_begin) (begin + found.child_end) place fault fits (omega (arith, places)) (omega (arith, places)) first.1 inner in
-    let inside = between form bytes (begin + found.child_begin) (begin + found.child_end) place children.end (omega (arith, places)) (omega (arith, places)) children.reached in
+    let children =
+    meets form refuses laws bytes (around ++ (found.span ∷ [])) kept visited new (tries_before + 1) tries_after
+    (begin + found.child_begin) (begin + found.child_end) place fault fits (omega (arith, places)) (omega (arith, places)) first.1
+    inner in
+    let inside =
+    between form bytes (begin + found.child_begin) (begin + found.child_end) place children.end (omega (arith, places))
+    (omega (arith, places)) children.reached in
     let others = placed_in form bytes around (begin + found.next_sibling) limit (omega (arith, places)) bounded in
-    let none = none_before form bytes around (begin + found.next_sibling) limit place others.0 (omega (arith, places)) bounded (omega (arith, places, inside)) others.1 in
-    let split = before-first place (placed_at begin around found) children.placed others.0 (omega (arith, places, inside)) ∙ ap (λ (any : List PlacedScope). placed_at begin around found ∷ (before place children.placed ++ any)) none in
+    let none =
+    none_before form bytes around (begin + found.next_sibling) limit place others.0 (omega (arith, places)) bounded
+    (omega (arith, places, inside)) others.1 in
+    let split =
+    before-first place (placed_at begin around found) children.placed others.0 (omega (arith, places, inside))
+    ∙ ap (λ (any : List PlacedScope). placed_at begin around found ∷ (before place children.placed ++ any)) none in
     record {
       end = children.end;
       reached = child sound children.reached;
       stands = children.stands;
-      least = λ to to_end other reach faulty. by_parts form bytes begin limit to to_end place found other sound (λ way. children.least to to_end other way faulty) (λ way. let lies = between form bytes (begin + found.next_sibling) limit to to_end (omega (arith, places)) bounded way in omega (arith, places, inside, lies)) reach faulty;
+      least =
+          λ to to_end other reach faulty.
+          by_parts form bytes begin limit to to_end place found other sound (λ way. children.least to to_end other way faulty)
+          (λ way. let lies = between form bytes (begin + found.next_sibling) limit to to_end (omega (arith, places)) bounded
+          way in omega (arith, places, inside, lies)) reach faulty;
       placed = placed_at begin around found ∷ (children.placed ++ others.0);
       sees = one_scope sound children.sees others.1;
-      taken = subst (λ (any : List PlacedScope). takes old (scopes_of any) new) (sym split) (taken_more laws old visited new new (placed_at begin around found) (before place children.placed) [] first.0 children.taken (laws.none new));
+      taken =
+          subst (λ (any : List PlacedScope). takes old (scopes_of any) new) (sym split)
+          (taken_more laws old visited new new (placed_at begin around found) (before place children.placed) [] first.0 children.taken
+          (laws.none new));
       tries = omega (arith, children.tries, ap length split, length-append (before place children.placed) []);
     }
-meets form {takes = takes} refuses laws bytes around within old new tries_before tries_after begin limit place fault fits ordered bounded stands (goes_on {kept = kept} {visited = visited} {left = left} {later_tries = tries_between} {found = found} sound enter inner later) =
+meets form {takes = takes} refuses laws bytes around within old new tries_before tries_after begin limit place fault fits ordered
+    bounded stands (goes_on {kept = kept} {visited = visited} {left = left} {later_tries = tries_between} {found = found} sound enter
+    inner later) =
     let places = found_places form bytes begin limit found sound ordered bounded in
     let first = enter around stands in
-    let children = done form refuses laws bytes (around ++ (found.span ∷ [])) kept visited left (tries_before + 1) tries_between (begin + found.child_begin) (begin + found.child_end) fits (omega (arith, places)) (omega (arith, places)) first.1 inner in
-    let others = meets form refuses laws bytes around within left new tries_between tries_after (begin + found.next_sibling) limit place fault fits (omega (arith, places)) bounded (still_after laws old visited left _ _ within around first.0 children.taken stands) later in
+    let children =
+    walks_over form refuses laws bytes (around ++ (found.span ∷ [])) kept visited left (tries_before + 1) tries_between
+    (begin + found.child_begin) (begin + found.child_end) fits (omega (arith, places)) (omega (arith, places)) first.1 inner in
+    let others =
+    meets form refuses laws bytes around within left new tries_between tries_after (begin + found.next_sibling) limit place fault
+    fits (omega (arith, places)) bounded (still_after laws old visited left _ _ within around first.0 children.taken stands) later in
     let after = between form bytes (begin + found.next_sibling) limit place others.end (omega (arith, places)) bounded others.reached in
-    let all = all_before form bytes (around ++ (found.span ∷ [])) (begin + found.child_begin) (begin + found.child_end) place children.placed (omega (arith, places)) (omega (arith, places)) (omega (arith, places, after)) children.sees in
-    let split = before-first place (placed_at begin around found) children.placed others.placed (omega (arith, places, after)) ∙ ap (λ (any : List PlacedScope). placed_at begin around found ∷ (any ++ before place others.placed)) all in
+    let all =
+    all_before form bytes (around ++ (found.span ∷ [])) (begin + found.child_begin) (begin + found.child_end) place
+    children.placed (omega (arith, places)) (omega (arith, places)) (omega (arith, places, after)) children.sees in
+    let split =
+    before-first place (placed_at begin around found) children.placed others.placed (omega (arith, places, after))
+    ∙ ap (λ (any : List PlacedScope). placed_at begin around found ∷ (any ++ before place others.placed)) all in
     record {
       end = others.end;
       reached = sibling sound others.reached;
       stands = others.stands;
-      least = λ to to_end other reach faulty. by_parts form bytes begin limit to to_end place found other sound (λ way. absurd (children.faultless to to_end other way faulty)) (λ way. others.least to to_end other way faulty) reach faulty;
+      least =
+          λ to to_end other reach faulty.
+          by_parts form bytes begin limit to to_end place found other sound
+          (λ way. absurd (children.faultless to to_end other way faulty)) (λ way. others.least to to_end other way faulty) reach
+          faulty;
       placed = placed_at begin around found ∷ (children.placed ++ others.placed);
       sees = one_scope sound children.sees others.sees;
-      taken = subst (λ (any : List PlacedScope). takes old (scopes_of any) new) (sym split) (taken_more laws old visited left new (placed_at begin around found) children.placed (before place others.placed) first.0 children.taken others.taken);
+      taken =
+          subst (λ (any : List PlacedScope). takes old (scopes_of any) new) (sym split)
+          (taken_more laws old visited left new (placed_at begin around found) children.placed (before place others.placed) first.0
+          children.taken others.taken);
       tries = omega (arith, children.tries, others.tries, ap length split, length-append children.placed (before place others.placed));
     }
 
 -- ---- a walk that is refused
 
 -- the visitor has taken the scopes before one that it refuses, and no fault is before that one
-pub record Refused (form : Form) {V : Type 0} (takes : V → List ScopeInContext → V → Type 0) (refuses : V → ScopeInContext → Error → Type 0) (bytes : List ℕ) (around : List Span) (old : V) (tries_before tries_after begin limit : ℕ) (cause : Error) : Type 0 where
+pub record MeetsRefusal (form : Form) {V : Type 0} (takes : V → List ScopeInContext → V → Type 0)
+    (refuses : V → ScopeInContext → Error → Type 0) (bytes : List ℕ) (around : List Span) (old : V)
+    (tries_before tries_after begin limit : ℕ) (cause : Error) : Type 0 where
   pub earlier : List PlacedScope
   pub met : PlacedScope
   pub later : List PlacedScope
@@ -181,23 +135,34 @@ pub record Refused (form : Form) {V : Type 0} (takes : V → List ScopeInContext
   pub to : V
   pub taken : takes old (scopes_of earlier) to
   pub refused : refuses to met.scope cause
-  pub first : (to to_end : ℕ) (fault : Error) → Reaches form bytes begin limit to to_end → IsFaultAt form bytes to to_end fault → met.place ≤ to
+  pub first : (to to_end : ℕ) (fault : Error) → Reaches form bytes begin limit to to_end → IsFaultAt form bytes to to_end fault
+      → met.place ≤ to
   pub low : begin ≤ met.place
   pub high : met.place ≤ limit
   pub tries : tries_after ≡ tries_before + (length earlier + 1)
 
-regroup_inner : (outer met : PlacedScope) (earlier later rest : List PlacedScope) → outer ∷ ((earlier ++ (met ∷ later)) ++ rest) ≡ (outer ∷ earlier) ++ (met ∷ (later ++ rest))
+regroup_inner : (outer met : PlacedScope) (earlier later rest : List PlacedScope)
+    → outer ∷ ((earlier ++ (met ∷ later)) ++ rest) ≡ (outer ∷ earlier) ++ (met ∷ (later ++ rest))
 regroup_inner outer met earlier later rest = ap (λ (any : List PlacedScope). outer ∷ any) (append_assoc earlier (met ∷ later) rest)
 
-regroup_later : (outer met : PlacedScope) (inner earlier later : List PlacedScope) → outer ∷ (inner ++ (earlier ++ (met ∷ later))) ≡ (outer ∷ (inner ++ earlier)) ++ (met ∷ later)
+regroup_later : (outer met : PlacedScope) (inner earlier later : List PlacedScope)
+    → outer ∷ (inner ++ (earlier ++ (met ∷ later))) ≡ (outer ∷ (inner ++ earlier)) ++ (met ∷ later)
 regroup_later outer met inner earlier later = ap (λ (any : List PlacedScope). outer ∷ any) (sym (append_assoc inner earlier (met ∷ later)))
 
 -- A walk that ends at a refused scope. Placed scopes behind that one are there too, though no walk went over them.
-pub refused_at : (form : Form) → {V W : Type 0} {takes : V → List ScopeInContext → V → Type 0} (refuses : V → ScopeInContext → Error → Type 0) {stands_for : V → W → List Span → Type 0} (laws : VisitorLaws takes stands_for) (bytes : List ℕ) (around : List Span) (within : W) (old : V) (tries_before tries_after begin limit place : ℕ) (cause : Error)
-    → IsBytes bytes → begin ≤ limit → limit ≤ length bytes → stands_for old within around → Goes form (Entering takes stands_for) (Refusing refuses stands_for) bytes within old tries_before begin limit (at_refusal place cause tries_after) → Refused form takes refuses bytes around old tries_before tries_after begin limit cause
-refused_at form refuses laws bytes around within old tries_before tries_after begin limit place cause fits ordered bounded stands (is_refused {found = found} sound refused) =
+pub refused_at : (form : Form)
+    → {V W : Type 0} {takes : V → List ScopeInContext → V → Type 0} (refuses : V → ScopeInContext → Error → Type 0)
+    {stands_for : V → W → List Span → Type 0} (laws : VisitorLaws takes stands_for) (bytes : List ℕ) (around : List Span) (within : W)
+    (old : V) (tries_before tries_after begin limit place : ℕ) (cause : Error)
+    → IsBytes bytes → begin ≤ limit → limit ≤ length bytes → stands_for old within around
+    → Goes form (Entering takes stands_for) (Refusing refuses stands_for) bytes within old tries_before begin limit
+    (at_refusal place cause tries_after) → MeetsRefusal form takes refuses bytes around old tries_before tries_after begin limit cause
+refused_at form refuses laws bytes around within old tries_before tries_after begin limit place cause fits ordered bounded stands
+    (is_refused {found = found} sound refused) =
     let places = found_places form bytes begin limit found sound ordered bounded in
-    let children = placed_in form bytes (around ++ (found.span ∷ [])) (begin + found.child_begin) (begin + found.child_end) (omega (arith, places)) (omega (arith, places)) in
+    let children =
+    placed_in form bytes (around ++ (found.span ∷ [])) (begin + found.child_begin) (begin + found.child_end)
+    (omega (arith, places)) (omega (arith, places)) in
     let others = placed_in form bytes around (begin + found.next_sibling) limit (omega (arith, places)) bounded in
     record {
       earlier = [];
@@ -212,10 +177,14 @@ refused_at form refuses laws bytes around within old tries_before tries_after be
       high = ordered;
       tries = omega arith;
     }
-refused_at form {takes = takes} refuses laws bytes around within old tries_before tries_after begin limit place cause fits ordered bounded stands (stops_within {kept = kept} {visited = visited} {found = found} sound enter early inner) =
+refused_at form {takes = takes} refuses laws bytes around within old tries_before tries_after begin limit place cause fits ordered
+    bounded stands (stops_within {kept = kept} {visited = visited} {found = found} sound enter early inner) =
     let places = found_places form bytes begin limit found sound ordered bounded in
     let first = enter around stands in
-    let children = refused_at form refuses laws bytes (around ++ (found.span ∷ [])) kept visited (tries_before + 1) tries_after (begin + found.child_begin) (begin + found.child_end) place cause fits (omega (arith, places)) (omega (arith, places)) first.1 inner in
+    let children =
+    refused_at form refuses laws bytes (around ++ (found.span ∷ [])) kept visited (tries_before + 1) tries_after
+    (begin + found.child_begin) (begin + found.child_end) place cause fits (omega (arith, places)) (omega (arith, places)) first.1
+    inner in
     let others = placed_in form bytes around (begin + found.next_sibling) limit (omega (arith, places)) bounded in
     let children_low = children.low in
     let children_high = children.high in
@@ -223,31 +192,56 @@ refused_at form {takes = takes} refuses laws bytes around within old tries_befor
       earlier = placed_at begin around found ∷ children.earlier;
       met = children.met;
       later = children.later ++ others.0;
-      sees = subst (λ (any : List PlacedScope). Sees form bytes around begin limit any) (regroup_inner (placed_at begin around found) children.met children.earlier children.later others.0) (one_scope sound children.sees others.1);
+      sees =
+          subst (λ (any : List PlacedScope). Sees form bytes around begin limit any)
+          (regroup_inner (placed_at begin around found) children.met children.earlier children.later others.0)
+          (one_scope sound children.sees others.1);
       to = children.to;
-      taken = laws.more old visited children.to (record { around = around; span = found.span } ∷ []) (scopes_of children.earlier) first.0 children.taken;
+      taken =
+          laws.more old visited children.to (record { around = around; span = found.span } ∷ []) (scopes_of children.earlier) first.0
+          children.taken;
       refused = children.refused;
-      first = λ to to_end fault reach faulty. by_parts form bytes begin limit to to_end children.met.place found fault sound (λ way. children.first to to_end fault way faulty) (λ way. let lies = between form bytes (begin + found.next_sibling) limit to to_end (omega (arith, places)) bounded way in omega (arith, places, children_high, lies)) reach faulty;
+      first =
+          λ to to_end fault reach faulty.
+          by_parts form bytes begin limit to to_end children.met.place found fault sound
+          (λ way. children.first to to_end fault way faulty)
+          (λ way. let lies = between form bytes (begin + found.next_sibling) limit to to_end (omega (arith, places)) bounded
+          way in omega (arith, places, children_high, lies)) reach faulty;
       low = omega (arith, places, children_low);
       high = omega (arith, places, children_high);
       tries = omega (arith, children.tries);
     }
-refused_at form {takes = takes} refuses laws bytes around within old tries_before tries_after begin limit place cause fits ordered bounded stands (goes_on {kept = kept} {visited = visited} {left = left} {later_tries = tries_between} {found = found} sound enter inner later) =
+refused_at form {takes = takes} refuses laws bytes around within old tries_before tries_after begin limit place cause fits ordered
+    bounded stands (goes_on {kept = kept} {visited = visited} {left = left} {later_tries = tries_between} {found = found} sound enter
+    inner later) =
     let places = found_places form bytes begin limit found sound ordered bounded in
     let first = enter around stands in
-    let children = done form refuses laws bytes (around ++ (found.span ∷ [])) kept visited left (tries_before + 1) tries_between (begin + found.child_begin) (begin + found.child_end) fits (omega (arith, places)) (omega (arith, places)) first.1 inner in
-    let others = refused_at form refuses laws bytes around within left tries_between tries_after (begin + found.next_sibling) limit place cause fits (omega (arith, places)) bounded (still_after laws old visited left _ _ within around first.0 children.taken stands) later in
+    let children =
+    walks_over form refuses laws bytes (around ++ (found.span ∷ [])) kept visited left (tries_before + 1) tries_between
+    (begin + found.child_begin) (begin + found.child_end) fits (omega (arith, places)) (omega (arith, places)) first.1 inner in
+    let others =
+    refused_at form refuses laws bytes around within left tries_between tries_after (begin + found.next_sibling) limit place cause
+    fits (omega (arith, places)) bounded (still_after laws old visited left _ _ within around first.0 children.taken stands) later in
     let others_low = others.low in
     let others_high = others.high in
     record {
       earlier = placed_at begin around found ∷ (children.placed ++ others.earlier);
       met = others.met;
       later = others.later;
-      sees = subst (λ (any : List PlacedScope). Sees form bytes around begin limit any) (regroup_later (placed_at begin around found) others.met children.placed others.earlier others.later) (one_scope sound children.sees others.sees);
+      sees =
+          subst (λ (any : List PlacedScope). Sees form bytes around begin limit any)
+          (regroup_later (placed_at begin around found) others.met children.placed others.earlier others.later)
+          (one_scope sound children.sees others.sees);
       to = others.to;
-      taken = taken_more laws old visited left others.to (placed_at begin around found) children.placed others.earlier first.0 children.taken others.taken;
+      taken =
+          taken_more laws old visited left others.to (placed_at begin around found) children.placed others.earlier first.0
+          children.taken others.taken;
       refused = others.refused;
-      first = λ to to_end fault reach faulty. by_parts form bytes begin limit to to_end others.met.place found fault sound (λ way. absurd (children.faultless to to_end fault way faulty)) (λ way. others.first to to_end fault way faulty) reach faulty;
+      first =
+          λ to to_end fault reach faulty.
+          by_parts form bytes begin limit to to_end others.met.place found fault sound
+          (λ way. absurd (children.faultless to to_end fault way faulty)) (λ way. others.first to to_end fault way faulty) reach
+          faulty;
       low = omega (arith, places, others_low);
       high = omega (arith, others_high);
       tries = omega (arith, children.tries, others.tries, length-append children.placed others.earlier);
@@ -255,10 +249,15 @@ refused_at form {takes = takes} refuses laws bytes around within old tries_befor
 
 -- ---- the same of all bytes, as the specs say it
 
-pub all_taken : (form : Form) → {V W : Type 0} {takes : V → List ScopeInContext → V → Type 0} (refuses : V → ScopeInContext → Error → Type 0) {stands_for : V → W → List Span → Type 0} (laws : VisitorLaws takes stands_for) (bytes : List ℕ) (within : W) (old new : V) (tries : ℕ)
-    → IsBytes bytes → stands_for old within [] → Goes form (Entering takes stands_for) (Refusing refuses stands_for) bytes within old 0 0 (length bytes) (over_all new tries) → TakesAll form takes old new bytes tries
+pub all_taken : (form : Form)
+    → {V W : Type 0} {takes : V → List ScopeInContext → V → Type 0} (refuses : V → ScopeInContext → Error → Type 0)
+    {stands_for : V → W → List Span → Type 0} (laws : VisitorLaws takes stands_for) (bytes : List ℕ) (within : W) (old new : V)
+    (tries : ℕ)
+    → IsBytes bytes → stands_for old within []
+    → Goes form (Entering takes stands_for) (Refusing refuses stands_for) bytes within old 0 0 (length bytes) (over_all new tries)
+    → TakesAll form takes old new bytes tries
 all_taken form {takes = takes} refuses laws bytes within old new tries fits stands goes =
-    let all = done form refuses laws bytes [] within old new 0 tries 0 (length bytes) fits (omega arith) (omega arith) stands goes in
+    let all = walks_over form refuses laws bytes [] within old new 0 tries 0 (length bytes) fits (omega arith) (omega arith) stands goes in
     record {
       forest = all.forest;
       spells = record { whole = sym (whole_region bytes) ∙ all.spelled; fits = all.fits };
@@ -270,14 +269,25 @@ all_taken form {takes = takes} refuses laws bytes within old new tries fits stan
     map_length f [] = refl
     map_length f (one ∷ any) = let e = map_length f any in omega arith
 
-pub stops_at_fault : (form : Form) → {V W : Type 0} {takes : V → List ScopeInContext → V → Type 0} (refuses : V → ScopeInContext → Error → Type 0) {stands_for : V → W → List Span → Type 0} (laws : VisitorLaws takes stands_for) (bytes : List ℕ) (within : W) (old new : V) (tries place : ℕ) (fault : Error)
-    → IsBytes bytes → stands_for old within [] → Goes form (Entering takes stands_for) (Refusing refuses stands_for) bytes within old 0 0 (length bytes) (at_fault new place fault tries) → StopsAtFault form takes old new bytes tries fault
+pub stops_at_fault : (form : Form)
+    → {V W : Type 0} {takes : V → List ScopeInContext → V → Type 0} (refuses : V → ScopeInContext → Error → Type 0)
+    {stands_for : V → W → List Span → Type 0} (laws : VisitorLaws takes stands_for) (bytes : List ℕ) (within : W) (old new : V)
+    (tries place : ℕ) (fault : Error)
+    → IsBytes bytes → stands_for old within []
+    → Goes form (Entering takes stands_for) (Refusing refuses stands_for) bytes within old 0 0 (length bytes)
+    (at_fault new place fault tries) → StopsAtFault form takes old new bytes tries fault
 stops_at_fault form refuses laws bytes within old new tries place fault fits stands goes =
-    let met = meets form refuses laws bytes [] within old new 0 tries 0 (length bytes) place fault fits (omega arith) (omega arith) stands goes in
+    let met =
+    meets form refuses laws bytes [] within old new 0 tries 0 (length bytes) place fault fits (omega arith) (omega arith) stands
+    goes in
     let lies = between form bytes 0 (length bytes) place met.end (omega arith) (omega arith) met.reached in
     let inside = fault_inside form bytes place met.end fault lies.middle met.stands in
-    let first : get_or (region bytes place met.end) 0 0 ≡ get_or bytes place 0 = get_or-take (met.end - place) (drop place bytes) 0 0 (omega (arith, inside)) ∙ get_or-drop place bytes 0 0 ∙ ap (λ (any : ℕ). get_or bytes any 0) (omega arith) in
-    let last : tries_in (region bytes place met.end) ≡ cond {A = ℕ} (eqb (get_or bytes place 0) 40) 1 0 = ap (λ (byte : ℕ). cond (eqb byte 40) 1 0) first in
+    let first : get_or (region bytes place met.end) 0 0 ≡ get_or bytes place 0 =
+    get_or-take (met.end - place) (drop place bytes) 0 0 (omega (arith, inside))
+    ∙ get_or-drop place bytes 0 0
+    ∙ ap (λ (any : ℕ). get_or bytes any 0) (omega arith) in
+    let last : tries_in (region bytes place met.end) ≡ cond {A = ℕ} (eqb (get_or bytes place 0) 40) 1 0 =
+    ap (λ (byte : ℕ). cond (eqb byte 40) 1 0) first in
     record {
       place = place;
       first = record { end = met.end; reached = met.reached; stands = met.stands; least = met.least };
@@ -287,10 +297,17 @@ stops_at_fault form refuses laws bytes within old new tries place fault fits sta
       tries = omega (arith, met.tries, last);
     }
 
-pub stops_at_refusal : (form : Form) → {V W : Type 0} {takes : V → List ScopeInContext → V → Type 0} (refuses : V → ScopeInContext → Error → Type 0) {stands_for : V → W → List Span → Type 0} (laws : VisitorLaws takes stands_for) (bytes : List ℕ) (within : W) (old : V) (tries place : ℕ) (cause : Error)
-    → IsBytes bytes → stands_for old within [] → Goes form (Entering takes stands_for) (Refusing refuses stands_for) bytes within old 0 0 (length bytes) (at_refusal place cause tries) → StopsAtRefusal form takes refuses old bytes tries cause
+pub stops_at_refusal : (form : Form)
+    → {V W : Type 0} {takes : V → List ScopeInContext → V → Type 0} (refuses : V → ScopeInContext → Error → Type 0)
+    {stands_for : V → W → List Span → Type 0} (laws : VisitorLaws takes stands_for) (bytes : List ℕ) (within : W) (old : V)
+    (tries place : ℕ) (cause : Error)
+    → IsBytes bytes → stands_for old within []
+    → Goes form (Entering takes stands_for) (Refusing refuses stands_for) bytes within old 0 0 (length bytes)
+    (at_refusal place cause tries) → StopsAtRefusal form takes refuses old bytes tries cause
 stops_at_refusal form refuses laws bytes within old tries place cause fits stands goes =
-    let met = refused_at form refuses laws bytes [] within old 0 tries 0 (length bytes) place cause fits (omega arith) (omega arith) stands goes in
+    let met =
+    refused_at form refuses laws bytes [] within old 0 tries 0 (length bytes) place cause fits (omega arith) (omega arith) stands
+    goes in
     record {
       earlier = met.earlier;
       met = met.met;

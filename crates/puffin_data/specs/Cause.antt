@@ -51,7 +51,7 @@ abbrev pub file_error_of : Error → FileError
 file_error_of error.Memory = file.Memory
 file_error_of cause = file.Refused cause
 
--- the number and the name of a file error, without what it holds
+-- the number of a file error: 1 for the first variant, and so on
 abbrev pub file_error_number : FileError → ℕ
 file_error_number file.Io = 1
 file_error_number file.NoMagic = 2
@@ -68,6 +68,7 @@ file_error_number file.PartTooLong = 12
 file_error_number (file.Refused cause) = 13
 file_error_number file.Memory = 14
 
+-- the name of a file error, without what it holds
 abbrev pub file_error_name : FileError → List ℕ
 file_error_name file.Io = codes "Io"
 file_error_name file.NoMagic = codes "NoMagic"

@@ -17,7 +17,8 @@ pub record Span : Type 0 where
   pub stop : ℤ
   pub text : List ℕ
 
--- Scopes one after the other, each with its children: no scope, or a first scope, the forest of its children, and the scopes that follow it.
+-- Scopes one after the other, each with its children: no scope, or a first scope, the forest of its children, and the scopes that
+-- follow it.
 pub data Forest : Type 0 where
   empty : Forest
   node : (first : Span) → (children : Forest) → (others : Forest) → Forest

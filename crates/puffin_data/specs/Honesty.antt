@@ -24,7 +24,7 @@ pub record StreamFacts : Type 0 where
   pub depth : ℕ
   pub range_ns : ℤ × ℤ
 
--- the facts of an info that owns its bytes, and of one that borrows them
+-- the facts of an info that owns its bytes
 abbrev pub facts_of : StreamInfo → StreamFacts
 facts_of info = record {
   form = info.stream.form;
@@ -34,6 +34,7 @@ facts_of info = record {
   range_ns = info.range_ns;
 }
 
+-- the facts of an info that borrows its bytes
 abbrev pub facts_of_ref : StreamInfoRef → StreamFacts
 facts_of_ref info = record {
   form = info.form;
@@ -50,10 +51,11 @@ pub record AreHonestFacts (facts : StreamFacts) (forest : Forest) : Type 0 where
       (record { num_scopes = facts.num_scopes; depth = facts.depth; range_ns = facts.range_ns })
       forest
 
--- the same of an info that owns its bytes, and of one that borrows them
+-- an info that owns its bytes is honest for this forest
 abbrev pub IsHonest : StreamInfo → Forest → Type 0
 IsHonest info forest = AreHonestFacts (facts_of info) forest
 
+-- an info that borrows its bytes is honest for this forest
 abbrev pub IsHonestRef : StreamInfoRef → Forest → Type 0
 IsHonestRef info forest = AreHonestFacts (facts_of_ref info) forest
 
@@ -61,12 +63,12 @@ IsHonestRef info forest = AreHonestFacts (facts_of_ref info) forest
 abbrev pub IsHonestReport : StreamInfoRef → Type 0
 IsHonestReport info = (forest : Forest) × IsHonestRef info forest
 
--- both have bytes, and their forms differ
+-- two infos can't be joined: both have bytes, and their forms differ
 abbrev pub AreUnlike : StreamFacts → StreamFacts → Type 0
 AreUnlike first second =
     (0 < length first.bytes) × (0 < length second.bytes) × (first.form ≢ second.form)
 
--- the form of both, joined: the second's if the first has no bytes, else the first's
+-- the form of two infos, joined: the second's if the first has no bytes, else the first's
 abbrev pub joined_form : StreamFacts → StreamFacts → Form
 joined_form first second = if length first.bytes == 0 then second.form else first.form
 

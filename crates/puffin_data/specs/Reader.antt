@@ -43,13 +43,14 @@ abbrev pub scope_read : Form → (bytes : List ℕ) → (place : ℕ) → (end :
     Result (Option ReadScope) Error
 scope_read form bytes place end = read_from place (reading form (region bytes place end))
 
--- a reader's place in a stream's bytes
+-- a reader's place `at` in a stream's bytes, and the stream's form
 pub record ReaderState : Type 0 where
   pub form : Form
   pub bytes : List ℕ
   pub at : ℕ
 
--- The same from what is at the reader's place. After a scope it moves to the next sibling, after a fault to the end of all bytes.
+-- What a reader returns next and its place afterwards, from what is at its place. After a scope it moves to the next sibling, after a
+-- fault to the end of all bytes.
 abbrev pub next_after : ReaderState → Result (Option ReadScope) Error →
     Option (Result ReadScope Error) × ℕ
 next_after from (Ok None) = (None, from.at)

@@ -1,12 +1,12 @@
 -- Lengths of texts: a layout is read again, what is read is a layout, and no layout begins another.
-use Rattle.std.proofs.Common.{◌≡◌, ℕ, ◌+◌, ◌-◌, ◌*◌, ◌/◌, ◌%◌, ◌<◌, ◌≤◌, Bool, true, false, cond, List, [], ◌∷◌, ◌++◌, length, take, drop, refl, sym, ap, ◌∙◌, arith, Result, Ok, Err, eqb, ltb, leb, ◌||◌, append_assoc}
-use Rattle.std.proofs.lemmas.List.{append_cancel_left, take_at}
+use Rattle.std.proofs.Common.{◌≡◌, ℕ, ◌+◌, ◌-◌, ◌*◌, ◌/◌, ◌%◌, ◌<◌, ◌≤◌, Bool, true, false, cond, List, [], ◌∷◌, ◌++◌, length, drop, refl, sym, ap, ◌∙◌, arith, Result, Ok, Err, eqb, ltb, leb, ◌||◌}
+use Rattle.std.proofs.lemmas.List.{append_cancel_left}
 use Rattle.std.specs.Prelude.{nat_le, ◌==◌}
 use Rattle.puffin_data.specs.declared.error.Error.{Error}
 use Rattle.puffin_data.specs.declared.error.Error.TheVariants.{PrematureEnd, InvalidStream}
 use Rattle.puffin_data.specs.declared.data.form.Form.{Form}
 use Rattle.puffin_data.specs.declared.data.form.Form.TheVariants.{Short, Long}
-use Rattle.puffin_data.specs.Text.Lengths.{stored_limit, text_limit, length_layout, text_layout, text_room, length_at, length_or_none, with_second_group}
+use Rattle.puffin_data.specs.Text.Lengths.{stored_limit, text_limit, length_layout, text_room, length_at, length_or_none, with_second_group}
 use Rattle.puffin_data.proofs.lemmas.Numbers.{IsBytes}
 
 abbrev Length : Type 0
@@ -23,7 +23,8 @@ limit_stored Long text short = short
 
 -- ---- a layout is read again
 
-groups_again : (size : ℕ) (rest : List ℕ) (is_one : Bool) → ltb size 128 ≡ is_one → size ≤ 16383 → length_at Long (groups size is_one ++ rest) ≡ Ok (size, length (groups size is_one))
+groups_again : (size : ℕ) (rest : List ℕ) (is_one : Bool) → ltb size 128 ≡ is_one → size ≤ 16383
+    → length_at Long (groups size is_one ++ rest) ≡ Ok (size, length (groups size is_one))
 unfolding length_at
 groups_again size rest true lt fits = rw lt refl
 groups_again size rest false lt fits =
@@ -33,7 +34,8 @@ groups_again size rest false lt fits =
     let sum : 128 + size % 128 - 128 + 128 * (size / 128) ≡ size = omega arith in
     rw (two, some, last, sum) refl
 
-pub length_again : (form : Form) (size : ℕ) (rest : List ℕ) → size ≤ stored_limit form → length_at form (length_layout form size ++ rest) ≡ Ok (size, length (length_layout form size))
+pub length_again : (form : Form) (size : ℕ) (rest : List ℕ) → size ≤ stored_limit form
+    → length_at form (length_layout form size ++ rest) ≡ Ok (size, length (length_layout form size))
 unfolding length_at length_layout
 length_again Short size rest fits = refl
 length_again Long size rest fits = groups_again size rest (ltb size 128) refl fits
@@ -83,7 +85,8 @@ second_least low (high ∷ rest) = wrong_or_two ((high == 0) || nat_le 128 high)
     wrong_or_two true size = omega arith
     wrong_or_two false size = omega arith
 
-first_least : (is_one : Bool) (low : ℕ) (rest : List ℕ) → 1 ≤ (length_or_none (cond is_one (Ok (low, 1)) (with_second_group (low - 128) rest))).1
+first_least : (is_one : Bool) (low : ℕ) (rest : List ℕ)
+    → 1 ≤ (length_or_none (cond is_one (Ok (low, 1)) (with_second_group (low - 128) rest))).1
 first_least true low rest = omega arith
 first_least false low rest = second_least (low - 128) rest
 
@@ -109,7 +112,8 @@ same_number size other used other_used same = ap (λ (any : Length). (length_or_
 same_used : (size other used other_used : ℕ) → ◌≡◌ {A = Length} (Ok (size, used)) (Ok (other, other_used)) → used ≡ other_used
 same_used size other used other_used same = ap (λ (any : Length). (length_or_none any).1) same
 
-one_byte : (low size used : ℕ) (rest : List ℕ) → low < 256 → ◌≡◌ {A = Length} (Ok (low, 1)) (Ok (size, used)) → IsLength Short (low ∷ rest) size used
+one_byte : (low size used : ℕ) (rest : List ℕ) → low < 256 → ◌≡◌ {A = Length} (Ok (low, 1)) (Ok (size, used))
+    → IsLength Short (low ∷ rest) size used
 unfolding length_layout
 one_byte low size used rest fits is =
     let size_is = same_number low size 1 used is in
@@ -120,7 +124,8 @@ one_byte low size used rest fits is =
       size = sym used_is;
     }
 
-one_group_read : (low size used : ℕ) (rest : List ℕ) → ltb low 128 ≡ true → ◌≡◌ {A = Length} (Ok (low, 1)) (Ok (size, used)) → IsLength Long (low ∷ rest) size used
+one_group_read : (low size used : ℕ) (rest : List ℕ) → ltb low 128 ≡ true → ◌≡◌ {A = Length} (Ok (low, 1)) (Ok (size, used))
+    → IsLength Long (low ∷ rest) size used
 unfolding length_layout
 one_group_read low size used rest fits_one is =
     let size_is = same_number low size 1 used is in
@@ -132,7 +137,8 @@ one_group_read low size used rest fits_one is =
       size = rw small (sym used_is);
     }
 
-two_groups : (low high size used : ℕ) (rest : List ℕ) → low < 256 → ltb low 128 ≡ false → eqb high 0 ≡ false → leb 128 high ≡ false → ◌≡◌ {A = Length} (Ok (low - 128 + 128 * high, 2)) (Ok (size, used)) → IsLength Long (low ∷ high ∷ rest) size used
+two_groups : (low high size used : ℕ) (rest : List ℕ) → low < 256 → ltb low 128 ≡ false → eqb high 0 ≡ false → leb 128 high ≡ false
+    → ◌≡◌ {A = Length} (Ok (low - 128 + 128 * high, 2)) (Ok (size, used)) → IsLength Long (low ∷ high ∷ rest) size used
 unfolding length_layout
 two_groups low high size used rest fits not_one not_zero is_last is =
     let size_is = same_number (low - 128 + 128 * high) size 2 used is in
@@ -141,26 +147,36 @@ two_groups low high size used rest fits not_one not_zero is_last is =
     let low_is : low ≡ 128 + size % 128 = grind arith in
     let high_is : high ≡ size / 128 = grind arith in
     record {
-      spelled = rw great (ap (λ (any : ℕ). any ∷ high ∷ rest) low_is ∙ ap (λ (any : ℕ). (128 + size % 128) ∷ any ∷ rest) high_is ∙ ap (λ (any : ℕ). (128 + size % 128) ∷ (size / 128) ∷ drop any (low ∷ high ∷ rest)) used_is);
+      spelled =
+          rw great (ap (λ (any : ℕ). any ∷ high ∷ rest) low_is ∙ ap (λ (any : ℕ). (128 + size % 128) ∷ any ∷ rest) high_is
+          ∙ ap (λ (any : ℕ). (128 + size % 128) ∷ (size / 128) ∷ drop any (low ∷ high ∷ rest)) used_is);
       fits = grind arith;
       size = rw great (sym used_is);
     }
 
-second_read : (low high size used : ℕ) (rest : List ℕ) (none more : Bool) → eqb high 0 ≡ none → leb 128 high ≡ more → low < 256 → ltb low 128 ≡ false → ◌≡◌ {A = Length} (cond (none || more) (Err InvalidStream) (Ok (low - 128 + 128 * high, 2))) (Ok (size, used)) → IsLength Long (low ∷ high ∷ rest) size used
+second_read : (low high size used : ℕ) (rest : List ℕ) (none more : Bool) → eqb high 0 ≡ none → leb 128 high ≡ more → low < 256
+    → ltb low 128 ≡ false
+    → ◌≡◌ {A = Length} (cond (none || more) (Err InvalidStream) (Ok (low - 128 + 128 * high, 2))) (Ok (size, used))
+    → IsLength Long (low ∷ high ∷ rest) size used
 second_read low high size used rest true more zero_test last_test fits not_one is = absurd (err_is_not InvalidStream size used is)
 second_read low high size used rest false true zero_test last_test fits not_one is = absurd (err_is_not InvalidStream size used is)
-second_read low high size used rest false false zero_test last_test fits not_one is = two_groups low high size used rest fits not_one zero_test last_test is
+second_read low high size used rest false false zero_test last_test fits not_one is =
+    two_groups low high size used rest fits not_one zero_test last_test is
 
-after_first : (low size used : ℕ) (rest : List ℕ) → IsBytes (low ∷ rest) → ltb low 128 ≡ false → with_second_group (low - 128) rest ≡ Ok (size, used) → IsLength Long (low ∷ rest) size used
+after_first : (low size used : ℕ) (rest : List ℕ) → IsBytes (low ∷ rest) → ltb low 128 ≡ false
+    → with_second_group (low - 128) rest ≡ Ok (size, used) → IsLength Long (low ∷ rest) size used
 after_first low size used [] fits not_one is = absurd (err_is_not PrematureEnd size used is)
-after_first low size used (high ∷ rest) fits not_one is = second_read low high size used rest (eqb high 0) (leb 128 high) refl refl (fits 0) not_one is
+after_first low size used (high ∷ rest) fits not_one is =
+    second_read low high size used rest (eqb high 0) (leb 128 high) refl refl (fits 0) not_one is
 
-first_read : (low size used : ℕ) (rest : List ℕ) (is_one : Bool) → ltb low 128 ≡ is_one → IsBytes (low ∷ rest) → cond is_one (Ok (low, 1)) (with_second_group (low - 128) rest) ≡ Ok (size, used) → IsLength Long (low ∷ rest) size used
+first_read : (low size used : ℕ) (rest : List ℕ) (is_one : Bool) → ltb low 128 ≡ is_one → IsBytes (low ∷ rest)
+    → cond is_one (Ok (low, 1)) (with_second_group (low - 128) rest) ≡ Ok (size, used) → IsLength Long (low ∷ rest) size used
 first_read low size used rest true one_test fits is = one_group_read low size used rest one_test is
 first_read low size used rest false one_test fits is = after_first low size used rest fits one_test is
 
 -- by the first byte, and in the long form by the second
-pub length_read : (form : Form) (bytes : List ℕ) (size used : ℕ) → IsBytes bytes → length_at form bytes ≡ Ok (size, used) → IsLength form bytes size used
+pub length_read : (form : Form) (bytes : List ℕ) (size used : ℕ) → IsBytes bytes → length_at form bytes ≡ Ok (size, used)
+    → IsLength form bytes size used
 unfolding length_at
 length_read form [] size used fits is = absurd (err_is_not PrematureEnd size used is)
 length_read Short (low ∷ rest) size used fits is = one_byte low size used rest (fits 0) is
@@ -168,11 +184,17 @@ length_read Long (low ∷ rest) size used fits is = first_read low size used res
 
 -- ---- no layout begins another
 
-pub no_length_begins_another : (form : Form) (size other : ℕ) (rest other_rest : List ℕ) → size ≤ stored_limit form → other ≤ stored_limit form → length_layout form size ++ rest ≡ length_layout form other ++ other_rest → (size ≡ other) × (rest ≡ other_rest)
+pub no_length_begins_another : (form : Form) (size other : ℕ) (rest other_rest : List ℕ) → size ≤ stored_limit form
+    → other ≤ stored_limit form → length_layout form size ++ rest ≡ length_layout form other ++ other_rest
+    → (size ≡ other) × (rest ≡ other_rest)
 no_length_begins_another form size other rest other_rest fits other_fits same_bytes =
-    let same_length = sym (length_again form size rest fits) ∙ (ap (length_at form) same_bytes ∙ length_again form other other_rest other_fits) in
-    let same : size ≡ other = same_number size other _ _ same_length in
-    (same, append_cancel_left (length_layout form size) rest other_rest (same_bytes ∙ ap (λ (any : ℕ). length_layout form any ++ other_rest) (sym same)))
+    let same_length =
+    sym (length_again form size rest fits) ∙ (ap (length_at form) same_bytes ∙ length_again form other other_rest other_fits) in
+    let same : size ≡ other = same_number size other _ _ same_length in (
+      same,
+      append_cancel_left (length_layout form size) rest other_rest
+          (same_bytes ∙ ap (λ (any : ℕ). length_layout form any ++ other_rest) (sym same)),
+    )
 
 -- ---- worked values
 

@@ -23,19 +23,23 @@ le_number_2 bytes = omega arith
 
 bytes_2 : AreBack 2
 bytes_2 bytes long are_bytes =
-    le_bytes_2 (take 2 bytes) (little_number 2 bytes) (omega (arith, length-take 2 bytes)) (IsBytes-take 2 bytes are_bytes) (sym (little_from-take 0 2 2 bytes (omega arith)) ∙ le_number_2 (take 2 bytes))
+    le_bytes_2 (take 2 bytes) (little_number 2 bytes) (omega (arith, length-take 2 bytes)) (IsBytes-take 2 bytes are_bytes)
+    (sym (little_from-take 0 2 2 bytes (omega arith)) ∙ le_number_2 (take 2 bytes))
 
 -- ---- a number of some bytes
 
-wide_again : (width least value : ℕ) (rest : List ℕ) → least ≤ value → value < 256 ^ width → wide_at width least (little_bytes width value ++ rest) ≡ Some (value, rest)
+wide_again : (width least value : ℕ) (rest : List ℕ) → least ≤ value → value < 256 ^ width
+    → wide_at width least (little_bytes width value ++ rest) ≡ Some (value, rest)
 unfolding wide_at
 wide_again width least value rest least_fits most_fits =
     let len : length (little_bytes width value) ≡ width = length-bytes_low_first 0 width value in
-    let long : ltb (length (little_bytes width value ++ rest)) width ≡ false = le-ltb _ _ (omega (arith, length-append (little_bytes width value) rest, len)) in
+    let long : ltb (length (little_bytes width value ++ rest)) width ≡ false =
+    le-ltb _ _ (omega (arith, length-append (little_bytes width value) rest, len)) in
     let back : little_number width (little_bytes width value ++ rest) ≡ value = little_number-reads_back width value rest most_fits in
     rw (long, back, le-ltb value least least_fits, drop_at (little_bytes width value) rest width len) refl
 
-guarded : {A : Type 0} (test : Bool) (option : Option A) (value : A) → cond test None option ≡ Some value → (test ≡ false) × (option ≡ Some value)
+guarded : {A : Type 0} (test : Bool) (option : Option A) (value : A) → cond test None option ≡ Some value
+    → (test ≡ false) × (option ≡ Some value)
 guarded true option value is = absurd cc
 guarded false option value is = (refl, is)
 
@@ -45,11 +49,16 @@ record Wide (width least : ℕ) (bytes : List ℕ) (value : ℕ) (rest : List �
   text : bytes ≡ little_bytes width value ++ rest
 
 -- what is read as a number of some bytes was laid out so, and needs as many
-wide_taken : (width least : ℕ) → AreBack width → (bytes : List ℕ) (value : ℕ) (rest : List ℕ) → IsBytes bytes → wide_at width least bytes ≡ Some (value, rest) → Wide width least bytes value rest
+wide_taken : (width least : ℕ) → AreBack width → (bytes : List ℕ) (value : ℕ) (rest : List ℕ) → IsBytes bytes
+    → wide_at width least bytes ≡ Some (value, rest) → Wide width least bytes value rest
 unfolding wide_at
 wide_taken width least back bytes value rest are_bytes read_is =
-    let long_enough = guarded (ltb (length bytes) width) (cond (ltb (little_number width bytes) least) None (Some (little_number width bytes, drop width bytes))) (value, rest) read_is in
-    let great_enough = guarded (ltb (little_number width bytes) least) (Some (little_number width bytes, drop width bytes)) (value, rest) long_enough.1 in
+    let long_enough =
+    guarded (ltb (length bytes) width)
+    (cond (ltb (little_number width bytes) least) None (Some (little_number width bytes, drop width bytes))) (value, rest) read_is in
+    let great_enough =
+    guarded (ltb (little_number width bytes) least) (Some (little_number width bytes, drop width bytes)) (value, rest)
+    long_enough.1 in
     let parts = some_pair_parts (little_number width bytes) value (drop width bytes) rest great_enough.1 in
     let long : width ≤ length bytes = ltb-false _ _ long_enough.0 in
     let front : little_bytes width value ≡ take width bytes = ap (little_bytes width) (sym parts.0) ∙ back bytes long are_bytes in
@@ -71,7 +80,8 @@ two_is value least_fits most_fits = rw (le-ltb value 251 least_fits, lt-ltb valu
 
 four_is : (value : ℕ) → 2 ^ 16 ≤ value → value < 2 ^ 32 → number value ≡ 252 ∷ little_bytes 4 value
 unfolding number
-four_is value least_fits most_fits = rw (le-ltb value 251 (omega arith), le-ltb value (2 ^ 16) least_fits, lt-ltb value (2 ^ 32) most_fits) refl
+four_is value least_fits most_fits =
+    rw (le-ltb value 251 (omega arith), le-ltb value (2 ^ 16) least_fits, lt-ltb value (2 ^ 32) most_fits) refl
 
 eight_is : (value : ℕ) → 2 ^ 32 ≤ value → number value ≡ 253 ∷ little_bytes 8 value
 unfolding number
@@ -99,15 +109,19 @@ number-again value rest is_long =
     elim (cases_lt value 251) [
       | inl short ↦ ap (λ (any : List ℕ). number_at (any ++ rest)) (short_is value short) ∙ after_short value rest short
       | inr from251 ↦ elim (cases_lt value (2 ^ 16)) [
-        | inl two ↦ ap (λ (any : List ℕ). number_at (any ++ rest)) (two_is value from251 two) ∙ (after_251 (little_bytes 2 value ++ rest) ∙ wide_again 2 251 value rest from251 (omega arith))
+        | inl two ↦ ap (λ (any : List ℕ). number_at (any ++ rest)) (two_is value from251 two)
+            ∙ (after_251 (little_bytes 2 value ++ rest) ∙ wide_again 2 251 value rest from251 (omega arith))
         | inr from16 ↦ elim (cases_lt value (2 ^ 32)) [
-          | inl four ↦ ap (λ (any : List ℕ). number_at (any ++ rest)) (four_is value from16 four) ∙ (after_252 (little_bytes 4 value ++ rest) ∙ wide_again 4 (2 ^ 16) value rest from16 (omega arith))
-          | inr from32 ↦ ap (λ (any : List ℕ). number_at (any ++ rest)) (eight_is value from32) ∙ (after_253 (little_bytes 8 value ++ rest) ∙ wide_again 8 (2 ^ 32) value rest from32 (omega arith))
+          | inl four ↦ ap (λ (any : List ℕ). number_at (any ++ rest)) (four_is value from16 four)
+              ∙ (after_252 (little_bytes 4 value ++ rest) ∙ wide_again 4 (2 ^ 16) value rest from16 (omega arith))
+          | inr from32 ↦ ap (λ (any : List ℕ). number_at (any ++ rest)) (eight_is value from32)
+              ∙ (after_253 (little_bytes 8 value ++ rest) ∙ wide_again 8 (2 ^ 32) value rest from32 (omega arith))
         ]
       ]
     ]
 
-chosen : {A : Type 0} (test : Bool) (one other value : A) → cond test one other ≡ value → ((test ≡ true) × (one ≡ value)) ⊎ ((test ≡ false) × (other ≡ value))
+chosen : {A : Type 0} (test : Bool) (one other value : A) → cond test one other ≡ value
+    → ((test ≡ true) × (one ≡ value)) ⊎ ((test ≡ false) × (other ≡ value))
 chosen true one other value is = inl (refl, is)
 chosen false one other value is = inr (refl, is)
 
@@ -115,34 +129,38 @@ not_any : {A : Type 0} (value : A) → None ≡ Some value → ⊥
 not_any value same = absurd cc
 
 -- the number was laid out so
-Taken : ℕ → List ℕ → ℕ → List ℕ → Type 0
-Taken first tail value rest = (value < 2 ^ 64) × (first ∷ tail ≡ number value ++ rest)
+IsLaidOut : ℕ → List ℕ → ℕ → List ℕ → Type 0
+IsLaidOut first tail value rest = (value < 2 ^ 64) × (first ∷ tail ≡ number value ++ rest)
 
-taken_two : (first : ℕ) (tail : List ℕ) (value : ℕ) (rest : List ℕ) → first ≡ 251 → Wide 2 251 tail value rest → Taken first tail value rest
-unfolding Taken
+taken_two : (first : ℕ) (tail : List ℕ) (value : ℕ) (rest : List ℕ) → first ≡ 251 → Wide 2 251 tail value rest → IsLaidOut first tail value rest
+unfolding IsLaidOut
 taken_two first tail value rest first_is wide =
     let fits : value < 2 ^ 16 = let most = wide.high in omega arith in
     (omega arith, rw (first_is, two_is value wide.low fits) (ap (λ (any : List ℕ). 251 ∷ any) wide.text))
 
-taken_four : (first : ℕ) (tail : List ℕ) (value : ℕ) (rest : List ℕ) → first ≡ 252 → Wide 4 (2 ^ 16) tail value rest → Taken first tail value rest
-unfolding Taken
+taken_four : (first : ℕ) (tail : List ℕ) (value : ℕ) (rest : List ℕ) → first ≡ 252 → Wide 4 (2 ^ 16) tail value rest
+    → IsLaidOut first tail value rest
+unfolding IsLaidOut
 taken_four first tail value rest first_is wide =
     let fits : value < 2 ^ 32 = let most = wide.high in omega arith in
     (omega arith, rw (first_is, four_is value wide.low fits) (ap (λ (any : List ℕ). 252 ∷ any) wide.text))
 
-taken_eight : (first : ℕ) (tail : List ℕ) (value : ℕ) (rest : List ℕ) → first ≡ 253 → Wide 8 (2 ^ 32) tail value rest → Taken first tail value rest
-unfolding Taken
+taken_eight : (first : ℕ) (tail : List ℕ) (value : ℕ) (rest : List ℕ) → first ≡ 253 → Wide 8 (2 ^ 32) tail value rest
+    → IsLaidOut first tail value rest
+unfolding IsLaidOut
 taken_eight first tail value rest first_is wide =
     let fits : value < 2 ^ 64 = let most = wide.high in omega arith in
     (fits, rw (first_is, eight_is value wide.low) (ap (λ (any : List ℕ). 253 ∷ any) wide.text))
 
-taken_short : (first : ℕ) (tail : List ℕ) (value : ℕ) (rest : List ℕ) → first < 251 → (first ≡ value) × (tail ≡ rest) → Taken first tail value rest
-unfolding Taken
+taken_short : (first : ℕ) (tail : List ℕ) (value : ℕ) (rest : List ℕ) → first < 251 → (first ≡ value) × (tail ≡ rest)
+    → IsLaidOut first tail value rest
+unfolding IsLaidOut
 taken_short first tail value rest small same =
     (omega (arith, same.0), rw (← same.0, ← same.1, short_is first small) refl)
 
 -- what is read is a number's layout, by its first byte
-number_taken : (first : ℕ) (tail : List ℕ) (value : ℕ) (rest : List ℕ) → IsBytes tail → number_after first tail ≡ Some (value, rest) → Taken first tail value rest
+number_taken : (first : ℕ) (tail : List ℕ) (value : ℕ) (rest : List ℕ) → IsBytes tail → number_after first tail ≡ Some (value, rest)
+    → IsLaidOut first tail value rest
 unfolding number_after
 number_taken first tail value rest are_bytes read_is =
     let none : Option (ℕ × List ℕ) = None in
@@ -155,17 +173,20 @@ number_taken first tail value rest are_bytes read_is =
       | inr short ↦ elim (chosen (eqb first 251) (wide_at 2 251 tail) from_252 out short.1) [
         | inl two ↦ taken_two first tail value rest (eqb-true _ _ two.0) (wide_taken 2 251 bytes_2 tail value rest are_bytes two.1)
         | inr two ↦ elim (chosen (eqb first 252) (wide_at 4 (2 ^ 16) tail) from_253 out two.1) [
-          | inl four ↦ taken_four first tail value rest (eqb-true _ _ four.0) (wide_taken 4 (2 ^ 16) bytes_4 tail value rest are_bytes four.1)
+          | inl four ↦ taken_four first tail value rest (eqb-true _ _ four.0)
+              (wide_taken 4 (2 ^ 16) bytes_4 tail value rest are_bytes four.1)
           | inr four ↦ elim (chosen (eqb first 253) (wide_at 8 (2 ^ 32) tail) none out four.1) [
-            | inl eight ↦ taken_eight first tail value rest (eqb-true _ _ eight.0) (wide_taken 8 (2 ^ 32) bytes_8 tail value rest are_bytes eight.1)
+            | inl eight ↦ taken_eight first tail value rest (eqb-true _ _ eight.0)
+                (wide_taken 8 (2 ^ 32) bytes_8 tail value rest are_bytes eight.1)
             | inr eight ↦ absurd (not_any (value, rest) eight.1)
           ]
         ]
       ]
     ]
 
-pub number-taken : (bytes : List ℕ) (value : ℕ) (rest : List ℕ) → IsBytes bytes → number_at bytes ≡ Some (value, rest) → IsLong value × (bytes ≡ number value ++ rest)
-unfolding Taken
+pub number-taken : (bytes : List ℕ) (value : ℕ) (rest : List ℕ) → IsBytes bytes → number_at bytes ≡ Some (value, rest)
+    → IsLong value × (bytes ≡ number value ++ rest)
+unfolding IsLaidOut
 number-taken [] value rest are_bytes read_is = absurd cc
 number-taken (first ∷ tail) value rest are_bytes read_is = number_taken first tail value rest (IsBytes-rest first tail are_bytes) read_is
 
@@ -179,7 +200,9 @@ word_reader =
     let reader = checked_reader IsLong number number_at (λ value. ltb value (2 ^ 32)) number_reader in
     record {
       again = λ value rest fits. reader.again value rest (omega arith, lt-ltb value (2 ^ 32) fits);
-      taken = λ bytes value rest are_bytes read_is. let taken = reader.taken bytes value rest are_bytes read_is in (ltb-true _ _ taken.0.1, taken.1);
+      taken =
+          λ bytes value rest are_bytes read_is.
+          let taken = reader.taken bytes value rest are_bytes read_is in (ltb-true _ _ taken.0.1, taken.1);
     }
 
 -- ---- times
@@ -213,7 +236,8 @@ zigzag-forth (negsuc size) =
 pub byte-again : (value : ℕ) (rest : List ℕ) → IsByte value → byte_at (byte value ++ rest) ≡ Some (value, rest)
 byte-again value rest fits = refl
 
-pub byte-taken : (bytes : List ℕ) (value : ℕ) (rest : List ℕ) → IsBytes bytes → byte_at bytes ≡ Some (value, rest) → IsByte value × (bytes ≡ byte value ++ rest)
+pub byte-taken : (bytes : List ℕ) (value : ℕ) (rest : List ℕ) → IsBytes bytes → byte_at bytes ≡ Some (value, rest)
+    → IsByte value × (bytes ≡ byte value ++ rest)
 byte-taken [] value rest are_bytes read_is = absurd cc
 byte-taken (first ∷ tail) value rest are_bytes read_is =
     let parts = some_pair_parts first value tail rest read_is in
@@ -236,7 +260,9 @@ signed_reader =
     let reader = form_reader IsLong number number_at unzigzag zigzag zigzag-back zigzag-forth number_reader in
     record {
       again = λ value rest fits. reader.again value rest (time_is_long value fits);
-      taken = λ bytes value rest are_bytes read_is. let taken = reader.taken bytes value rest are_bytes read_is in (long_is_time value taken.0, taken.1);
+      taken =
+          λ bytes value rest are_bytes read_is.
+          let taken = reader.taken bytes value rest are_bytes read_is in (long_is_time value taken.0, taken.1);
     }
 
 -- ---- flags
@@ -245,10 +271,13 @@ flag-again : (flag_value : Bool) (rest : List ℕ) → IsAny flag_value → flag
 flag-again true rest fits = refl
 flag-again false rest fits = refl
 
-flag-taken : (bytes : List ℕ) (flag_value : Bool) (rest : List ℕ) → IsBytes bytes → flag_at bytes ≡ Some (flag_value, rest) → IsAny flag_value × (bytes ≡ flag flag_value ++ rest)
+flag-taken : (bytes : List ℕ) (flag_value : Bool) (rest : List ℕ) → IsBytes bytes → flag_at bytes ≡ Some (flag_value, rest)
+    → IsAny flag_value × (bytes ≡ flag flag_value ++ rest)
 flag-taken [] flag_value rest are_bytes read_is = absurd cc
-flag-taken (zero ∷ tail) flag_value rest are_bytes read_is = let parts = some_pair_parts false flag_value tail rest read_is in (tt, rw (← parts.0, ← parts.1) refl)
-flag-taken (suc zero ∷ tail) flag_value rest are_bytes read_is = let parts = some_pair_parts true flag_value tail rest read_is in (tt, rw (← parts.0, ← parts.1) refl)
+flag-taken (zero ∷ tail) flag_value rest are_bytes read_is =
+    let parts = some_pair_parts false flag_value tail rest read_is in (tt, rw (← parts.0, ← parts.1) refl)
+flag-taken (suc zero ∷ tail) flag_value rest are_bytes read_is =
+    let parts = some_pair_parts true flag_value tail rest read_is in (tt, rw (← parts.0, ← parts.1) refl)
 flag-taken (suc (suc more) ∷ tail) flag_value rest are_bytes read_is = absurd cc
 
 pub flag_reader : IsReader IsAny flag flag_at
@@ -264,12 +293,15 @@ split-again text rest =
 pub bytes_reader : IsReader IsBlock block bytes_at
 bytes_reader = record {
   again = λ text rest fits.
-      ap bytes_at (append_assoc (number (length text)) text rest) ∙ rw (number-again (length text) (text ++ rest) fits.0) (split-again text rest);
+      ap bytes_at (append_assoc (number (length text)) text rest)
+      ∙ rw (number-again (length text) (text ++ rest) fits.0) (split-again text rest);
   taken = λ bytes text rest are_bytes read_is.
       let count_read = bind_some (number_at bytes) (λ count. split_after count.0 count.1) (text, rest) read_is in
       let count_taken = number-taken bytes count_read.0.0 count_read.0.1 are_bytes count_read.1 in
       let after : IsBytes count_read.0.1 = IsBytes-after bytes (number count_read.0.0) count_read.0.1 count_taken.1 are_bytes in
-      let long_enough = guarded (ltb (length count_read.0.1) count_read.0.0) (Some (take count_read.0.0 count_read.0.1, drop count_read.0.0 count_read.0.1)) (text, rest) count_read.2 in
+      let long_enough =
+      guarded (ltb (length count_read.0.1) count_read.0.0)
+      (Some (take count_read.0.0 count_read.0.1, drop count_read.0.0 count_read.0.1)) (text, rest) count_read.2 in
       let made : (List ℕ × List ℕ) = (take count_read.0.0 count_read.0.1, drop count_read.0.0 count_read.0.1) in
       let long : count_read.0.0 ≤ length count_read.0.1 = ltb-false _ _ long_enough.0 in
       let size : length (take count_read.0.0 count_read.0.1) ≡ count_read.0.0 = omega (arith, length-take count_read.0.0 count_read.0.1) in
@@ -278,7 +310,8 @@ bytes_reader = record {
       count_taken.1 ∙ (ap (λ (any : List ℕ). number count_read.0.0 ++ any) (sym (take-append-drop count_read.0.0 count_read.0.1))
       ∙ (sym (append_assoc (number count_read.0.0) (take count_read.0.0 count_read.0.1) (drop count_read.0.0 count_read.0.1))
       ∙ ap (λ (any : ℕ). (number any ++ take count_read.0.0 count_read.0.1) ++ drop count_read.0.0 count_read.0.1) (sym size))) in
-      subst (λ (any : List ℕ × List ℕ). IsBlock any.0 × (bytes ≡ block any.0 ++ any.1)) (same_Some made (text, rest) long_enough.1) ((short, IsBytes-take count_read.0.0 count_read.0.1 after), body);
+      subst (λ (any : List ℕ × List ℕ). IsBlock any.0 × (bytes ≡ block any.0 ++ any.1)) (same_Some made (text, rest) long_enough.1)
+      ((short, IsBytes-take count_read.0.0 count_read.0.1 after), body);
 }
 
 pub text_reader : IsReader IsText block text_at

@@ -5,10 +5,11 @@ use Rattle.puffin_data.specs.declared.error.Error.TheVariants.{PrematureEnd, Inv
 use Rattle.puffin_data.specs.declared.data.form.Form.{Form}
 use Rattle.puffin_data.specs.declared.data.form.Form.TheVariants.{Short, Long}
 
--- the greatest lengths that one group of 7 bits and two groups encode
+-- the greatest length that one group of 7 bits encodes
 abbrev pub one_group_limit : ℕ
 one_group_limit = 127
 
+-- the greatest length that two groups encode
 abbrev pub two_groups_limit : ℕ
 two_groups_limit = 16383
 

@@ -49,11 +49,12 @@ number_after first rest =
     else if first == eight_bytes_mark then wide_at 8 (2 ^ 32) rest
     else None
 
--- a number of 64 bits, and one that fits 32 bits
+-- a number of 64 bits
 abbrev pub number_at : List ℕ → Option (ℕ × List ℕ)
 number_at [] = None
 number_at (first ∷ rest) = number_after first rest
 
+-- a number that fits 32 bits
 abbrev pub u32_at : List ℕ → Option (ℕ × List ℕ)
 u32_at = with_test (λ number. nat_lt number (2 ^ 32)) number_at
 

@@ -15,13 +15,15 @@ IsBytes bytes = (index : ℕ) → get_or bytes index 0 < 256
 abbrev pub byte : ℕ → List ℕ
 byte value = value ∷ []
 
--- The bytes before a number of two, four and eight bytes. A number less than the first of these is itself stored as one byte.
+-- the byte before a number of two bytes; a number less than this is itself stored as one byte
 abbrev pub two_bytes_mark : ℕ
 two_bytes_mark = 251
 
+-- the byte before a number of four bytes
 abbrev pub four_bytes_mark : ℕ
 four_bytes_mark = 252
 
+-- the byte before a number of eight bytes
 abbrev pub eight_bytes_mark : ℕ
 eight_bytes_mark = 253
 
@@ -65,23 +67,27 @@ items layout values = number (length values) ++ flat_map layout values
 
 -- ---- which values have a layout
 
--- numbers of 8, 32 and 64 bits, and signed numbers of 64 bits
+-- a number of 8 bits
 abbrev pub IsByte : ℕ → Type 0
 IsByte value = value < 256
 
+-- a number of 32 bits
 abbrev pub IsU32 : ℕ → Type 0
 IsU32 value = value < 2 ^ 32
 
+-- a number of 64 bits
 abbrev pub IsLong : ℕ → Type 0
 IsLong value = value < 2 ^ 64
 
+-- a signed number of 64 bits
 abbrev pub IsSigned : ℤ → Type 0
 IsSigned value = FitsSigned w64 value
 
--- bytes whose number fits 64 bits, and those of them that are UTF-8
+-- bytes whose number fits 64 bits
 abbrev pub IsBlock : List ℕ → Type 0
 IsBlock bytes = (length bytes < 2 ^ 64) × IsBytes bytes
 
+-- such bytes that are UTF-8
 abbrev pub IsText : List ℕ → Type 0
 IsText bytes = IsBlock bytes × (is_utf8 bytes ≡ true)
 

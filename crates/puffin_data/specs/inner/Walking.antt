@@ -46,7 +46,9 @@ pub record Stop : Type 0 where
 pub data WalksTo (form : Form) (bytes : List ℕ) :
     (level : ℕ) → (walk : Walk) → (place : ℕ) → (end : ℕ) → (result : Result Walk Stop) →
     Type 0 where
+  -- the walk is at the region's end
   ends : {level : ℕ} {walk : Walk} {place : ℕ} → WalksTo form bytes level walk place place (Ok walk)
+  -- a fault is at the place
   stops : {level : ℕ} {walk : Walk} {place end : ℕ} {fault : Error} →
       IsFaultAt form bytes place end fault →
       WalksTo form bytes level walk place end (
@@ -56,11 +58,13 @@ pub data WalksTo (form : Form) (bytes : List ℕ) :
         fault = fault;
         tries = walk.num_scopes + tries_in (region bytes place end);
       }))
+  -- a sound scope is at the place, and the walk stops among its children
   stops_within : {level : ℕ} {walk : Walk} {place end : ℕ} {found : FoundScope} {stop : Stop} →
       IsSoundAt form bytes place end found →
       WalksTo form bytes (suc level) (with_scope walk (suc level) found.span)
       (place + found.child_begin) (place + found.child_end) (Err stop) →
       WalksTo form bytes level walk place end (Err stop)
+  -- a sound scope is at the place; the walk goes over its children, and on from its next sibling
   goes_on : {level : ℕ} {walk inner : Walk} {place end : ℕ} {found : FoundScope}
       {result : Result Walk Stop} → IsSoundAt form bytes place end found →
       WalksTo form bytes (suc level) (with_scope walk (suc level) found.span)
@@ -69,13 +73,13 @@ pub data WalksTo (form : Form) (bytes : List ℕ) :
       WalksTo form bytes level walk place end result
 
 -- a walk of all bytes came to their end with these counts
-abbrev pub Walked : (form : Form) → (bytes : List ℕ) → (tries : ℕ) → Walk → Type 0
-Walked form bytes tries walk =
+abbrev pub WalksAll : (form : Form) → (bytes : List ℕ) → (tries : ℕ) → Walk → Type 0
+WalksAll form bytes tries walk =
     WalksTo form bytes 0 no_scope_counted 0 (length bytes) (Ok walk) × (tries ≡ walk.num_scopes)
 
 -- a walk of all bytes stopped at a fault, or because memory ran out
-abbrev pub Stopped : (form : Form) → (bytes : List ℕ) → (tries : ℕ) → Error → Type 0
-Stopped form bytes tries fault =
+abbrev pub StopsShort : (form : Form) → (bytes : List ℕ) → (tries : ℕ) → Error → Type 0
+StopsShort form bytes tries fault =
     (fault ≡ Memory)
     ⊎ ((place : ℕ)
     × WalksTo form bytes 0 no_scope_counted 0 (length bytes) (

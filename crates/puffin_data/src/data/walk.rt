@@ -8,7 +8,7 @@ ghost use Rattle.puffin_data.specs.Honesty.{Counts};
 ghost use Rattle.puffin_data.specs.Walk.{most_tries_in, Refuses};
 ghost use Rattle.puffin_data.specs.Walk.Reading.{reading, IsFaultIn};
 ghost use Rattle.puffin_data.specs.Walk.FoundScopes.{found_of};
-ghost use Rattle.puffin_data.specs.inner.Walking.{no_scope_counted, with_scope, Walked, Stopped};
+ghost use Rattle.puffin_data.specs.inner.Walking.{no_scope_counted, with_scope, WalksAll, StopsShort};
 
 use crate::data::form::Form;
 use crate::data::scope::{END_SIZE, RawScope, SCOPE_BEGIN, scope_in};
@@ -104,8 +104,8 @@ pub fn walk_forest(alloc: Global, form: Form, bytes: &[u8], tries: &mut u64) -> 
 /// regions around it, the innermost last.
 #[inline(always)]
 pub(crate) fn walk_bytes(alloc: Global, form: Form, bytes: &[u8], tries: &mut u64) -> Result<Walk>
-    ensures walked { MatchResult result (Walked form bytes.now tries.new)
-        (Stopped form bytes.now tries.new) }
+    ensures walked { MatchResult result (WalksAll form bytes.now tries.new)
+        (StopsShort form bytes.now tries.new) }
     ensures few { 31 * tries.new ≤ length bytes.now + 31 }
     ensures bytes { (index : ℕ) → slice_index bytes.now index < 256 }
     ensures small { length bytes.now < 2 ^ 64 }

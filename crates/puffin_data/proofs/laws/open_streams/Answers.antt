@@ -25,7 +25,8 @@ pub returns-clause-ends_word : goal.returns-clause-ends_word
 returns-clause-ends_word c innermost outer closed stop = Opening.finishes-word innermost outer closed stop
 
 pub returns-clause-ends_written : goal.returns-clause-ends_written
-returns-clause-ends_written c form innermost closed stop can_be_written inner fits later lasts = Opening.ended-written form innermost closed stop can_be_written inner fits later lasts
+returns-clause-ends_written c form innermost closed stop can_be_written inner fits later lasts =
+    Opening.ended-written form innermost closed stop can_be_written inner fits later lasts
 
 pub returns-clause-none_open : goal.returns-clause-none_open
 returns-clause-none_open c form closed = refl

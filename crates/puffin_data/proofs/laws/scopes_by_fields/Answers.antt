@@ -7,8 +7,14 @@ use Rattle.puffin_data.proofs.laws.scopes_by_fields.Goals as goal
 
 pub returns-clause-scopes : goal.returns-clause-scopes
 returns-clause-scopes c one other =
-    let times = Decides-and _ _ (Decides-int_eq one.rec.start_ns other.rec.start_ns) (Decides-and _ _ (Decides-int_eq one.rec.duration_ns other.rec.duration_ns) (bytes_decides one.rec.text.now other.rec.text.now)) in
-    let places = Decides-and _ _ (Decides-eqb one.child_begin_position other.child_begin_position) (Decides-and _ _ (Decides-eqb one.child_end_position other.child_end_position) (Decides-eqb one.next_sibling_position other.next_sibling_position)) in
+    let times =
+    Decides-and _ _ (Decides-int_eq one.rec.start_ns other.rec.start_ns)
+    (Decides-and _ _ (Decides-int_eq one.rec.duration_ns other.rec.duration_ns)
+    (bytes_decides one.rec.text.now other.rec.text.now)) in
+    let places =
+    Decides-and _ _ (Decides-eqb one.child_begin_position other.child_begin_position)
+    (Decides-and _ _ (Decides-eqb one.child_end_position other.child_end_position)
+    (Decides-eqb one.next_sibling_position other.next_sibling_position)) in
     Decides-like _
     (λ same path. record {
       id = same.0 path;
@@ -22,8 +28,14 @@ returns-clause-scopes c one other =
     (λ same. (
       ap (λ (scope : ReadScope). scope.id) same,
       (
-        (ap (λ (scope : ReadScope). scope.start) same, (ap (λ (scope : ReadScope). scope.duration) same, ap (λ (scope : ReadScope). scope.text) same)),
-        (ap (λ (scope : ReadScope). scope.child_begin) same, (ap (λ (scope : ReadScope). scope.child_end) same, ap (λ (scope : ReadScope). scope.next_sibling) same)),
+        (
+          ap (λ (scope : ReadScope). scope.start) same,
+          (ap (λ (scope : ReadScope). scope.duration) same, ap (λ (scope : ReadScope). scope.text) same),
+        ),
+        (
+          ap (λ (scope : ReadScope). scope.child_begin) same,
+          (ap (λ (scope : ReadScope). scope.child_end) same, ap (λ (scope : ReadScope). scope.next_sibling) same),
+        ),
       ),
     ))
     (Decides-and _ _ (Decides-eqb one.id other.id) (Decides-and _ _ times places))

@@ -8,7 +8,8 @@ use Rattle.puffin_data.proofs.data.transfer.write_all.Goals as goal
 -- what was written before, and the front of the rest that was written now
 grown : (at n : ℕ) (bytes : List ℕ) → take at bytes ++ take n (take (length bytes - at) (drop at bytes)) ≡ take (at + n) bytes
 grown at n bytes =
-    let rest : take (length bytes - at) (drop at bytes) ≡ drop at bytes = take_all (length bytes - at) (drop at bytes) (omega (arith, length-drop at bytes)) in
+    let rest : take (length bytes - at) (drop at bytes) ≡ drop at bytes =
+    take_all (length bytes - at) (drop at bytes) (omega (arith, length-drop at bytes)) in
     ap (λ (t : List ℕ). take at bytes ++ take n t) rest ∙ sym (take-add at n bytes)
 
 pub returns-in_err-count-clause-err : goal.returns-in_err-count-clause-err
@@ -16,14 +17,23 @@ returns-in_err-count-clause-err g c =
     let at = c.pieces.at in
     let bytes = c.args.bytes.now in
     let p = err_from_is_err_and c.from_residual.result c.from_residual.ensures.1 in
-    rw p.1 (take at bytes, drop at bytes, sym (take-append-drop at bytes), Appends-kept _ _ _ _ c.pieces.invariant.written c.in_err-count.ensures.bytes)
+    rw p.1 (
+      take at bytes,
+      drop at bytes,
+      sym (take-append-drop at bytes),
+      Appends-kept _ _ _ _ c.pieces.invariant.written c.in_err-count.ensures.bytes,
+    )
 
 pub returns-then-count-eq0-clause-err : goal.returns-then-count-eq0-clause-err
 returns-then-count-eq0-clause-err g c =
     let at = c.pieces.at in
     let count = c.in_ok-count.count in
-    let bytes = c.args.bytes.now in
-    (take (at + count) bytes, drop (at + count) bytes, sym (take-append-drop (at + count) bytes), subst (Appends _ _) (grown at count bytes) (Appends-trans _ _ _ _ _ c.pieces.invariant.written c.in_ok-count.ensures.bytes))
+    let bytes = c.args.bytes.now in (
+      take (at + count) bytes,
+      drop (at + count) bytes,
+      sym (take-append-drop (at + count) bytes),
+      subst (Appends _ _) (grown at count bytes) (Appends-trans _ _ _ _ _ c.pieces.invariant.written c.in_ok-count.ensures.bytes),
+    )
 
 pub pieces-preserved : goal.pieces-preserved
 pieces-preserved g c =

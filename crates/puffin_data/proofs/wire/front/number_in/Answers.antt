@@ -46,7 +46,8 @@ returns-then-first-lt-TWO_BYTES_MARK-clause-reads c =
     let some : 1 ≤ length c.args.bytes.now = search rules in
     let first = slice_index_or c.args.bytes.now 0 0 in
     let small : first < 251 = search rules in
-    let given : number_at c.args.bytes.now ≡ Some (first, tail c.args.bytes.now) = first_and_tail c.args.bytes.now some ∙ one_byte first (tail c.args.bytes.now) small in
+    let given : number_at c.args.bytes.now ≡ Some (first, tail c.args.bytes.now) =
+    first_and_tail c.args.bytes.now some ∙ one_byte first (tail c.args.bytes.now) small in
     number_reader.taken c.args.bytes.now first (tail c.args.bytes.now) bytes given
 
 pub returns-then-first-clause-reads : goal.returns-then-first-clause-reads
@@ -54,8 +55,11 @@ returns-then-first-clause-reads c =
     let bytes : IsBytes c.args.bytes.now = λ i. omega (arith, c.type_inv.bytes i) in
     let some : 1 ≤ length c.args.bytes.now = search rules in
     let mark : slice_index_or c.args.bytes.now 0 0 ≡ 251 = search rules in
-    let reading : number_at c.args.bytes.now ≡ wide_at 2 two_bytes_mark (tail c.args.bytes.now) = first_and_tail c.args.bytes.now some ∙ (ap (λ (any : ℕ). number_after any (tail c.args.bytes.now)) mark ∙ two_bytes (tail c.args.bytes.now)) in
-    let given : GivesWithRest (λ read. (read.0, read.1.now)) c.two_bytes_in.result (number_at c.args.bytes.now) = rw reading c.two_bytes_in.ensures in
+    let reading : number_at c.args.bytes.now ≡ wide_at 2 two_bytes_mark (tail c.args.bytes.now) =
+    first_and_tail c.args.bytes.now some
+    ∙ (ap (λ (any : ℕ). number_after any (tail c.args.bytes.now)) mark ∙ two_bytes (tail c.args.bytes.now)) in
+    let given : GivesWithRest (λ read. (read.0, read.1.now)) c.two_bytes_in.result (number_at c.args.bytes.now) =
+    rw reading c.two_bytes_in.ensures in
     reads_with_rest (λ read. (read.0, read.1.now)) IsLong number number_at number_reader c.args.bytes.now c.two_bytes_in.result bytes given
 
 pub returns-then-first-2-clause-reads : goal.returns-then-first-2-clause-reads
@@ -63,8 +67,11 @@ returns-then-first-2-clause-reads c =
     let bytes : IsBytes c.args.bytes.now = λ i. omega (arith, c.type_inv.bytes i) in
     let some : 1 ≤ length c.args.bytes.now = search rules in
     let mark : slice_index_or c.args.bytes.now 0 0 ≡ 252 = search rules in
-    let reading : number_at c.args.bytes.now ≡ wide_at 4 (2 ^ 16) (tail c.args.bytes.now) = first_and_tail c.args.bytes.now some ∙ (ap (λ (any : ℕ). number_after any (tail c.args.bytes.now)) mark ∙ four_bytes (tail c.args.bytes.now)) in
-    let given : GivesWithRest (λ read. (read.0, read.1.now)) c.four_bytes_in.result (number_at c.args.bytes.now) = rw reading c.four_bytes_in.ensures in
+    let reading : number_at c.args.bytes.now ≡ wide_at 4 (2 ^ 16) (tail c.args.bytes.now) =
+    first_and_tail c.args.bytes.now some
+    ∙ (ap (λ (any : ℕ). number_after any (tail c.args.bytes.now)) mark ∙ four_bytes (tail c.args.bytes.now)) in
+    let given : GivesWithRest (λ read. (read.0, read.1.now)) c.four_bytes_in.result (number_at c.args.bytes.now) =
+    rw reading c.four_bytes_in.ensures in
     reads_with_rest (λ read. (read.0, read.1.now)) IsLong number number_at number_reader c.args.bytes.now c.four_bytes_in.result bytes given
 
 pub returns-then-first-3-clause-reads : goal.returns-then-first-3-clause-reads
@@ -72,9 +79,13 @@ returns-then-first-3-clause-reads c =
     let bytes : IsBytes c.args.bytes.now = λ i. omega (arith, c.type_inv.bytes i) in
     let some : 1 ≤ length c.args.bytes.now = search rules in
     let mark : slice_index_or c.args.bytes.now 0 0 ≡ 253 = search rules in
-    let reading : number_at c.args.bytes.now ≡ wide_at 8 (2 ^ 32) (tail c.args.bytes.now) = first_and_tail c.args.bytes.now some ∙ (ap (λ (any : ℕ). number_after any (tail c.args.bytes.now)) mark ∙ eight_bytes (tail c.args.bytes.now)) in
-    let given : GivesWithRest (λ read. (read.0, read.1.now)) c.eight_bytes_in.result (number_at c.args.bytes.now) = rw reading c.eight_bytes_in.ensures in
-    reads_with_rest (λ read. (read.0, read.1.now)) IsLong number number_at number_reader c.args.bytes.now c.eight_bytes_in.result bytes given
+    let reading : number_at c.args.bytes.now ≡ wide_at 8 (2 ^ 32) (tail c.args.bytes.now) =
+    first_and_tail c.args.bytes.now some
+    ∙ (ap (λ (any : ℕ). number_after any (tail c.args.bytes.now)) mark ∙ eight_bytes (tail c.args.bytes.now)) in
+    let given : GivesWithRest (λ read. (read.0, read.1.now)) c.eight_bytes_in.result (number_at c.args.bytes.now) =
+    rw reading c.eight_bytes_in.ensures in
+    reads_with_rest (λ read. (read.0, read.1.now)) IsLong number number_at number_reader c.args.bytes.now c.eight_bytes_in.result
+    bytes given
 
 pub returns-else-first-3-clause-reads : goal.returns-else-first-3-clause-reads
 unfolding number_after

@@ -26,7 +26,8 @@ reads-preserved g c =
     let after = put_mid end room lent c.read.new.buf in
     let long : length after ≡ c.reads.bytes.len = search (rules, places) in
     let cut = with_items_is c.reads.bytes after long in
-    let there : take (end + count) after ≡ take end lent ++ take count c.read.new.buf = read_there lent c.read.new.buf (post_of end room lent) end count within read.bound.0 in
+    let there : take (end + count) after ≡ take end lent ++ take count c.read.new.buf =
+    read_there lent c.read.new.buf (post_of end room lent) end count within read.bound.0 in
     let length_read : length c.read.new.buf ≡ length lent - end = search (rules, places) in
     let length_lent : length lent ≡ c.reads.bytes.len = search (rules, places) in
     let old = before.filled in
@@ -35,7 +36,11 @@ reads-preserved g c =
       within = omega (arith, read.bound.0, within, long, ap length cut, length_read, length_lent);
       filled = (
         old.0 ++ take count c.read.new.buf,
-        ap (take (end + count)) cut ∙ there ∙ ap (λ t. take end t ++ take count c.read.new.buf) same ∙ ap (λ t. t ++ take count c.read.new.buf) old.1 ∙ append_assoc _ old.0 (take count c.read.new.buf),
+        ap (take (end + count)) cut
+            ∙ there
+            ∙ ap (λ t. take end t ++ take count c.read.new.buf) same
+            ∙ ap (λ t. t ++ take count c.read.new.buf) old.1
+            ∙ append_assoc _ old.0 (take count c.read.new.buf),
         Consumes-trans _ _ _ old.0 (take count c.read.new.buf) old.2 read.bytes.0,
       );
       failures = read.failed ∙ before.failures;
@@ -45,5 +50,7 @@ pub returns-clause-grown : goal.returns-clause-grown
 returns-clause-grown g c =
     let filled = c.reads.invariant.filled in
     let whole = take_all c.reads.end c.reads.bytes.items (omega (arith, c.reads-test.false)) in
-    let before = before_room c.args.bytes.now.items _ c.resize.new.self.items c.len-end.result c.args.len (search rules) c.requires.len c.in_ok-resize.ensures.items in
+    let before =
+    before_room c.args.bytes.now.items _ c.resize.new.self.items c.len-end.result c.args.len (search rules) c.requires.len
+    c.in_ok-resize.ensures.items in
     (filled.0, sym whole ∙ filled.1 ∙ ap (λ t. t ++ filled.0) before, filled.2)

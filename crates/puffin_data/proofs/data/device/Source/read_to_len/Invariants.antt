@@ -6,7 +6,11 @@ abbrev pub invariant-reads : goal.invariant-reads
 invariant-reads g l = record {
   size : length l.bytes.items ≡ l.len;
   within : l.end ≤ length l.bytes.items;
-  filled : (taken : List ℕ) × (take l.end l.bytes.items ≡ take l.initial.end l.initial.bytes.items ++ taken) × Consumes (g.Self.Source.remaining l.initial.self) (g.Self.Source.remaining l.self) taken;
+  filled :
+      (taken : List ℕ)
+      × (take l.end l.bytes.items ≡ take l.initial.end l.initial.bytes.items ++ taken)
+      × Consumes (g.Self.Source.remaining l.initial.self)
+      (g.Self.Source.remaining l.self) taken;
   failures : g.Self.Source.failures l.self ≡ g.Self.Source.failures l.initial.self;
 }
 

@@ -25,17 +25,37 @@ returns c =
     let a = c.match-second in
     let b = c.if-not-is_empty in
     let same_text : c.as_bytes-text.result.now ≡ text = c.as_bytes-text.ensures.value in
-    let fronted : take 14 (c.copy_from_slice.new.self ++ _) ≡ take 14 c.front.result = take-append-le 14 c.copy_from_slice.new.self _ (search rules) ∙ ap (take 14) c.copy_from_slice.ensures.after in
+    let fronted : take 14 (c.copy_from_slice.new.self ++ _) ≡ take 14 c.front.result =
+    take-append-le 14 c.copy_from_slice.new.self _ (search rules) ∙ ap (take 14) c.copy_from_slice.ensures.after in
     let seconded : take a.place a.room ≡ take 14 c.front.result ++ second = elim a.branch [
-      | in-Some w ↦ ap (λ (n : ℕ). take n a.room) w.place-is ∙ ap (take 15) w.room-is ∙ take_more_set _ 14 w.in-Some.byte (search rules) ∙ ap (λ (x : List ℕ). x ++ (w.in-Some.byte ∷ [])) fronted ∙ ap (λ (x : Option ℕ). take 14 c.front.result ++ second_byte x) (sym w.in-Some.is)
-      | in_default w ↦ ap (λ (n : ℕ). take n a.room) w.place-is ∙ ap (take 14) w.room-is ∙ fronted ∙ sym (append-nil _) ∙ ap (λ (x : Option ℕ). take 14 c.front.result ++ second_byte x) (sym w.in_default.is)
+      | in-Some w ↦ ap (λ (n : ℕ). take n a.room) w.place-is
+          ∙ ap (take 15) w.room-is
+          ∙ take_more_set _ 14 w.in-Some.byte (search rules)
+          ∙ ap (λ (x : List ℕ). x ++ (w.in-Some.byte ∷ [])) fronted
+          ∙ ap (λ (x : Option ℕ). take 14 c.front.result ++ second_byte x) (sym w.in-Some.is)
+      | in_default w ↦ ap (λ (n : ℕ). take n a.room) w.place-is
+          ∙ ap (take 14) w.room-is
+          ∙ fronted
+          ∙ sym (append-nil _)
+          ∙ ap (λ (x : Option ℕ). take 14 c.front.result ++ second_byte x) (sym w.in_default.is)
     ] in
     let texted : take b.place b.room ≡ take a.place a.room ++ text = elim b.branch [
-      | then-not-is_empty w ↦ ap (λ (n : ℕ). take n b.room) w.place-is ∙ ap (take _) w.room-is ∙ take-put_mid a.place _ a.room w.copy_text.new.to _ (ap (λ (x : List ℕ). a.place + length x) (sym w.copy_text.ensures)) (search rules) ∙ ap (λ (x : List ℕ). take a.place a.room ++ x) (w.copy_text.ensures ∙ same_text)
-      | else-not-is_empty w ↦ ap (λ (n : ℕ). take n b.room) w.place-is ∙ ap (take a.place) w.room-is ∙ sym (append-nil _) ∙ ap (λ (x : List ℕ). take a.place a.room ++ x) (sym (nil_from_length text (search rules)))
+      | then-not-is_empty w ↦ ap (λ (n : ℕ). take n b.room) w.place-is
+          ∙ ap (take _) w.room-is
+          ∙ take-put_mid a.place _ a.room w.copy_text.new.to _ (ap (λ (x : List ℕ). a.place + length x) (sym w.copy_text.ensures))
+          (search rules)
+          ∙ ap (λ (x : List ℕ). take a.place a.room ++ x) (w.copy_text.ensures ∙ same_text)
+      | else-not-is_empty w ↦ ap (λ (n : ℕ). take n b.room) w.place-is
+          ∙ ap (take a.place) w.room-is
+          ∙ sym (append-nil _)
+          ∙ ap (λ (x : List ℕ). take a.place a.room ++ x) (sym (nil_from_length text (search rules)))
     ] in
-    let sized : take (b.place + 8) _ ≡ take b.place b.room ++ c.copy_from_slice-2.new.self = take-put_mid b.place (b.place + 8 - b.place) b.room c.copy_from_slice-2.new.self (b.place + 8) (search rules) (search rules) in
-    let front = c.front.ensures ∙ ap (λ (n : ℕ). 40 ∷ (little_bytes 4 n ++ (time_bytes (to_z w64 (of_z w64 start)) ++ (group ∷ [])))) c.get.ensures.number ∙ ap (λ (t : ℤ). 40 ∷ (little_bytes 4 c.args.id ++ (time_bytes t ++ (group ∷ [])))) (to_z-of_z w64 start c.ranges.start) in
+    let sized : take (b.place + 8) _ ≡ take b.place b.room ++ c.copy_from_slice-2.new.self =
+    take-put_mid b.place (b.place + 8 - b.place) b.room c.copy_from_slice-2.new.self (b.place + 8) (search rules) (search rules) in
+    let front =
+    c.front.ensures
+    ∙ ap (λ (n : ℕ). 40 ∷ (little_bytes 4 n ++ (time_bytes (to_z w64 (of_z w64 start)) ++ (group ∷ [])))) c.get.ensures.number
+    ∙ ap (λ (t : ℤ). 40 ∷ (little_bytes 4 c.args.id ++ (time_bytes t ++ (group ∷ [])))) (to_z-of_z w64 start c.ranges.start) in
     let word = c.copy_from_slice-2.ensures.after ∙ c.size_word.ensures in
     let spread = put_mid b.place (b.place + 8 - b.place) b.room c.copy_from_slice-2.new.self in
     let pieces = sized ∙ ap (λ (x : List ℕ). x ++ c.copy_from_slice-2.new.self) (texted ∙ ap (λ (x : List ℕ). x ++ text) seconded) in
@@ -44,10 +64,19 @@ returns c =
     let within : s.len ≤ length s.block.items = search rules in
     record {
       begun = behind s.block.items c.deref_mut.result.now spread _ _ s.len b.place s.block.len c.deref_mut.ensures.value within long fits
-          ∙ ap (λ (x : List ℕ). take s.len s.block.items ++ x) (pieces ∙ begun form (take 14 c.front.result) second text c.copy_from_slice-2.new.self c.args.id c.args.size group start front c.requires.layout word)
+          ∙ ap (λ (x : List ℕ). take s.len s.block.items ++ x)
+          (pieces ∙ begun form (take 14 c.front.result) second text c.copy_from_slice-2.new.self c.args.id c.args.size group start
+          front c.requires.layout word)
           ∙ ap (λ (x : List ℕ). x ++ begin_bytes form c.args.id start text c.args.size) (ap (λ (h : StreamState). h.bytes) c.self.view_is);
-      place = lengthened s.block.items spread _ s.len b.place (behind s.block.items c.deref_mut.result.now spread _ _ s.len b.place s.block.len c.deref_mut.ensures.value within long fits) within long;
+      place =
+          lengthened s.block.items spread _ s.len b.place
+          (behind s.block.items c.deref_mut.result.now spread _ _ s.len b.place s.block.len c.deref_mut.ensures.value within long
+          fits) within long;
       form = search rules;
-      room = room_left _ s.block.items s.block.len s.len b.place c.args.self.now.room (8 + (13 + (length (length_layout form (length text)) + length text))) s.block.ok.0 (sym (ap (λ (h : StreamState). h.room) c.self.view_is))
-          (placed (take 14 c.front.result) second text c.copy_from_slice-2.new.self spread (length_layout form (length text)) group b.place pieces long (ap length front) (ap length word) c.requires.layout);
+      room =
+          room_left _ s.block.items s.block.len s.len b.place c.args.self.now.room
+          (8 + (13 + (length (length_layout form (length text)) + length text))) s.block.ok.0
+          (sym (ap (λ (h : StreamState). h.room) c.self.view_is))
+          (placed (take 14 c.front.result) second text c.copy_from_slice-2.new.self spread (length_layout form (length text)) group
+          b.place pieces long (ap length front) (ap length word) c.requires.layout);
     }
