@@ -132,7 +132,8 @@ not_any value same = absurd cc
 IsLaidOut : ℕ → List ℕ → ℕ → List ℕ → Type 0
 IsLaidOut first tail value rest = (value < 2 ^ 64) × (first ∷ tail ≡ number value ++ rest)
 
-taken_two : (first : ℕ) (tail : List ℕ) (value : ℕ) (rest : List ℕ) → first ≡ 251 → Wide 2 251 tail value rest → IsLaidOut first tail value rest
+taken_two : (first : ℕ) (tail : List ℕ) (value : ℕ) (rest : List ℕ) → first ≡ 251 → Wide 2 251 tail value rest
+    → IsLaidOut first tail value rest
 unfolding IsLaidOut
 taken_two first tail value rest first_is wide =
     let fits : value < 2 ^ 16 = let most = wide.high in omega arith in

@@ -48,7 +48,7 @@ impl Form {
         self.cut_off(text)
     }
 
-    /// Cuts a text that is longer than the limit.
+    /// Like [`Form::cut`], for a text that is longer than the limit. It is out of line, as such texts are rare.
     #[cold]
     #[inline(never)]
     fn cut_off(self, text: &str) -> &str

@@ -159,7 +159,8 @@ impl Stream {
         self.grow(bytes - room)
     }
 
-    /// Makes the room larger by at least this many bytes. Fails only with `Memory`.
+    /// Makes the room larger by at least this many bytes. Fails only with `Memory`. It is out of line, as it is rare that room is
+    /// missing.
     #[cold]
     #[inline(never)]
     fn grow(&mut self, more: usize) -> Result<()>
@@ -214,7 +215,7 @@ impl Stream {
         self.lengthen(bytes)
     }
 
-    /// Appends bytes that don't fit the room, and leaves no room after them.
+    /// Appends bytes that don't fit the room, and leaves no room after them. Fails only with `Memory`, and then appends nothing.
     #[inline]
     fn lengthen(&mut self, bytes: &[u8]) -> Result<()>
         requires { self.old.room < length bytes.now }

@@ -54,8 +54,8 @@ pub trait Visitor<'s> {
         takes old scopes new → stands_for old within around → stands_for new within around };
 }
 
-/// A region that is being read, or is waiting while a region within it is read: its end, and the visitor's value for the scope
-/// whose children it contains.
+/// A region that is being read, or is waiting while a region within it is read: where it ends, and the visitor's value for the
+/// scope whose children it contains.
 #[derive(Clone, Copy)]
 struct Region<W> {
     end: usize,
@@ -87,6 +87,7 @@ pub fn walk_with<'s, V: Visitor<'s>>(
     ensures err { IfErr result (λ cause.
         (cause ≡ Error.Memory)
         ⊎ StopsEarly form V.takes V.refuses visitor.old visitor.new bytes.now tries.new cause) }
+    // A scope takes at least 31 bytes.
     ensures few { 31 * tries.new ≤ length bytes.now + 31 }
 {
     let mut outers: Vec<Region<V::Within>> = Vec::new(alloc);

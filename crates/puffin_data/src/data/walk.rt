@@ -106,7 +106,10 @@ pub fn walk_forest(alloc: Global, form: Form, bytes: &[u8], tries: &mut u64) -> 
 pub(crate) fn walk_bytes(alloc: Global, form: Form, bytes: &[u8], tries: &mut u64) -> Result<Walk>
     ensures walked { MatchResult result (WalksAll form bytes.now tries.new)
         (StopsShort form bytes.now tries.new) }
+    // A scope takes at least 31 bytes.
     ensures few { 31 * tries.new ≤ length bytes.now + 31 }
+
+    // What holds of all bytes, for proofs about the calls.
     ensures bytes { (index : ℕ) → slice_index bytes.now index < 256 }
     ensures small { length bytes.now < 2 ^ 64 }
 {

@@ -1,3 +1,4 @@
+-- What was appended so far was taken from the reader.
 use Rattle.std.proofs.Common.{◌≡◌, ◌++◌, ◌≤◌, ◌-◌, ℕ, List, length, vec_len}
 use Rattle.std.specs.Io.KnownBytes.{Consumes}
 use Rattle.puffin_data.proofs.data.buffered.append_to_len.Given as goal

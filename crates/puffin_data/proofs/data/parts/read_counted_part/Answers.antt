@@ -1,3 +1,4 @@
+-- A length and then that many bytes are read as the two readings one after the other.
 use Rattle.puffin_data.specs.Part.{part_of, part_length_at}
 use Rattle.puffin_data.proofs.lemmas.Devices.{goes_on}
 use Rattle.puffin_data.proofs.data.parts.read_counted_part.Goals as goal

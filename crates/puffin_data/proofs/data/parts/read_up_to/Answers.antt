@@ -1,3 +1,4 @@
+-- Each read adds a piece to the buffer's front; the last one, of no bytes, shows that the reader is at its end.
 use Rattle.std.proofs.Common.{◌≡◌, ◌+◌, length, take, ◌∙◌, rules, arith, length-take-le}
 use Rattle.puffin_data.proofs.Filled.{filled_more}
 use Rattle.puffin_data.proofs.lemmas.Numbers.{IsBytes-take}

@@ -6,18 +6,18 @@ use lib.Seq.{take-add}
 use Rattle.puffin_data.proofs.data.transfer.write_all.Goals as goal
 
 -- what was written before, and the front of the rest that was written now
-grown : (at n : ℕ) (bytes : List ℕ) → take at bytes ++ take n (take (length bytes - at) (drop at bytes)) ≡ take (at + n) bytes
-grown at n bytes =
+grown : (at count : ℕ) (bytes : List ℕ) → take at bytes ++ take count (take (length bytes - at) (drop at bytes)) ≡ take (at + count) bytes
+grown at count bytes =
     let rest : take (length bytes - at) (drop at bytes) ≡ drop at bytes =
     take_all (length bytes - at) (drop at bytes) (omega (arith, length-drop at bytes)) in
-    ap (λ (t : List ℕ). take at bytes ++ take n t) rest ∙ sym (take-add at n bytes)
+    ap (λ (any : List ℕ). take at bytes ++ take count any) rest ∙ sym (take-add at count bytes)
 
 pub returns-in_err-count-clause-err : goal.returns-in_err-count-clause-err
 returns-in_err-count-clause-err g c =
     let at = c.pieces.at in
     let bytes = c.args.bytes.now in
-    let p = err_from_is_err_and c.from_residual.result c.from_residual.ensures.1 in
-    rw p.1 (
+    let returned = err_from_is_err_and c.from_residual.result c.from_residual.ensures.1 in
+    rw returned.1 (
       take at bytes,
       drop at bytes,
       sym (take-append-drop at bytes),

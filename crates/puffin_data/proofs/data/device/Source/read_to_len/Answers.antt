@@ -1,3 +1,4 @@
+-- Each read adds a piece behind `end`. In the end the vector is full, or it is cut at `end`.
 use Rattle.std.proofs.Common.{◌≡◌, ◌≤◌, ◌++◌, ◌-◌, ◌+◌, [], take, length, sym, ap, ◌∙◌, rules, arith, take_all, append_assoc}
 use Rattle.std.proofs.KnownBytes.{Consumes-nil, Consumes-trans}
 use Rattle.std.proofs.lemmas.List.{append-nil, with_items_is, places}

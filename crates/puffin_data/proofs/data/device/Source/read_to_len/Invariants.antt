@@ -1,3 +1,4 @@
+-- Up to `end` are the bytes from before and those that were taken from the reader, behind it are zeros.
 use Rattle.std.proofs.Common.{◌≡◌, ◌-◌, ◌≤◌, ◌++◌, List, ℕ, length, take, vec_len}
 use Rattle.std.specs.Io.KnownBytes.{Consumes}
 use Rattle.puffin_data.proofs.data.device.Source.read_to_len.Given as goal
