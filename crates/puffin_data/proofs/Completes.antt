@@ -119,23 +119,24 @@ completed form bytes level old new begin limit fits ordered bounded (goes_on {in
 
 -- ---- the numbers are the forest's
 
-least_assoc : (a b c d : ℤ) → int_min (int_min (int_min a b) c) d ≡ int_min a (int_min b (int_min c d))
-least_assoc a b c d = omega (arith, ints, clamps)
+least_assoc : (old own inner later : ℤ) → int_min (int_min (int_min old own) inner) later ≡ int_min old (int_min own (int_min inner later))
+least_assoc old own inner later = omega (arith, ints, clamps)
 
-greatest_assoc : (a b c d : ℤ) → int_max (int_max (int_max a b) c) d ≡ int_max a (int_max b (int_max c d))
-greatest_assoc a b c d = omega (arith, ints, clamps)
+greatest_assoc : (old own inner later : ℤ)
+    → int_max (int_max (int_max old own) inner) later ≡ int_max old (int_max own (int_max inner later))
+greatest_assoc old own inner later = omega (arith, ints, clamps)
 
-least_of_none : (a : ℤ) → a ≤ℤ pos (2 ^ 63 - 1) → int_min a (pos (2 ^ 63 - 1)) ≡ a
-least_of_none a within = omega (arith, ints, clamps)
+least_of_none : (time : ℤ) → time ≤ℤ pos (2 ^ 63 - 1) → int_min time (pos (2 ^ 63 - 1)) ≡ time
+least_of_none time within = omega (arith, ints, clamps)
 
-greatest_of_none : (a : ℤ) → negsuc (2 ^ 63 - 1) ≤ℤ a → int_max a (negsuc (2 ^ 63 - 1)) ≡ a
-greatest_of_none a within = omega (arith, ints, clamps)
+greatest_of_none : (time : ℤ) → negsuc (2 ^ 63 - 1) ≤ℤ time → int_max time (negsuc (2 ^ 63 - 1)) ≡ time
+greatest_of_none time within = omega (arith, ints, clamps)
 
-least_low : (a b bound : ℤ) → a ≤ℤ bound → int_min a b ≤ℤ bound
-least_low a b bound within = omega (arith, ints, clamps)
+least_low : (one other bound : ℤ) → one ≤ℤ bound → int_min one other ≤ℤ bound
+least_low one other bound within = omega (arith, ints, clamps)
 
-greatest_high : (a b bound : ℤ) → bound ≤ℤ a → bound ≤ℤ int_max a b
-greatest_high a b bound within = omega (arith, ints, clamps)
+greatest_high : (one other bound : ℤ) → bound ≤ℤ one → bound ≤ℤ int_max one other
+greatest_high one other bound within = omega (arith, ints, clamps)
 
 -- numbers within their types' ranges, within so many open scopes
 pub record IsOpen (level : ℕ) (walk : Walk) : Type 0 where

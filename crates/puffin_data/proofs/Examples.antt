@@ -128,11 +128,11 @@ read_three = refl
 -- ---- faults at the first byte
 
 at_once : (bytes : List ℕ) (fault : Error) → reading Short bytes ≡ Err fault → IsFirstFault Short bytes 0 fault
-at_once bytes fault e = record {
+at_once bytes fault read = record {
   end = length bytes;
   reached = here;
-  stands = inl (ap (reading Short) (whole_region bytes) ∙ e);
-  least = λ p e other r at. omega arith;
+  stands = inl (ap (reading Short) (whole_region bytes) ∙ read);
+  least = λ place end other reach at. omega arith;
 }
 
 -- begun at 100 and not ended
@@ -175,10 +175,10 @@ unfolding reading length_at sized_reading
 longer_rest = refl
 
 -- no fault stands among no children
-no_children : (q f : ℕ) (fault : Error) → Reaches Short longer 26 26 q f → IsFaultAt Short longer q f fault → ⊥
-no_children q f fault here at = nothing_is_no_fault Short [] fault refl at
-no_children q f fault (child {found = s} sound r) at = nothing_is_not_sound Short [] s refl sound
-no_children q f fault (sibling {found = s} sound r) at = nothing_is_not_sound Short [] s refl sound
+no_children : (to to_end : ℕ) (fault : Error) → Reaches Short longer 26 26 to to_end → IsFaultAt Short longer to to_end fault → ⊥
+no_children to to_end fault here at = nothing_is_no_fault Short [] fault refl at
+no_children to to_end fault (child {found = found} sound reach) at = nothing_is_not_sound Short [] found refl sound
+no_children to to_end fault (sibling {found = found} sound reach) at = nothing_is_not_sound Short [] found refl sound
 
 left_over : IsFirstFault Short longer 35 InvalidStream
 left_over = record {
@@ -186,8 +186,9 @@ left_over = record {
   reached = sibling longer_sound here;
   stands = inr (omega arith, longer_rest, refl);
   least =
-      λ q f other r at. by_parts Short longer 0 36 q f 35 one_found other longer_sound (λ x. absurd (no_children q f other x at))
-      (λ x. (between Short longer 35 36 q f (omega arith) (omega arith) x).low) r at;
+      λ to to_end other reach at. by_parts Short longer 0 36 to to_end 35 one_found other longer_sound
+      (λ way. absurd (no_children to to_end other way at))
+      (λ way. (between Short longer 35 36 to to_end (omega arith) (omega arith) way).low) reach at;
 }
 
 -- A scope of 62 bytes, whose children end at 53. The child in it claims to end at 75.
@@ -216,9 +217,9 @@ past_first = record {
   reached = child past_sound here;
   stands = inl past_child;
   least =
-      λ q f other r at. by_parts Short past 0 62 q f 22 past_found other past_sound
-      (λ x. (between Short past 22 53 q f (omega arith) (omega arith) x).low)
-      (λ x. omega (arith, (between Short past 62 62 q f (omega arith) (omega arith) x).low)) r at;
+      λ to to_end other reach at. by_parts Short past 0 62 to to_end 22 past_found other past_sound
+      (λ way. (between Short past 22 53 to to_end (omega arith) (omega arith) way).low)
+      (λ way. omega (arith, (between Short past 62 62 to to_end (omega arith) (omega arith) way).low)) reach at;
 }
 
 -- the two tries are the sound scope at 0 and the reading at 22
@@ -229,7 +230,7 @@ past_refused = record {
   sounds = 0 ∷ [];
   are_sounds =
       one_more {found = past_found} {inner = []} {later = []} past_sound
-      (no_more (λ s sound. ok_is_not_err (Some s) PrematureEnd (sym sound ∙ past_child)))
-      (no_more (λ s sound. nothing_is_not_sound Short [] s refl sound));
+      (no_more (λ found sound. ok_is_not_err (Some found) PrematureEnd (sym sound ∙ past_child)))
+      (no_more (λ found sound. nothing_is_not_sound Short [] found refl sound));
   number = refl;
 }

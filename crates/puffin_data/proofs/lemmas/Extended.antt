@@ -12,31 +12,34 @@ use Rattle.puffin_data.specs.Honesty.{StreamFacts, AreHonestFacts, AreUnlike, jo
 use Rattle.puffin_data.proofs.lemmas.Unique.{spelling-append, long}
 use Rattle.puffin_data.proofs.lemmas.ForestRanges.{least_in_range, greatest_in_range, from_most, from_least}
 
-pub scope_count-append : (f g : Forest) → scope_count (append f g) ≡ scope_count f + scope_count g
-scope_count-append empty g = omega arith
-scope_count-append (node s c o) g = omega (arith, scope_count-append o g)
+pub scope_count-append : (first second : Forest) → scope_count (append first second) ≡ scope_count first + scope_count second
+scope_count-append empty second = omega arith
+scope_count-append (node span children others) second = omega (arith, scope_count-append others second)
 
-pub height-append : (f g : Forest) → height (append f g) ≡ max (height f) (height g)
-height-append empty g = omega arith
-height-append (node s c o) g = omega (arith, height-append o g)
+pub height-append : (first second : Forest) → height (append first second) ≡ max (height first) (height second)
+height-append empty second = omega arith
+height-append (node span children others) second = omega (arith, height-append others second)
 
-least_assoc : (a b c d : ℤ) → int_min a (int_min b (int_min c d)) ≡ int_min (int_min a (int_min b c)) d
-least_assoc a b c d = omega (arith, ints, clamps)
+least_assoc : (own inner later second : ℤ)
+    → int_min own (int_min inner (int_min later second)) ≡ int_min (int_min own (int_min inner later)) second
+least_assoc own inner later second = omega (arith, ints, clamps)
 
-greatest_assoc : (a b c d : ℤ) → int_max a (int_max b (int_max c d)) ≡ int_max (int_max a (int_max b c)) d
-greatest_assoc a b c d = omega (arith, ints, clamps)
+greatest_assoc : (own inner later second : ℤ)
+    → int_max own (int_max inner (int_max later second)) ≡ int_max (int_max own (int_max inner later)) second
+greatest_assoc own inner later second = omega (arith, ints, clamps)
 
-pub least_start-append : (f g : Forest) → least_start (append f g) ≡ int_min (least_start f) (least_start g)
-least_start-append empty g = sym (from_most (least_start g) (least_in_range g))
-least_start-append (node s c o) g =
-    ap (λ (t : ℤ). int_min s.start (int_min (least_start c) t)) (least_start-append o g)
-    ∙ least_assoc s.start (least_start c) (least_start o) (least_start g)
+pub least_start-append : (first second : Forest) → least_start (append first second) ≡ int_min (least_start first) (least_start second)
+least_start-append empty second = sym (from_most (least_start second) (least_in_range second))
+least_start-append (node span children others) second =
+    ap (λ (any : ℤ). int_min span.start (int_min (least_start children) any)) (least_start-append others second)
+    ∙ least_assoc span.start (least_start children) (least_start others) (least_start second)
 
-pub greatest_stop-append : (f g : Forest) → greatest_stop (append f g) ≡ int_max (greatest_stop f) (greatest_stop g)
-greatest_stop-append empty g = sym (from_least (greatest_stop g) (greatest_in_range g))
-greatest_stop-append (node s c o) g =
-    ap (λ (t : ℤ). int_max s.stop (int_max (greatest_stop c) t)) (greatest_stop-append o g)
-    ∙ greatest_assoc s.stop (greatest_stop c) (greatest_stop o) (greatest_stop g)
+pub greatest_stop-append : (first second : Forest)
+    → greatest_stop (append first second) ≡ int_max (greatest_stop first) (greatest_stop second)
+greatest_stop-append empty second = sym (from_least (greatest_stop second) (greatest_in_range second))
+greatest_stop-append (node span children others) second =
+    ap (λ (any : ℤ). int_max span.stop (int_max (greatest_stop children) any)) (greatest_stop-append others second)
+    ∙ greatest_assoc span.stop (greatest_stop children) (greatest_stop others) (greatest_stop second)
 
 pub IsForest-append : (form : Form) (first second : Forest) → IsForest form first → IsForest form second
     → IsForest form (append first second)

@@ -12,26 +12,26 @@ use Rattle.puffin_data.specs.Forest.Spelling.{spelling, begin_bytes, end_bytes, 
 use Rattle.puffin_data.specs.Forest.Tour.{Event, Open, Close, tour}
 use Rattle.puffin_data.specs.Forest.Words.{word_size, num_begun, open_after, most_open, least_open, greatest_close}
 
-min_assoc : (x y z : ℤ) → int_min x (int_min y z) ≡ int_min (int_min x y) z
-min_assoc x y z = omega (arith, ints, clamps)
+min_assoc : (one other third : ℤ) → int_min one (int_min other third) ≡ int_min (int_min one other) third
+min_assoc one other third = omega (arith, ints, clamps)
 
-max_assoc : (x y z : ℤ) → int_max x (int_max y z) ≡ int_max (int_max x y) z
-max_assoc x y z = omega (arith, ints, clamps)
+max_assoc : (one other third : ℤ) → int_max one (int_max other third) ≡ int_max (int_max one other) third
+max_assoc one other third = omega (arith, ints, clamps)
 
-min_right : (x y bound : ℤ) → y ≤ℤ bound → int_min x y ≤ℤ bound
-min_right x y bound within = omega (arith, ints, clamps)
+min_right : (one other bound : ℤ) → other ≤ℤ bound → int_min one other ≤ℤ bound
+min_right one other bound within = omega (arith, ints, clamps)
 
-max_right : (x y bound : ℤ) → bound ≤ℤ y → bound ≤ℤ int_max x y
-max_right x y bound within = omega (arith, ints, clamps)
+max_right : (one other bound : ℤ) → bound ≤ℤ other → bound ≤ℤ int_max one other
+max_right one other bound within = omega (arith, ints, clamps)
 
-min_over : (y bound : ℤ) → y ≤ℤ bound → int_min bound y ≡ y
-min_over y bound within = omega (arith, ints, clamps)
+min_over : (time bound : ℤ) → time ≤ℤ bound → int_min bound time ≡ time
+min_over time bound within = omega (arith, ints, clamps)
 
-max_over : (y bound : ℤ) → bound ≤ℤ y → int_max bound y ≡ y
-max_over y bound within = omega (arith, ints, clamps)
+max_over : (time bound : ℤ) → bound ≤ℤ time → int_max bound time ≡ time
+max_over time bound within = omega (arith, ints, clamps)
 
-max_swap : (x y z : ℤ) → int_max x (int_max y z) ≡ int_max y (int_max x z)
-max_swap x y z = omega (arith, ints, clamps)
+max_swap : (one other third : ℤ) → int_max one (int_max other third) ≡ int_max other (int_max one third)
+max_swap one other third = omega (arith, ints, clamps)
 
 -- ---- words one after the other
 

@@ -5,4 +5,5 @@ use Rattle.puffin_data.proofs.data.parts.read_counted_part.Goals as goal
 
 pub returns-clause-part : goal.returns-clause-part
 returns-clause-part g c =
-    goes_on (λ v. v.items) c.in_ok-len.len _ _ _ part_length_at part_of c.read_part.result c.in_ok-len.ensures.part c.read_part.ensures.part
+    goes_on (λ bytes. bytes.items) c.in_ok-len.len _ _ _ part_length_at part_of c.read_part.result c.in_ok-len.ensures.part
+    c.read_part.ensures.part

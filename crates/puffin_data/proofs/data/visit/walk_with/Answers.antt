@@ -32,7 +32,7 @@ returns-in_err-scope-clause-err g c =
       more = (g.met.V.Visitor c.lifetimes assumption).takes_more;
       still = (g.met.V.Visitor c.lifetimes assumption).still_stands;
     } in
-    let fits : IsBytes bytes = λ i. omega (arith, c.type_inv.bytes i) in
+    let fits : IsBytes bytes = λ index. omega (arith, c.type_inv.bytes index) in
     let returned = err_from_is_err_and c.from_residual.result c.from_residual.ensures.1 in
     let tried : c.next_scope.new.tries ≡ now.tries + tries_in (region bytes now.at now.region.end) = c.next_scope.ensures.tried in
     let from_here =
@@ -60,7 +60,7 @@ returns-in_err-within-clause-err g c =
       more = (g.met.V.Visitor c.lifetimes assumption).takes_more;
       still = (g.met.V.Visitor c.lifetimes assumption).still_stands;
     } in
-    let fits : IsBytes bytes = λ i. omega (arith, c.type_inv.bytes i) in
+    let fits : IsBytes bytes = λ index. omega (arith, c.type_inv.bytes index) in
     let returned = err_from_is_err_and c.from_residual-in_err-within.result c.from_residual-in_err-within.ensures.1 in
     let begins : get_or part 0 0 ≡ 40 = (passes form part found sound).begins in
     let tried : c.next_scope.new.tries ≡ now.tries + tries_in part = c.next_scope.ensures.tried in
@@ -87,7 +87,7 @@ enter-requires g c κs =
     let bytes = c.args.bytes.now in
     let now = c.scopes in
     let part = region bytes now.at now.region.end in
-    let fits : IsBytes bytes = λ i. omega (arith, c.type_inv.bytes i) in
+    let fits : IsBytes bytes = λ index. omega (arith, c.type_inv.bytes index) in
     let part_fits : IsBytes part = IsBytes-take (now.region.end - now.at) (drop now.at bytes) (IsBytes-drop now.at bytes fits) in
     let spelled = is_spelled form part (found_of c.in_ok-scope.scope) part_fits c.in_ok-scope.ensures.sound in
     ((refl, tt), (now.invariant.stands, (form, spelled.fits)))
@@ -167,7 +167,7 @@ returns-in-None-clause-ok g c =
       more = (g.met.V.Visitor c.lifetimes assumption).takes_more;
       still = (g.met.V.Visitor c.lifetimes assumption).still_stands;
     } in
-    let fits : IsBytes bytes = λ i. omega (arith, c.type_inv.bytes i) in
+    let fits : IsBytes bytes = λ index. omega (arith, c.type_inv.bytes index) in
     let nothing : now.outers.items ≡ [] = nil_from_length now.outers.items (omega (arith, c.in-None.ensures.cases)) in
     let last : now.region.end ≡ length bytes =
     subst (λ (any : List (Region _)). IsNested now.region.end (reverse (ends_of any)) (length bytes)) nothing now.invariant.nested in

@@ -13,6 +13,6 @@ returns-then-rest-len-clause-reads c =
 
 pub returns-clause-reads : goal.returns-clause-reads
 returns-clause-reads c =
-    let bytes : IsBytes c.args.bytes.now = λ i. omega (arith, c.type_inv.bytes i) in
+    let bytes : IsBytes c.args.bytes.now = λ index. omega (arith, c.type_inv.bytes index) in
     let given : bytes_at c.args.bytes.now ≡ Some (c.split_at.result.0.now, c.split_at.result.1.now) = search rules in
     bytes_reader.taken c.args.bytes.now c.split_at.result.0.now c.split_at.result.1.now bytes given

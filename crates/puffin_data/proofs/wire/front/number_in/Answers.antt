@@ -42,7 +42,7 @@ returns-in-empty-clause-reads c =
 
 pub returns-then-first-lt-TWO_BYTES_MARK-clause-reads : goal.returns-then-first-lt-TWO_BYTES_MARK-clause-reads
 returns-then-first-lt-TWO_BYTES_MARK-clause-reads c =
-    let bytes : IsBytes c.args.bytes.now = λ i. omega (arith, c.type_inv.bytes i) in
+    let bytes : IsBytes c.args.bytes.now = λ index. omega (arith, c.type_inv.bytes index) in
     let some : 1 ≤ length c.args.bytes.now = search rules in
     let first = slice_index_or c.args.bytes.now 0 0 in
     let small : first < 251 = search rules in
@@ -52,7 +52,7 @@ returns-then-first-lt-TWO_BYTES_MARK-clause-reads c =
 
 pub returns-then-first-clause-reads : goal.returns-then-first-clause-reads
 returns-then-first-clause-reads c =
-    let bytes : IsBytes c.args.bytes.now = λ i. omega (arith, c.type_inv.bytes i) in
+    let bytes : IsBytes c.args.bytes.now = λ index. omega (arith, c.type_inv.bytes index) in
     let some : 1 ≤ length c.args.bytes.now = search rules in
     let mark : slice_index_or c.args.bytes.now 0 0 ≡ 251 = search rules in
     let reading : number_at c.args.bytes.now ≡ wide_at 2 two_bytes_mark (tail c.args.bytes.now) =
@@ -64,7 +64,7 @@ returns-then-first-clause-reads c =
 
 pub returns-then-first-2-clause-reads : goal.returns-then-first-2-clause-reads
 returns-then-first-2-clause-reads c =
-    let bytes : IsBytes c.args.bytes.now = λ i. omega (arith, c.type_inv.bytes i) in
+    let bytes : IsBytes c.args.bytes.now = λ index. omega (arith, c.type_inv.bytes index) in
     let some : 1 ≤ length c.args.bytes.now = search rules in
     let mark : slice_index_or c.args.bytes.now 0 0 ≡ 252 = search rules in
     let reading : number_at c.args.bytes.now ≡ wide_at 4 (2 ^ 16) (tail c.args.bytes.now) =
@@ -76,7 +76,7 @@ returns-then-first-2-clause-reads c =
 
 pub returns-then-first-3-clause-reads : goal.returns-then-first-3-clause-reads
 returns-then-first-3-clause-reads c =
-    let bytes : IsBytes c.args.bytes.now = λ i. omega (arith, c.type_inv.bytes i) in
+    let bytes : IsBytes c.args.bytes.now = λ index. omega (arith, c.type_inv.bytes index) in
     let some : 1 ≤ length c.args.bytes.now = search rules in
     let mark : slice_index_or c.args.bytes.now 0 0 ≡ 253 = search rules in
     let reading : number_at c.args.bytes.now ≡ wide_at 8 (2 ^ 32) (tail c.args.bytes.now) =

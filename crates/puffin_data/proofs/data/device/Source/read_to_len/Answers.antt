@@ -39,8 +39,8 @@ reads-preserved g c =
         old.0 ++ take count c.read.new.buf,
         ap (take (end + count)) cut
             ∙ there
-            ∙ ap (λ t. take end t ++ take count c.read.new.buf) same
-            ∙ ap (λ t. t ++ take count c.read.new.buf) old.1
+            ∙ ap (λ any. take end any ++ take count c.read.new.buf) same
+            ∙ ap (λ any. any ++ take count c.read.new.buf) old.1
             ∙ append_assoc _ old.0 (take count c.read.new.buf),
         Consumes-trans _ _ _ old.0 (take count c.read.new.buf) old.2 read.bytes.0,
       );
@@ -54,4 +54,4 @@ returns-clause-grown g c =
     let before =
     before_room c.args.bytes.now.items _ c.resize.new.self.items c.len-end.result c.args.len (search rules) c.requires.len
     c.in_ok-resize.ensures.items in
-    (filled.0, sym whole ∙ filled.1 ∙ ap (λ t. t ++ filled.0) before, filled.2)
+    (filled.0, sym whole ∙ filled.1 ∙ ap (λ any. any ++ filled.0) before, filled.2)
