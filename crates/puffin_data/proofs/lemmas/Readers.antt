@@ -58,9 +58,15 @@ reads_layouts fits layout read reader bytes value rest are_bytes =
 
 -- ---- steps
 
+-- the first reading gave something, and the next one gives the value on it
+pub record Binds {A B : Type 0} (first : Option A) (next : A → Option B) (value : B) : Type 0 where
+  pub got : A
+  pub got_is : first ≡ Some got
+  pub next_is : next got ≡ Some value
+
 pub bind_some : {A B : Type 0} (first : Option A) (next : A → Option B) (value : B) → (first >>= next) ≡ Some value
-    → (one : A) × (first ≡ Some one) × (next one ≡ Some value)
-bind_some (Some one) next value is = (one, refl, is)
+    → Binds first next value
+bind_some (Some one) next value is = record { got = one; got_is = refl; next_is = is }
 bind_some None next value is = absurd cc
 
 -- ---- putting together
@@ -75,18 +81,18 @@ pair_reader {A = A} {B = B} first_fits first_layout read_first second_fits secon
       ap (pair_at read_first read_second) (append_assoc (first_layout both.0) (second_layout both.1) rest)
       ∙ rw (first_reader.again both.0 (second_layout both.1 ++ rest) fits.0, second_reader.again both.1 rest fits.1) refl;
   taken = λ bytes both rest are_bytes read.
-      let one = bind_some (read_first bytes) (λ one. read_second one.1 >>= λ other. Some ((one.0, other.0), other.1)) (both, rest) read in
-      let other = bind_some (read_second one.0.1) (λ other. Some ((one.0.0, other.0), other.1)) (both, rest) one.2 in
-      let one_taken = first_reader.taken bytes one.0.0 one.0.1 are_bytes one.1 in
+      let one = bind_some (read_first bytes) (λ got. read_second got.1 >>= λ last. Some ((got.0, last.0), last.1)) (both, rest) read in
+      let other = bind_some (read_second one.got.1) (λ last. Some ((one.got.0, last.0), last.1)) (both, rest) one.next_is in
+      let one_taken = first_reader.taken bytes one.got.0 one.got.1 are_bytes one.got_is in
       let other_taken =
-      second_reader.taken one.0.1 other.0.0 other.0.1 (IsBytes-after bytes (first_layout one.0.0) one.0.1 one_taken.1 are_bytes)
-      other.1 in
-      let made : ((A × B) × List ℕ) = ((one.0.0, other.0.0), other.0.1) in
-      let same : made ≡ (both, rest) = same_Some made (both, rest) other.2 in
-      let text : bytes ≡ (first_layout one.0.0 ++ second_layout other.0.0) ++ other.0.1 =
+      second_reader.taken one.got.1 other.got.0 other.got.1 (IsBytes-after bytes (first_layout one.got.0) one.got.1 one_taken.1 are_bytes)
+      other.got_is in
+      let made : ((A × B) × List ℕ) = ((one.got.0, other.got.0), other.got.1) in
+      let same : made ≡ (both, rest) = same_Some made (both, rest) other.next_is in
+      let text : bytes ≡ (first_layout one.got.0 ++ second_layout other.got.0) ++ other.got.1 =
       one_taken.1
-      ∙ (ap (λ (any : List ℕ). first_layout one.0.0 ++ any) other_taken.1
-      ∙ sym (append_assoc (first_layout one.0.0) (second_layout other.0.0) other.0.1)) in
+      ∙ (ap (λ (any : List ℕ). first_layout one.got.0 ++ any) other_taken.1
+      ∙ sym (append_assoc (first_layout one.got.0) (second_layout other.got.0) other.got.1)) in
       subst (λ (any : (A × B) × List ℕ). (first_fits any.0.0 × second_fits any.0.1)
       × (bytes ≡ (first_layout any.0.0 ++ second_layout any.0.1) ++ any.1)) same ((one_taken.0, other_taken.0), text);
 }
@@ -98,13 +104,13 @@ pub form_reader : {A B : Type 0} (fits : A → Type 0) (layout : A → List ℕ)
 form_reader {A = A} {B = B} fits layout read to from back forth reader = record {
   again = λ value rest value_fits. rw (reader.again (from value) rest value_fits) (ap (λ (any : B). Some (any, rest)) (forth value));
   taken = λ bytes value rest are_bytes read_is.
-      let one = bind_some (read bytes) (λ one. Some (to one.0, one.1)) (value, rest) read_is in
-      let one_taken = reader.taken bytes one.0.0 one.0.1 are_bytes one.1 in
-      let made : (B × List ℕ) = (to one.0.0, one.0.1) in
-      let same : made ≡ (value, rest) = same_Some made (value, rest) one.2 in
-      let P : A → Type 0 = λ (any : A). fits any × (bytes ≡ layout any ++ one.0.1) in
+      let one = bind_some (read bytes) (λ got. Some (to got.0, got.1)) (value, rest) read_is in
+      let one_taken = reader.taken bytes one.got.0 one.got.1 are_bytes one.got_is in
+      let made : (B × List ℕ) = (to one.got.0, one.got.1) in
+      let same : made ≡ (value, rest) = same_Some made (value, rest) one.next_is in
+      let P : A → Type 0 = λ (any : A). fits any × (bytes ≡ layout any ++ one.got.1) in
       subst (λ (any : B × List ℕ). fits (from any.0) × (bytes ≡ layout (from any.0) ++ any.1)) same
-      (subst P (sym (back one.0.0)) one_taken);
+      (subst P (sym (back one.got.0)) one_taken);
 }
 
 -- those values of which a test holds
@@ -113,9 +119,9 @@ pub checked_reader : {A : Type 0} (fits : A → Type 0) (layout : A → List ℕ
 checked_reader {A = A} fits layout read test reader = record {
   again = λ value rest value_fits. rw (reader.again value rest value_fits.0, value_fits.1) refl;
   taken = λ bytes value rest are_bytes read_is.
-      let one = bind_some (read bytes) (λ one. cond (test one.0) (Some one) None) (value, rest) read_is in
-      let tested = cond_some (test one.0.0) one.0 (value, rest) one.2 in
-      let one_taken = reader.taken bytes one.0.0 one.0.1 are_bytes one.1 in
+      let one = bind_some (read bytes) (λ got. cond (test got.0) (Some got) None) (value, rest) read_is in
+      let tested = cond_some (test one.got.0) one.got (value, rest) one.next_is in
+      let one_taken = reader.taken bytes one.got.0 one.got.1 are_bytes one.got_is in
       subst (λ (any : A × List ℕ). (fits any.0 × (test any.0 ≡ true)) × (bytes ≡ layout any.0 ++ any.1)) tested.1
       ((one_taken.0, tested.0), one_taken.1);
 }
@@ -135,11 +141,11 @@ optional-taken {A = A} fits layout read reader (zero ∷ bytes) option rest are_
     subst (λ (any : Option A × List ℕ). IfAny fits any.0 × (0 ∷ bytes ≡ optional layout any.0 ++ any.1))
     (same_Some made (option, rest) read_is) (tt, refl)
 optional-taken {A = A} fits layout read reader (suc zero ∷ bytes) option rest are_bytes read_is =
-    let one = bind_some (read bytes) (λ one. Some (Some one.0, one.1)) (option, rest) read_is in
-    let one_taken = reader.taken bytes one.0.0 one.0.1 (IsBytes-rest 1 bytes are_bytes) one.1 in
-    let made : (Option A × List ℕ) = (Some one.0.0, one.0.1) in
+    let one = bind_some (read bytes) (λ got. Some (Some got.0, got.1)) (option, rest) read_is in
+    let one_taken = reader.taken bytes one.got.0 one.got.1 (IsBytes-rest 1 bytes are_bytes) one.got_is in
+    let made : (Option A × List ℕ) = (Some one.got.0, one.got.1) in
     subst (λ (any : Option A × List ℕ). IfAny fits any.0 × (1 ∷ bytes ≡ optional layout any.0 ++ any.1))
-    (same_Some made (option, rest) one.2) (one_taken.0, ap (λ (any : List ℕ). 1 ∷ any) one_taken.1)
+    (same_Some made (option, rest) one.next_is) (one_taken.0, ap (λ (any : List ℕ). 1 ∷ any) one_taken.1)
 optional-taken fits layout read reader (suc (suc more) ∷ bytes) option rest are_bytes read_is = absurd cc
 
 pub optional_reader : {A : Type 0} (fits : A → Type 0) (layout : A → List ℕ) (read : List ℕ → Option (A × List ℕ))
@@ -169,20 +175,20 @@ times-taken {A = A} fits layout read reader zero bytes values rest are_bytes rea
     (same_Some made (values, rest) read_is) (tt, refl, refl)
 times-taken {A = A} fits layout read reader (suc count) bytes values rest are_bytes read_is =
     let one =
-    bind_some (read bytes) (λ one_taken. times_at read count one_taken.1 >>= λ others. Some (one_taken.0 ∷ others.0, others.1))
+    bind_some (read bytes) (λ got. times_at read count got.1 >>= λ last. Some (got.0 ∷ last.0, last.1))
     (values, rest) read_is in
-    let others = bind_some (times_at read count one.0.1) (λ others. Some (one.0.0 ∷ others.0, others.1)) (values, rest) one.2 in
-    let one_taken = reader.taken bytes one.0.0 one.0.1 are_bytes one.1 in
+    let others = bind_some (times_at read count one.got.1) (λ last. Some (one.got.0 ∷ last.0, last.1)) (values, rest) one.next_is in
+    let one_taken = reader.taken bytes one.got.0 one.got.1 are_bytes one.got_is in
     let others_taken =
-    times-taken fits layout read reader count one.0.1 others.0.0 others.0.1
-    (IsBytes-after bytes (layout one.0.0) one.0.1 one_taken.1 are_bytes) others.1 in
-    let made : (List A × List ℕ) = (one.0.0 ∷ others.0.0, others.0.1) in
-    let text : bytes ≡ (layout one.0.0 ++ flat_map layout others.0.0) ++ others.0.1 =
+    times-taken fits layout read reader count one.got.1 others.got.0 others.got.1
+    (IsBytes-after bytes (layout one.got.0) one.got.1 one_taken.1 are_bytes) others.got_is in
+    let made : (List A × List ℕ) = (one.got.0 ∷ others.got.0, others.got.1) in
+    let text : bytes ≡ (layout one.got.0 ++ flat_map layout others.got.0) ++ others.got.1 =
     one_taken.1
-    ∙ (ap (λ (any : List ℕ). layout one.0.0 ++ any) others_taken.2
-    ∙ sym (append_assoc (layout one.0.0) (flat_map layout others.0.0) others.0.1)) in
+    ∙ (ap (λ (any : List ℕ). layout one.got.0 ++ any) others_taken.2
+    ∙ sym (append_assoc (layout one.got.0) (flat_map layout others.got.0) others.got.1)) in
     subst (λ (any : List A × List ℕ). AllByRecursion fits any.0 × (length any.0 ≡ suc count)
-    × (bytes ≡ flat_map layout any.0 ++ any.1)) (same_Some made (values, rest) others.2)
+    × (bytes ≡ flat_map layout any.0 ++ any.1)) (same_Some made (values, rest) others.next_is)
     ((one_taken.0, others_taken.0), ap suc others_taken.1, text)
 
 pub items_reader : {A : Type 0} (fits : A → Type 0) (layout : A → List ℕ) (read : List ℕ → Option (A × List ℕ))
@@ -198,15 +204,15 @@ items_reader {A = A} fits layout read number_read number_reader reader = record 
       (times-again fits layout read reader values rest values_fit.1);
   taken = λ bytes values rest are_bytes read_is.
       let count_read = bind_some (number_read bytes) (λ count. times_at read count.0 count.1) (values, rest) read_is in
-      let count_taken = number_reader.taken bytes count_read.0.0 count_read.0.1 are_bytes count_read.1 in
+      let count_taken = number_reader.taken bytes count_read.got.0 count_read.got.1 are_bytes count_read.got_is in
       let values_taken =
-      times-taken fits layout read reader count_read.0.0 count_read.0.1 values rest
-      (IsBytes-after bytes (number count_read.0.0) count_read.0.1 count_taken.1 are_bytes) count_read.2 in
+      times-taken fits layout read reader count_read.got.0 count_read.got.1 values rest
+      (IsBytes-after bytes (number count_read.got.0) count_read.got.1 count_taken.1 are_bytes) count_read.next_is in
       let short : length values < 2 ^ 64 = rw values_taken.1 count_taken.0 in
-      let text : bytes ≡ (number count_read.0.0 ++ flat_map layout values) ++ rest =
+      let text : bytes ≡ (number count_read.got.0 ++ flat_map layout values) ++ rest =
       count_taken.1
-      ∙ (ap (λ (any : List ℕ). number count_read.0.0 ++ any) values_taken.2
-      ∙ sym (append_assoc (number count_read.0.0) (flat_map layout values) rest)) in
+      ∙ (ap (λ (any : List ℕ). number count_read.got.0 ++ any) values_taken.2
+      ∙ sym (append_assoc (number count_read.got.0) (flat_map layout values) rest)) in
       ((short, values_taken.0), rw values_taken.1 text);
 }
 
@@ -221,10 +227,10 @@ pub whole_taken : {A : Type 0} (fits : A → Type 0) (layout : A → List ℕ) (
     → IsReader fits layout read → (bytes : List ℕ) (value : A) → IsBytes bytes → whole read bytes ≡ Some value
     → fits value × (bytes ≡ layout value)
 whole_taken {A = A} fits layout read reader bytes value are_bytes read_is =
-    let one = bind_some (read bytes) (λ one. cond (eqb (length one.1) 0) (Some one.0) None) value read_is in
-    let tested = cond_some (eqb (length one.0.1) 0) one.0.0 value one.2 in
-    let one_taken = reader.taken bytes one.0.0 one.0.1 are_bytes one.1 in
-    let nothing_left : one.0.1 ≡ [] = nil_from_length one.0.1 (eqb-true _ _ tested.0) in
-    let text : bytes ≡ layout one.0.0 =
-    one_taken.1 ∙ (ap (λ (any : List ℕ). layout one.0.0 ++ any) nothing_left ∙ append-nil (layout one.0.0)) in
+    let one = bind_some (read bytes) (λ got. cond (eqb (length got.1) 0) (Some got.0) None) value read_is in
+    let tested = cond_some (eqb (length one.got.1) 0) one.got.0 value one.next_is in
+    let one_taken = reader.taken bytes one.got.0 one.got.1 are_bytes one.got_is in
+    let nothing_left : one.got.1 ≡ [] = nil_from_length one.got.1 (eqb-true _ _ tested.0) in
+    let text : bytes ≡ layout one.got.0 =
+    one_taken.1 ∙ (ap (λ (any : List ℕ). layout one.got.0 ++ any) nothing_left ∙ append-nil (layout one.got.0)) in
     subst (λ (any : A). fits any × (bytes ≡ layout any)) tested.1 (one_taken.0, text)
