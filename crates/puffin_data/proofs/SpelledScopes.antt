@@ -1,15 +1,14 @@
 -- In the spelling of a forest a walk meets its scopes, in their order.
-use Rattle.std.proofs.Common.{◌≡◌, ℕ, ◌+◌, ◌-◌, ◌≤◌, ◌<◌, ◌^◌, List, [], ◌∷◌, ◌++◌, length, take, drop, refl, ap, subst, ◌∙◌, arith}
+use Rattle.std.proofs.Common.{◌≡◌, ℕ, ◌+◌, ◌≤◌, ◌<◌, ◌^◌, List, [], ◌∷◌, ◌++◌, length, refl, ap, subst, ◌∙◌, arith}
 use Rattle.puffin_data.specs.declared.data.form.Form.{Form}
 use Rattle.puffin_data.specs.Forest.{Span, Forest, empty, node, IsForest}
 use Rattle.puffin_data.specs.Forest.Spelling.{spelling, Spells}
-use Rattle.puffin_data.specs.Walk.Reading.{FoundScope, reading}
+use Rattle.puffin_data.specs.Walk.Reading.{FoundScope}
 use Rattle.puffin_data.specs.Walk.{region}
 use Rattle.puffin_data.specs.Walk.PlacedScopes.{ScopeInContext, nested_in, PlacedScope, Sees, no_scope, one_scope, scopes_of}
-use Rattle.puffin_data.proofs.Again.{found_at, reads_again}
-use Rattle.puffin_data.proofs.Regions.{length-region, part_of_region, rest_of_region, whole_region, nothing_is_not_sound, one_sound}
-use Rattle.puffin_data.proofs.Resuming.{found_places}
-use Rattle.puffin_data.proofs.lemmas.Unique.{long, children_at, rest_at}
+use Rattle.puffin_data.proofs.Again.{found_at}
+use Rattle.puffin_data.proofs.Regions.{whole_region, nothing_is_not_sound, one_sound}
+use Rattle.puffin_data.proofs.lemmas.Unique.{parts_of}
 use Rattle.puffin_data.proofs.WalkedOver.{same_scopes}
 
 -- by induction over the forest: its first scope is read again, so it is the first that is seen
@@ -21,46 +20,23 @@ placed_of form empty bytes around begin end placed fits ordered bounded small is
     (one_scope {found = found} sound sees_inner sees_later) =
     absurd (nothing_is_not_sound form (region bytes begin end) found is sound)
 placed_of form (node span children others) bytes around begin end placed fits ordered bounded small is (no_scope none) =
-    absurd (none (found_at form span (length (spelling form children)))
-    (ap (reading form) is ∙ reads_again form span (spelling form children) (spelling form others) fits.0
-    (omega (
-      arith,
-      long form span (spelling form children) (spelling form others),
-      ap length is,
-      length-region bytes begin end bounded,
-    ))))
+    let parts = parts_of form span children others bytes begin end fits.0 ordered bounded small is in
+    absurd (none (found_at form span (length (spelling form children))) parts.reads)
 placed_of form (node span children others) bytes around begin end placed fits ordered bounded small is
     (one_scope {found = found} {inner = inner_placed} {later = later_placed} sound sees_inner sees_later) =
+    let parts = parts_of form span children others bytes begin end fits.0 ordered bounded small is in
+    let places = parts.places in
     let spelled = found_at form span (length (spelling form children)) in
-    let reads =
-    ap (reading form) is
-    ∙ reads_again form span (spelling form children) (spelling form others) fits.0
-    (omega (
-      arith,
-      long form span (spelling form children) (spelling form others),
-      ap length is,
-      length-region bytes begin end bounded,
-    )) in
-    let places = found_places form bytes begin end spelled reads ordered bounded in
-    let same : found ≡ spelled = one_sound form (region bytes begin end) found spelled sound reads in
-    let size : spelled.child_end - spelled.child_begin ≡ length (spelling form children) = omega arith in
-    let inner : region bytes (begin + spelled.child_begin) (begin + spelled.child_end) ≡ spelling form children =
-    part_of_region bytes begin end spelled.child_begin spelled.child_end places.inside (omega (arith, places))
-    ∙ ap (λ (any : ℕ). take any (drop spelled.child_begin (region bytes begin end))) size
-    ∙ ap (λ (any : List ℕ). take (length (spelling form children)) (drop spelled.child_begin any)) is
-    ∙ children_at form span (spelling form children) (spelling form others) in
-    let later : region bytes (begin + spelled.next_sibling) end ≡ spelling form others =
-    rest_of_region bytes begin end spelled.next_sibling (omega (arith, places))
-    ∙ ap (drop spelled.next_sibling) is
-    ∙ rest_at form span (spelling form children) (spelling form others) in
+    let same : found ≡ spelled = one_sound form (region bytes begin end) found spelled sound parts.reads in
     let of_inner =
     placed_of form children bytes (around ++ (span ∷ [])) (begin + spelled.child_begin) (begin + spelled.child_end) inner_placed
-    fits.1 (omega arith) (omega (arith, places)) small inner
+    fits.1 (omega arith) (omega (arith, places)) small parts.inner
     (subst (λ (any : FoundScope). Sees form bytes (around ++ (any.span ∷ [])) (begin + any.child_begin) (begin + any.child_end)
     inner_placed) same sees_inner) in
     let of_later =
     placed_of form others bytes around (begin + spelled.next_sibling) end later_placed fits.2 (omega (arith, places)) bounded
-    small later (subst (λ (any : FoundScope). Sees form bytes around (begin + any.next_sibling) end later_placed) same sees_later) in
+    small parts.later
+    (subst (λ (any : FoundScope). Sees form bytes around (begin + any.next_sibling) end later_placed) same sees_later) in
     same_scopes (record { place = begin; scope = record { around = around; span = found.span } }) inner_placed later_placed _ _
     of_inner of_later
     ∙ ap (λ (any : FoundScope). let first : ScopeInContext = record { around = around; span = any.span } in first

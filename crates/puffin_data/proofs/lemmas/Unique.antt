@@ -6,12 +6,13 @@ use Rattle.puffin_data.proofs.lemmas.Lengths.{layout_size}
 use Rattle.puffin_data.specs.Text.Lengths.{length_layout}
 use Rattle.puffin_data.specs.declared.data.form.Form.{Form}
 use Rattle.puffin_data.specs.declared.error.Error.{Error}
-use Rattle.puffin_data.specs.Forest.{Span, Forest, empty, node, append, IsForest}
+use Rattle.puffin_data.specs.Forest.{Span, Forest, empty, node, append, IsSpan, IsForest}
 use Rattle.puffin_data.specs.Forest.Spelling.{spelling, begin_bytes, end_bytes, head_size}
 use Rattle.puffin_data.specs.Walk.Reading.{FoundScope, reading}
-use Rattle.puffin_data.specs.Walk.{region, IsFaultAt, Reaches, here, child, sibling}
+use Rattle.puffin_data.specs.Walk.{region, IsSoundAt, IsFaultAt, Reaches, here, child, sibling}
 use Rattle.puffin_data.proofs.Again.{found_at, reads_again}
 use Rattle.puffin_data.proofs.Regions.{length-region, part_of_region, rest_of_region, sound_is_no_fault, nothing_is_no_fault, nothing_is_not_sound, one_sound}
+use Rattle.puffin_data.proofs.FoundScope.{Places}
 use Rattle.puffin_data.proofs.Resuming.{found_places}
 
 -- the spelling of two forests one after the other
@@ -81,6 +82,39 @@ long form span inner more =
       (layout_size form (length span.text)).least,
     )
 
+-- a region that spells a forest has the forest's first scope at its front, and spells the children and the others where these begin
+pub record Parts (form : Form) (found : FoundScope) (children others : Forest) (bytes : List ℕ) (begin end : ℕ) : Type 0 where
+  pub reads : IsSoundAt form bytes begin end found
+  pub places : Places (end - begin) found
+  pub inner : region bytes (begin + found.child_begin) (begin + found.child_end) ≡ spelling form children
+  pub later : region bytes (begin + found.next_sibling) end ≡ spelling form others
+
+pub parts_of : (form : Form) (span : Span) (children others : Forest) (bytes : List ℕ) (begin end : ℕ) → IsSpan form span
+    → begin ≤ end → end ≤ length bytes → length bytes < 2 ^ 64 → region bytes begin end ≡ spelling form (node span children others)
+    → Parts form (found_at form span (length (spelling form children))) children others bytes begin end
+parts_of form span children others bytes begin end fits ordered bounded small is =
+    let inner = spelling form children in
+    let later = spelling form others in
+    let found = found_at form span (length inner) in
+    let short : length inner < 2 ^ 64 - 1 =
+    omega (arith, long form span inner later, ap length is, length-region bytes begin end bounded) in
+    let reads = ap (reading form) is ∙ reads_again form span inner later fits short in
+    let places = found_places form bytes begin end found reads ordered bounded in
+    let size : found.child_end - found.child_begin ≡ length inner = omega arith in
+    record {
+      reads = reads;
+      places = places;
+      inner =
+          part_of_region bytes begin end found.child_begin found.child_end places.inside (omega (arith, places))
+          ∙ ap (λ (any : ℕ). take any (drop found.child_begin (region bytes begin end))) size
+          ∙ ap (λ (any : List ℕ). take (length inner) (drop found.child_begin any)) is
+          ∙ children_at form span inner later;
+      later =
+          rest_of_region bytes begin end found.next_sibling (omega (arith, places))
+          ∙ ap (drop found.next_sibling) is
+          ∙ rest_at form span inner later;
+    }
+
 -- No fault is met in a spelling: by induction over the forest, since its first scope is read again and the way goes on from there.
 pub faultless : (form : Form) (forest : Forest) (bytes : List ℕ) (begin end to to_end : ℕ) (fault : Error) → IsForest form forest
     → begin ≤ end → end ≤ length bytes → length bytes < 2 ^ 64 → region bytes begin end ≡ spelling form forest
@@ -92,57 +126,26 @@ faultless form empty bytes begin end to to_end fault fits ordered bounded small 
 faultless form empty bytes begin end to to_end fault fits ordered bounded small is (sibling {found = other_found} sound reach) at =
     nothing_is_not_sound form (region bytes begin end) other_found is sound
 faultless form (node span children others) bytes begin end to to_end fault fits ordered bounded small is here at =
-    sound_is_no_fault form (region bytes begin end) (found_at form span (length (spelling form children))) fault
-    (ap (reading form) is ∙ reads_again form span (spelling form children) (spelling form others) fits.0
-    (omega (
-      arith,
-      long form span (spelling form children) (spelling form others),
-      ap length is,
-      length-region bytes begin end bounded,
-    ))) at
+    let parts = parts_of form span children others bytes begin end fits.0 ordered bounded small is in
+    sound_is_no_fault form (region bytes begin end) (found_at form span (length (spelling form children))) fault parts.reads at
 faultless form (node span children others) bytes begin end to to_end fault fits ordered bounded small is
     (child {found = other_found} sound reach) at =
-    let reads =
-    ap (reading form) is
-    ∙ reads_again form span (spelling form children) (spelling form others) fits.0
-    (omega (
-      arith,
-      long form span (spelling form children) (spelling form others),
-      ap length is,
-      length-region bytes begin end bounded,
-    )) in
-    let spelled = found_at form span (length (spelling form children)) in
-    let places = found_places form bytes begin end spelled reads ordered bounded in
-    let size : spelled.child_end - spelled.child_begin ≡ length (spelling form children) = omega arith in
-    let inner : region bytes (begin + spelled.child_begin) (begin + spelled.child_end) ≡ spelling form children =
-    part_of_region bytes begin end spelled.child_begin spelled.child_end places.inside (omega (arith, places))
-    ∙ ap (λ (any : ℕ). take any (drop spelled.child_begin (region bytes begin end))) size
-    ∙ ap (λ (any : List ℕ). take (length (spelling form children)) (drop spelled.child_begin any)) is
-    ∙ children_at form span (spelling form children) (spelling form others) in
-    faultless form children bytes (begin + spelled.child_begin) (begin + spelled.child_end) to to_end fault fits.1 (omega arith)
-    (omega (arith, places)) small inner
+    let parts = parts_of form span children others bytes begin end fits.0 ordered bounded small is in
+    let found = found_at form span (length (spelling form children)) in
+    let places = parts.places in
+    faultless form children bytes (begin + found.child_begin) (begin + found.child_end) to to_end fault fits.1 (omega arith)
+    (omega (arith, places)) small parts.inner
     (subst (λ (any : FoundScope). Reaches form bytes (begin + any.child_begin) (begin + any.child_end) to to_end)
-    (one_sound form (region bytes begin end) other_found spelled sound reads) reach) at
+    (one_sound form (region bytes begin end) other_found found sound parts.reads) reach) at
 faultless form (node span children others) bytes begin end to to_end fault fits ordered bounded small is
     (sibling {found = other_found} sound reach) at =
-    let reads =
-    ap (reading form) is
-    ∙ reads_again form span (spelling form children) (spelling form others) fits.0
-    (omega (
-      arith,
-      long form span (spelling form children) (spelling form others),
-      ap length is,
-      length-region bytes begin end bounded,
-    )) in
-    let spelled = found_at form span (length (spelling form children)) in
-    let places = found_places form bytes begin end spelled reads ordered bounded in
-    let later : region bytes (begin + spelled.next_sibling) end ≡ spelling form others =
-    rest_of_region bytes begin end spelled.next_sibling (omega (arith, places))
-    ∙ ap (drop spelled.next_sibling) is
-    ∙ rest_at form span (spelling form children) (spelling form others) in
-    faultless form others bytes (begin + spelled.next_sibling) end to to_end fault fits.2 (omega (arith, places)) bounded small later
+    let parts = parts_of form span children others bytes begin end fits.0 ordered bounded small is in
+    let found = found_at form span (length (spelling form children)) in
+    let places = parts.places in
+    faultless form others bytes (begin + found.next_sibling) end to to_end fault fits.2 (omega (arith, places)) bounded small
+    parts.later
     (subst (λ (any : FoundScope). Reaches form bytes (begin + any.next_sibling) end to to_end)
-    (one_sound form (region bytes begin end) other_found spelled sound reads) reach) at
+    (one_sound form (region bytes begin end) other_found found sound parts.reads) reach) at
 
 same_node : (span other_span : Span) (children other_children others other_others : Forest) → span ≡ other_span
     → children ≡ other_children → others ≡ other_others → node span children others ≡ node other_span other_children other_others
