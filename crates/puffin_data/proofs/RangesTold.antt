@@ -54,26 +54,30 @@ fault_inside form bytes place end fault ordered at =
           (subst (λ (any : ℕ). region bytes place any ≡ []) same (empty_region bytes place)) at)
     ]
 
+-- whether a place counts as a try is told by its byte
+pub tries_at : (bytes : List ℕ) (place end : ℕ) → place < end
+    → tries_in (region bytes place end) ≡ cond {A = ℕ} (eqb (get_or bytes place 0) 40) 1 0
+tries_at bytes place end inside =
+    let same : get_or (region bytes place end) 0 0 ≡ get_or bytes place 0 =
+    get_or-take (end - place) (drop place bytes) 0 0 (omega (arith, inside))
+    ∙ get_or-drop place bytes 0 0
+    ∙ ap (λ (any : ℕ). get_or bytes any 0) (omega arith) in
+    ap (λ (byte : ℕ). cond (eqb byte 40) 1 0) same
+
 -- a walk that stopped met the first fault, or memory ran out
 pub told_fault : (form : Form) (bytes : List ℕ) (tries : ℕ) (fault : Error) → IsBytes bytes → StopsShort form bytes tries fault
     → (fault ≡ Memory) ⊎ Refuses form bytes fault tries
 told_fault form bytes tries fault fits (inl memory) = inl memory
-told_fault form bytes tries fault fits (inr stopped) =
-    let stop = stopped_at form bytes 0 no_scope_counted 0 (length bytes) _ fits (omega arith) (omega arith) stopped.1 in
-    let lies = between form bytes 0 (length bytes) stopped.0 stop.end (omega arith) (omega arith) stop.reached in
-    let inside = fault_inside form bytes stopped.0 stop.end fault lies.middle stop.stands in
-    let first : get_or (region bytes stopped.0 stop.end) 0 0 ≡ get_or bytes stopped.0 0 =
-    get_or-take (stop.end - stopped.0) (drop stopped.0 bytes) 0 0 (omega (arith, inside))
-    ∙ get_or-drop stopped.0 bytes 0 0
-    ∙ ap (λ (any : ℕ). get_or bytes any 0) (omega arith) in
-    let last : tries_in (region bytes stopped.0 stop.end) ≡ cond {A = ℕ} (eqb (get_or bytes stopped.0 0) 40) 1 0 =
-    ap (λ (byte : ℕ). cond (eqb byte 40) 1 0) first in
+told_fault form bytes tries fault fits (inr (place, walks)) =
+    let stop = stopped_at form bytes 0 no_scope_counted 0 (length bytes) _ fits (omega arith) (omega arith) walks in
+    let lies = between form bytes 0 (length bytes) place stop.end (omega arith) (omega arith) stop.reached in
+    let inside = fault_inside form bytes place stop.end fault lies.middle stop.stands in
     inr (record {
-      place = stopped.0;
+      place = place;
       first = record { end = stop.end; reached = stop.reached; stands = stop.stands; least = stop.least };
       sounds = stop.places;
       are_sounds = stop.sounds;
-      number = omega (arith, stop.tries, last);
+      number = omega (arith, stop.tries, tries_at bytes place stop.end inside);
     })
 
 -- where the bytes spell a forest, the walk doesn't stop at a fault
@@ -86,9 +90,9 @@ told_only form bytes tries (Ok walk) fits small walked forest spells =
     (same_forest form told.0 forest told.1.fits spells.fits (omega (arith, ap length told.1.whole)) (sym told.1.whole ∙ spells.whole))
     told.2
 told_only form bytes tries (Err cause) fits small (inl memory) forest spells = memory
-told_only form bytes tries (Err cause) fits small (inr stopped) forest spells =
-    let stop = stopped_at form bytes 0 no_scope_counted 0 (length bytes) _ fits (omega arith) (omega arith) stopped.1 in
-    absurd (faultless form forest bytes 0 (length bytes) stopped.0 stop.end cause spells.fits (omega arith) (omega arith) small
+told_only form bytes tries (Err cause) fits small (inr (place, walks)) forest spells =
+    let stop = stopped_at form bytes 0 no_scope_counted 0 (length bytes) _ fits (omega arith) (omega arith) walks in
+    absurd (faultless form forest bytes 0 (length bytes) place stop.end cause spells.fits (omega arith) (omega arith) small
     (whole_region bytes ∙ spells.whole) stop.reached stop.stands)
 
 -- ---- the same for what the walk of some bytes gave, at bytes that are equal to these

@@ -1,6 +1,6 @@
 -- What a walk with a visitor comes to, by induction over how it went.
-use Rattle.std.proofs.Common.{◌≡◌, ℕ, ◌+◌, ◌-◌, ◌≤◌, List, [], ◌∷◌, ◌++◌, length, drop, map, refl, sym, ap, subst, ◌∙◌, arith, append_assoc, get_or, cond, eqb}
-use Rattle.std.proofs.lemmas.List.{length-append, get_or-take, get_or-drop}
+use Rattle.std.proofs.Common.{◌≡◌, ℕ, ◌+◌, ◌-◌, ◌≤◌, List, [], ◌∷◌, ◌++◌, length, map, refl, sym, ap, subst, ◌∙◌, arith, append_assoc}
+use Rattle.std.proofs.lemmas.List.{length-append}
 use Rattle.puffin_data.specs.declared.data.form.Form.{Form}
 use Rattle.puffin_data.specs.declared.error.Error.{Error}
 use Rattle.puffin_data.specs.Forest.{Span}
@@ -13,8 +13,8 @@ use Rattle.puffin_data.proofs.Resuming.{found_places}
 use Rattle.puffin_data.proofs.Regions.{whole_region, sound_is_no_fault, between}
 use Rattle.puffin_data.proofs.FirstFaults.{by_parts}
 use Rattle.puffin_data.proofs.ScopesSeen.{placed_in, before-first, all_before, none_before}
-use Rattle.puffin_data.proofs.RangesTold.{fault_inside}
-use Rattle.puffin_data.proofs.Going.{over_all, at_fault, at_refusal, Goes, ends, meets_fault, is_refused, stops_within, goes_on}
+use Rattle.puffin_data.proofs.RangesTold.{fault_inside, tries_at}
+use Rattle.puffin_data.proofs.Going.{over_all, at_fault, at_refusal, Goes, meets_fault, is_refused, stops_within, goes_on}
 use Rattle.puffin_data.proofs.WalkedOver.{VisitorLaws, placed_at, taken_more, still_after, walks_over}
 
 -- ---- a walk that meets a fault
@@ -282,19 +282,13 @@ stops_at_fault form refuses laws bytes within old new tries place fault fits sta
     goes in
     let lies = between form bytes 0 (length bytes) place met.end (omega arith) (omega arith) met.reached in
     let inside = fault_inside form bytes place met.end fault lies.middle met.stands in
-    let first : get_or (region bytes place met.end) 0 0 ≡ get_or bytes place 0 =
-    get_or-take (met.end - place) (drop place bytes) 0 0 (omega (arith, inside))
-    ∙ get_or-drop place bytes 0 0
-    ∙ ap (λ (any : ℕ). get_or bytes any 0) (omega arith) in
-    let last : tries_in (region bytes place met.end) ≡ cond {A = ℕ} (eqb (get_or bytes place 0) 40) 1 0 =
-    ap (λ (byte : ℕ). cond (eqb byte 40) 1 0) first in
     record {
       place = place;
       first = record { end = met.end; reached = met.reached; stands = met.stands; least = met.least };
       placed = met.placed;
       sees = met.sees;
       taken = met.taken;
-      tries = omega (arith, met.tries, last);
+      tries = omega (arith, met.tries, tries_at bytes place met.end inside);
     }
 
 pub stops_at_refusal : (form : Form)

@@ -3,6 +3,7 @@
 ghost use Rattle.std.specs.Prelude.{◌≡◌, ◌++◌, ◌<◌, ◌≤◌, ℕ, List, None, Err, IsSome, IfOk, IfErr, OnOk, length};
 ghost use Rattle.std.specs.Io.KnownBytes.{Consumes, IsAtEnd};
 ghost use Rattle.puffin_data.specs.Device.{IsOutside};
+ghost use Rattle.puffin_data.specs.inner.Appending.{AppendsTaken};
 
 use crate::data::device::Source;
 use crate::file_error::FileError;
@@ -17,11 +18,8 @@ fn append_lent<B: BufRead>(
     most: usize,
     last: &mut Option<io::Error>,
 ) -> Result<usize, FileError>
-    ensures grown { IfOk result (λ count.
-        (taken : List ℕ)
-        × (bytes.new.items ≡ bytes.old.items ++ taken)
-        × Consumes (B.remaining reader.old) (B.remaining reader.new) taken
-        × (length taken ≡ count)) }
+    ensures grown { IfOk result (AppendsTaken bytes.old.items bytes.new.items
+        (B.remaining reader.old) (B.remaining reader.new)) }
     ensures most { IfOk result (λ count. count ≤ most) }
     ensures outside { IfErr result IsOutside }
     ensures told { (result ≡ Err FileError.Io) → IsSome last.new }
@@ -46,11 +44,8 @@ fn append_byte<R: Read>(
     bytes: &mut Vec<u8>,
     last: &mut Option<io::Error>,
 ) -> Result<usize, FileError>
-    ensures grown { IfOk result (λ count.
-        (taken : List ℕ)
-        × (bytes.new.items ≡ bytes.old.items ++ taken)
-        × Consumes (R.remaining reader.old) (R.remaining reader.new) taken
-        × (length taken ≡ count)) }
+    ensures grown { IfOk result (AppendsTaken bytes.old.items bytes.new.items
+        (R.remaining reader.old) (R.remaining reader.new)) }
     ensures most { IfOk result (λ count. count ≤ 1) }
     ensures end { IfOk result (λ count. count ≡ 0 → IsAtEnd (R.remaining reader.new)) }
     ensures outside { IfErr result IsOutside }
