@@ -83,16 +83,19 @@ pair_reader {A = A} {B = B} first_fits first_layout read_first second_fits secon
   taken = λ bytes both rest are_bytes read.
       let one = bind_some (read_first bytes) (λ got. read_second got.1 >>= λ last. Some ((got.0, last.0), last.1)) (both, rest) read in
       let other = bind_some (read_second one.got.1) (λ last. Some ((one.got.0, last.0), last.1)) (both, rest) one.next_is in
-      let one_taken = first_reader.taken bytes one.got.0 one.got.1 are_bytes one.got_is in
+      let first = one.got.0 in
+      let left = one.got.1 in
+      let second = other.got.0 in
+      let after = other.got.1 in
+      let one_taken = first_reader.taken bytes first left are_bytes one.got_is in
       let other_taken =
-      second_reader.taken one.got.1 other.got.0 other.got.1 (IsBytes-after bytes (first_layout one.got.0) one.got.1 one_taken.1 are_bytes)
-      other.got_is in
-      let made : ((A × B) × List ℕ) = ((one.got.0, other.got.0), other.got.1) in
+      second_reader.taken left second after (IsBytes-after bytes (first_layout first) left one_taken.1 are_bytes) other.got_is in
+      let made : ((A × B) × List ℕ) = ((first, second), after) in
       let same : made ≡ (both, rest) = same_Some made (both, rest) other.next_is in
-      let text : bytes ≡ (first_layout one.got.0 ++ second_layout other.got.0) ++ other.got.1 =
+      let text : bytes ≡ (first_layout first ++ second_layout second) ++ after =
       one_taken.1
-      ∙ (ap (λ (any : List ℕ). first_layout one.got.0 ++ any) other_taken.1
-      ∙ sym (append_assoc (first_layout one.got.0) (second_layout other.got.0) other.got.1)) in
+      ∙ (ap (λ (any : List ℕ). first_layout first ++ any) other_taken.1
+      ∙ sym (append_assoc (first_layout first) (second_layout second) after)) in
       subst (λ (any : (A × B) × List ℕ). (first_fits any.0.0 × second_fits any.0.1)
       × (bytes ≡ (first_layout any.0.0 ++ second_layout any.0.1) ++ any.1)) same ((one_taken.0, other_taken.0), text);
 }
@@ -105,12 +108,14 @@ form_reader {A = A} {B = B} fits layout read to from back forth reader = record 
   again = λ value rest value_fits. rw (reader.again (from value) rest value_fits) (ap (λ (any : B). Some (any, rest)) (forth value));
   taken = λ bytes value rest are_bytes read_is.
       let one = bind_some (read bytes) (λ got. Some (to got.0, got.1)) (value, rest) read_is in
-      let one_taken = reader.taken bytes one.got.0 one.got.1 are_bytes one.got_is in
-      let made : (B × List ℕ) = (to one.got.0, one.got.1) in
+      let inner = one.got.0 in
+      let after = one.got.1 in
+      let one_taken = reader.taken bytes inner after are_bytes one.got_is in
+      let made : (B × List ℕ) = (to inner, after) in
       let same : made ≡ (value, rest) = same_Some made (value, rest) one.next_is in
-      let P : A → Type 0 = λ (any : A). fits any × (bytes ≡ layout any ++ one.got.1) in
+      let P : A → Type 0 = λ (any : A). fits any × (bytes ≡ layout any ++ after) in
       subst (λ (any : B × List ℕ). fits (from any.0) × (bytes ≡ layout (from any.0) ++ any.1)) same
-      (subst P (sym (back one.got.0)) one_taken);
+      (subst P (sym (back inner)) one_taken);
 }
 
 -- those values of which a test holds
@@ -142,8 +147,10 @@ optional-taken {A = A} fits layout read reader (zero ∷ bytes) option rest are_
     (same_Some made (option, rest) read_is) (tt, refl)
 optional-taken {A = A} fits layout read reader (suc zero ∷ bytes) option rest are_bytes read_is =
     let one = bind_some (read bytes) (λ got. Some (Some got.0, got.1)) (option, rest) read_is in
-    let one_taken = reader.taken bytes one.got.0 one.got.1 (IsBytes-rest 1 bytes are_bytes) one.got_is in
-    let made : (Option A × List ℕ) = (Some one.got.0, one.got.1) in
+    let inner = one.got.0 in
+    let after = one.got.1 in
+    let one_taken = reader.taken bytes inner after (IsBytes-rest 1 bytes are_bytes) one.got_is in
+    let made : (Option A × List ℕ) = (Some inner, after) in
     subst (λ (any : Option A × List ℕ). IfAny fits any.0 × (1 ∷ bytes ≡ optional layout any.0 ++ any.1))
     (same_Some made (option, rest) one.next_is) (one_taken.0, ap (λ (any : List ℕ). 1 ∷ any) one_taken.1)
 optional-taken fits layout read reader (suc (suc more) ∷ bytes) option rest are_bytes read_is = absurd cc
@@ -174,19 +181,20 @@ times-taken {A = A} fits layout read reader zero bytes values rest are_bytes rea
     subst (λ (any : List A × List ℕ). AllByRecursion fits any.0 × (length any.0 ≡ 0) × (bytes ≡ flat_map layout any.0 ++ any.1))
     (same_Some made (values, rest) read_is) (tt, refl, refl)
 times-taken {A = A} fits layout read reader (suc count) bytes values rest are_bytes read_is =
-    let one =
-    bind_some (read bytes) (λ got. times_at read count got.1 >>= λ last. Some (got.0 ∷ last.0, last.1))
-    (values, rest) read_is in
+    let one = bind_some (read bytes) (λ got. times_at read count got.1 >>= λ last. Some (got.0 ∷ last.0, last.1)) (values, rest) read_is in
     let others = bind_some (times_at read count one.got.1) (λ last. Some (one.got.0 ∷ last.0, last.1)) (values, rest) one.next_is in
-    let one_taken = reader.taken bytes one.got.0 one.got.1 are_bytes one.got_is in
+    let first = one.got.0 in
+    let left = one.got.1 in
+    let more = others.got.0 in
+    let after = others.got.1 in
+    let one_taken = reader.taken bytes first left are_bytes one.got_is in
     let others_taken =
-    times-taken fits layout read reader count one.got.1 others.got.0 others.got.1
-    (IsBytes-after bytes (layout one.got.0) one.got.1 one_taken.1 are_bytes) others.got_is in
-    let made : (List A × List ℕ) = (one.got.0 ∷ others.got.0, others.got.1) in
-    let text : bytes ≡ (layout one.got.0 ++ flat_map layout others.got.0) ++ others.got.1 =
+    times-taken fits layout read reader count left more after (IsBytes-after bytes (layout first) left one_taken.1 are_bytes)
+    others.got_is in
+    let made : (List A × List ℕ) = (first ∷ more, after) in
+    let text : bytes ≡ (layout first ++ flat_map layout more) ++ after =
     one_taken.1
-    ∙ (ap (λ (any : List ℕ). layout one.got.0 ++ any) others_taken.2
-    ∙ sym (append_assoc (layout one.got.0) (flat_map layout others.got.0) others.got.1)) in
+    ∙ (ap (λ (any : List ℕ). layout first ++ any) others_taken.2 ∙ sym (append_assoc (layout first) (flat_map layout more) after)) in
     subst (λ (any : List A × List ℕ). AllByRecursion fits any.0 × (length any.0 ≡ suc count)
     × (bytes ≡ flat_map layout any.0 ++ any.1)) (same_Some made (values, rest) others.next_is)
     ((one_taken.0, others_taken.0), ap suc others_taken.1, text)
@@ -204,15 +212,17 @@ items_reader {A = A} fits layout read number_read number_reader reader = record 
       (times-again fits layout read reader values rest values_fit.1);
   taken = λ bytes values rest are_bytes read_is.
       let count_read = bind_some (number_read bytes) (λ count. times_at read count.0 count.1) (values, rest) read_is in
-      let count_taken = number_reader.taken bytes count_read.got.0 count_read.got.1 are_bytes count_read.got_is in
+      let count = count_read.got.0 in
+      let left = count_read.got.1 in
+      let count_taken = number_reader.taken bytes count left are_bytes count_read.got_is in
       let values_taken =
-      times-taken fits layout read reader count_read.got.0 count_read.got.1 values rest
-      (IsBytes-after bytes (number count_read.got.0) count_read.got.1 count_taken.1 are_bytes) count_read.next_is in
+      times-taken fits layout read reader count left values rest (IsBytes-after bytes (number count) left count_taken.1 are_bytes)
+      count_read.next_is in
       let short : length values < 2 ^ 64 = rw values_taken.1 count_taken.0 in
-      let text : bytes ≡ (number count_read.got.0 ++ flat_map layout values) ++ rest =
+      let text : bytes ≡ (number count ++ flat_map layout values) ++ rest =
       count_taken.1
-      ∙ (ap (λ (any : List ℕ). number count_read.got.0 ++ any) values_taken.2
-      ∙ sym (append_assoc (number count_read.got.0) (flat_map layout values) rest)) in
+      ∙ (ap (λ (any : List ℕ). number count ++ any) values_taken.2
+      ∙ sym (append_assoc (number count) (flat_map layout values) rest)) in
       ((short, values_taken.0), rw values_taken.1 text);
 }
 
@@ -228,9 +238,10 @@ pub whole_taken : {A : Type 0} (fits : A → Type 0) (layout : A → List ℕ) (
     → fits value × (bytes ≡ layout value)
 whole_taken {A = A} fits layout read reader bytes value are_bytes read_is =
     let one = bind_some (read bytes) (λ got. cond (eqb (length got.1) 0) (Some got.0) None) value read_is in
-    let tested = cond_some (eqb (length one.got.1) 0) one.got.0 value one.next_is in
-    let one_taken = reader.taken bytes one.got.0 one.got.1 are_bytes one.got_is in
-    let nothing_left : one.got.1 ≡ [] = nil_from_length one.got.1 (eqb-true _ _ tested.0) in
-    let text : bytes ≡ layout one.got.0 =
-    one_taken.1 ∙ (ap (λ (any : List ℕ). layout one.got.0 ++ any) nothing_left ∙ append-nil (layout one.got.0)) in
+    let inner = one.got.0 in
+    let after = one.got.1 in
+    let tested = cond_some (eqb (length after) 0) inner value one.next_is in
+    let one_taken = reader.taken bytes inner after are_bytes one.got_is in
+    let nothing_left : after ≡ [] = nil_from_length after (eqb-true _ _ tested.0) in
+    let text : bytes ≡ layout inner = one_taken.1 ∙ (ap (λ (any : List ℕ). layout inner ++ any) nothing_left ∙ append-nil (layout inner)) in
     subst (λ (any : A). fits any × (bytes ≡ layout any)) tested.1 (one_taken.0, text)

@@ -297,22 +297,25 @@ bytes_reader = record {
       ap bytes_at (append_assoc (number (length text)) text rest)
       ∙ rw (number-again (length text) (text ++ rest) fits.0) (split-again text rest);
   taken = λ bytes text rest are_bytes read_is.
-      let count_read = bind_some (number_at bytes) (λ count. split_after count.0 count.1) (text, rest) read_is in
-      let count_taken = number-taken bytes count_read.got.0 count_read.got.1 are_bytes count_read.got_is in
-      let after : IsBytes count_read.got.1 = IsBytes-after bytes (number count_read.got.0) count_read.got.1 count_taken.1 are_bytes in
-      let long_enough =
-      guarded (ltb (length count_read.got.1) count_read.got.0)
-      (Some (take count_read.got.0 count_read.got.1, drop count_read.got.0 count_read.got.1)) (text, rest) count_read.next_is in
-      let made : (List ℕ × List ℕ) = (take count_read.got.0 count_read.got.1, drop count_read.got.0 count_read.got.1) in
-      let long : count_read.got.0 ≤ length count_read.got.1 = ltb-false _ _ long_enough.0 in
-      let size : length (take count_read.got.0 count_read.got.1) ≡ count_read.got.0 = omega (arith, length-take count_read.got.0 count_read.got.1) in
-      let short : length (take count_read.got.0 count_read.got.1) < 2 ^ 64 = rw size count_taken.0 in
-      let body : bytes ≡ block (take count_read.got.0 count_read.got.1) ++ drop count_read.got.0 count_read.got.1 =
-      count_taken.1 ∙ (ap (λ (any : List ℕ). number count_read.got.0 ++ any) (sym (take-append-drop count_read.got.0 count_read.got.1))
-      ∙ (sym (append_assoc (number count_read.got.0) (take count_read.got.0 count_read.got.1) (drop count_read.got.0 count_read.got.1))
-      ∙ ap (λ (any : ℕ). (number any ++ take count_read.got.0 count_read.got.1) ++ drop count_read.got.0 count_read.got.1) (sym size))) in
-      subst (λ (any : List ℕ × List ℕ). IsBlock any.0 × (bytes ≡ block any.0 ++ any.1)) (same_Some made (text, rest) long_enough.1)
-      ((short, IsBytes-take count_read.got.0 count_read.got.1 after), body);
+      let counted = bind_some (number_at bytes) (λ count. split_after count.0 count.1) (text, rest) read_is in
+      let count = counted.got.0 in
+      let left = counted.got.1 in
+      let front = take count left in
+      let behind = drop count left in
+      let count_taken = number-taken bytes count left are_bytes counted.got_is in
+      let left_bytes : IsBytes left = IsBytes-after bytes (number count) left count_taken.1 are_bytes in
+      let tested = guarded (ltb (length left) count) (Some (front, behind)) (text, rest) counted.next_is in
+      let made : (List ℕ × List ℕ) = (front, behind) in
+      let long : count ≤ length left = ltb-false _ _ tested.0 in
+      let size : length front ≡ count = omega (arith, length-take count left) in
+      let short : length front < 2 ^ 64 = rw size count_taken.0 in
+      let body : bytes ≡ block front ++ behind =
+      count_taken.1
+      ∙ (ap (λ (any : List ℕ). number count ++ any) (sym (take-append-drop count left))
+      ∙ (sym (append_assoc (number count) front behind)
+      ∙ ap (λ (any : ℕ). (number any ++ front) ++ behind) (sym size))) in
+      subst (λ (any : List ℕ × List ℕ). IsBlock any.0 × (bytes ≡ block any.0 ++ any.1)) (same_Some made (text, rest) tested.1)
+      ((short, IsBytes-take count left left_bytes), body);
 }
 
 pub text_reader : IsReader IsText block text_at
