@@ -143,7 +143,8 @@ pub fn tour_measures()
         greatest_close (tour forest) ≡ greatest_stop forest }
 {}
 
-/// How a word's measures change when a scope opens.
+/// Appending an `Open` to a word adds the size of the scope's beginning, one scope and one open scope. The least start becomes the
+/// scope's if that is less; the greatest stop stays.
 pub fn opening_measures()
     ensures size { (form : Form) (word : List Event) (id : ℕ) (text : List ℕ) (start : ℤ) →
         word_size form (word ++ (Open id text start ∷ []))
@@ -162,7 +163,8 @@ pub fn opening_measures()
         greatest_close (word ++ (Open id text start ∷ [])) ≡ greatest_close word }
 {}
 
-/// How a word's measures change when a scope closes.
+/// Appending a `Close` to a word adds the size of a scope's end, and takes one open scope away. The greatest stop becomes this stop
+/// if that is greater; the other measures stay.
 pub fn closing_measures()
     ensures size { (form : Form) (word : List Event) (stop : ℤ) →
         word_size form (word ++ (Close stop ∷ [])) ≡ word_size form word + end_size }
@@ -192,9 +194,9 @@ pub fn cut_texts()
         All (λ item. item < 256) (cut_text form text) }
 {}
 
-/// How the bytes and the word of a stream with open scopes change when a scope begins and when the innermost one ends, where the
-/// size of the innermost scope's children is, and what stands there until it ends. If no scope is open, the stream spells a
-/// forest whose tour is the word.
+/// Beginning a scope appends its beginning to a stream's bytes, and an `Open` to its word. Ending the innermost open scope
+/// overwrites the size of its children, and appends its end and a `Close`. Until then, the size is the number that it was begun
+/// with. If no scope is open, the stream spells a forest whose tour is the word.
 pub fn open_streams()
     ensures begins { (form : Form) (open_scopes : List Opened) (closed : Forest)
         (id : ℕ) (start : ℤ) (text : List ℕ) (size : ℕ) →

@@ -122,8 +122,7 @@ extended info first second first_forest second_forest form_is not_unlike bytes_a
           record {
             num_scopes = num_is ∙ joined.counts.num_scopes;
             depth = depth_is ∙ joined.counts.depth;
-            least_start = start_is
-                ∙ joined.counts.least_start;
+            least_start = start_is ∙ joined.counts.least_start;
             greatest_stop = stop_is ∙ joined.counts.greatest_stop;
           };
     }

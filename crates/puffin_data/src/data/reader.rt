@@ -31,7 +31,8 @@ pub fn text_of(stored: &[u8]) -> &str
     }
 }
 
-/// Converts a scope found at offset `at` into a `Scope`, whose positions are offsets into the stream.
+/// Converts a scope found at offset `at` into a `Scope`, whose positions are offsets into the stream. The scope must have an id,
+/// and its duration must fit `i64`.
 fn to_scope<'s>(at: usize, found: &RawScope<'s>) -> Scope<'s>
     requires id { 0 < found.now.id }
     requires fits { FitsSigned w64 (found.now.stop -ℤ found.now.start) }

@@ -70,7 +70,7 @@ pub(crate) fn size_at(region: &[u8], place: usize) -> u64
 }
 
 /// Reads the scope at the front of a region, once its id and its text's length are known to be sound. The text must be at these
-/// offsets.
+/// offsets. Fails with the first fault of the size, the children's end and the times.
 #[inline(always)]
 #[tactic(auto, unfolding(crate::specs::Walk::Reading::sized_reading, crate::specs::Walk::Reading::found_in, crate::specs::Walk::Reading::size_in))]
 fn scope_with_text(
@@ -105,6 +105,7 @@ fn scope_with_text(
     if region.len() - child_end < END_SIZE {
         return Err(Error::PrematureEnd);
     }
+    // The start is behind the first byte and the id's four.
     let start = time_at(region, 5);
     let stop = time_at(region, child_end + 1);
     if !is_valid_range((start, stop)) {
@@ -122,7 +123,7 @@ fn scope_with_text(
 }
 
 /// Reads the scope at the front of a region, once its id is known to be sound. The region must contain at least the id, the
-/// start and the first byte of the text's length.
+/// start and the first byte of the text's length. Fails with a fault of that length, and as [`scope_with_text`] does.
 #[inline(always)]
 fn scope_with_id(form: Form, region: &[u8]) -> Result<Option<RawScope<'_>>>
     requires { FRONT_SIZE + 1 ≤ length region.now }
@@ -134,7 +135,8 @@ fn scope_with_id(form: Form, region: &[u8]) -> Result<Option<RawScope<'_>>>
     scope_with_text(form, region, text_begin, text_begin + text_size)
 }
 
-/// Reads the scope at the front of a region. Returns `None` if the region is empty or begins with a byte other than `(`.
+/// Reads the scope at the front of a region. Returns `None` if the region is empty or begins with a byte other than `(`. Fails
+/// with the scope's fault: `PrematureEnd`, `InvalidStream` or `ScopeNeverEnded`.
 #[inline(always)]
 #[tactic(auto, unfolding(crate::specs::Walk::Reading::reading))]
 pub(crate) fn scope_in(form: Form, region: &[u8]) -> Result<Option<RawScope<'_>>>
