@@ -1,5 +1,5 @@
 -- Worked examples, computed. Bytes stand as the characters of a text: `(` for 0x28, `\u{c8}` for 0xc8.
-use Rattle.std.proofs.Common.{◌≡◌, ℕ, ◌+◌, ◌<◌, List, [], ◌∷◌, ◌++◌, length, pos, negsuc, refl, sym, ap, ◌∙◌, arith, None, Some, Ok, Err, inl, inr}
+use Rattle.std.proofs.Common.{◌≡◌, ℕ, ◌<◌, List, [], ◌∷◌, ◌++◌, length, pos, negsuc, refl, sym, ap, ◌∙◌, arith, None, Some, Ok, Err, inl, inr}
 use Rattle.std.specs.Prelude.{codes}
 use Rattle.std.proofs.lemmas.Int.{ints}
 use Rattle.std.proofs.lemmas.List.Elements.{All-from_recursion}
