@@ -1,5 +1,5 @@
 -- Worked examples, computed. Bytes stand as the characters of a text: `(` for 0x28, `\u{c8}` for 0xc8.
-use Rattle.std.proofs.Common.{◌≡◌, ℕ, ◌+◌, ◌<◌, ◌≤◌, List, [], ◌∷◌, ◌++◌, length, pos, negsuc, refl, sym, ap, subst, ◌∙◌, arith, None, Some, Ok, Err, inl, inr}
+use Rattle.std.proofs.Common.{◌≡◌, ℕ, ◌<◌, List, [], ◌∷◌, ◌++◌, length, pos, negsuc, refl, sym, ap, ◌∙◌, arith, None, Some, Ok, Err, inl, inr}
 use Rattle.std.specs.Prelude.{codes}
 use Rattle.std.proofs.lemmas.Int.{ints}
 use Rattle.std.proofs.lemmas.List.Elements.{All-from_recursion}
@@ -12,7 +12,8 @@ use Rattle.puffin_data.specs.Forest.Measures.{scope_count, height, least_start, 
 use Rattle.puffin_data.specs.Forest.Spelling.{spelling, begin_bytes, end_bytes}
 use Rattle.puffin_data.specs.Walk.Reading.{FoundScope, reading, sized_reading, found_in, id_in, time_in, size_in}
 use Rattle.puffin_data.specs.Walk.{region, IsSoundAt, IsFaultAt, Reaches, here, child, sibling, IsFirstFault, no_more, one_more, Refuses}
-use Rattle.puffin_data.proofs.Regions.{whole_region, between, one_sound, sound_is_no_fault, nothing_is_no_fault, nothing_is_not_sound, ok_is_not_err}
+use Rattle.puffin_data.proofs.FirstFaults.{by_parts}
+use Rattle.puffin_data.proofs.Regions.{whole_region, between, nothing_is_no_fault, nothing_is_not_sound, ok_is_not_err}
 
 -- ---- no scope
 
@@ -114,18 +115,24 @@ start_of_three = refl
 stop_of_three : greatest_stop three ≡ pos 400
 stop_of_three = refl
 
-read_three : reading Short three_bytes ≡ Ok (Some (record { span = record { id = 1; start = pos 100; stop = pos 400; text = codes "data_top" }; child_begin = 30; child_end = 118; next_sibling = 127 }))
+read_three :
+    reading Short three_bytes ≡ Ok (Some (record {
+      span = record { id = 1; start = pos 100; stop = pos 400; text = codes "data_top" };
+      child_begin = 30;
+      child_end = 118;
+      next_sibling = 127;
+    }))
 unfolding reading found_in id_in time_in size_in length_at sized_reading
 read_three = refl
 
 -- ---- faults at the first byte
 
 at_once : (bytes : List ℕ) (fault : Error) → reading Short bytes ≡ Err fault → IsFirstFault Short bytes 0 fault
-at_once bytes fault e = record {
+at_once bytes fault read = record {
   end = length bytes;
   reached = here;
-  stands = inl (ap (reading Short) (whole_region bytes) ∙ e);
-  least = λ p e other r at. omega arith;
+  stands = inl (ap (reading Short) (whole_region bytes) ∙ read);
+  least = λ place end other reach at. omega arith;
 }
 
 -- begun at 100 and not ended
@@ -155,15 +162,6 @@ reversed = at_once _ _ refl
 
 -- ---- faults behind a sound scope
 
--- a fault that is reached behind a sound scope, is reached from its children or from its next sibling
-parts : (bytes : List ℕ) (p e q f place : ℕ) (s : FoundScope) (fault : Error) → IsSoundAt Short bytes p e s
-    → (Reaches Short bytes (p + s.child_begin) (p + s.child_end) q f → place ≤ q) → (Reaches Short bytes (p + s.next_sibling) e q f → place ≤ q) → Reaches Short bytes p e q f → IsFaultAt Short bytes q f fault → place ≤ q
-parts bytes p e q f place s fault sound inner later here at = absurd (sound_is_no_fault Short (region bytes p e) s fault sound at)
-parts bytes p e q f place s fault sound inner later (child {s = t} other r) at =
-    inner (subst (λ (x : FoundScope). Reaches Short bytes (p + x.child_begin) (p + x.child_end) q f) (one_sound Short (region bytes p e) t s other sound) r)
-parts bytes p e q f place s fault sound inner later (sibling {s = t} other r) at =
-    later (subst (λ (x : FoundScope). Reaches Short bytes (p + x.next_sibling) e q f) (one_sound Short (region bytes p e) t s other sound) r)
-
 -- one scope, and a byte left over
 abbrev longer : List ℕ
 longer = one_bytes ++ (0 ∷ [])
@@ -177,25 +175,30 @@ unfolding reading length_at sized_reading
 longer_rest = refl
 
 -- no fault stands among no children
-no_children : (q f : ℕ) (fault : Error) → Reaches Short longer 26 26 q f → IsFaultAt Short longer q f fault → ⊥
-no_children q f fault here at = nothing_is_no_fault Short [] fault refl at
-no_children q f fault (child {s = s} sound r) at = nothing_is_not_sound Short [] s refl sound
-no_children q f fault (sibling {s = s} sound r) at = nothing_is_not_sound Short [] s refl sound
+no_children : (to to_end : ℕ) (fault : Error) → Reaches Short longer 26 26 to to_end → IsFaultAt Short longer to to_end fault → ⊥
+no_children to to_end fault here at = nothing_is_no_fault Short [] fault refl at
+no_children to to_end fault (child {found = found} sound reach) at = nothing_is_not_sound Short [] found refl sound
+no_children to to_end fault (sibling {found = found} sound reach) at = nothing_is_not_sound Short [] found refl sound
 
 left_over : IsFirstFault Short longer 35 InvalidStream
 left_over = record {
   end = 36;
   reached = sibling longer_sound here;
   stands = inr (omega arith, longer_rest, refl);
-  least = λ q f other r at. parts longer 0 36 q f 35 one_found other longer_sound (λ x. absurd (no_children q f other x at)) (λ x. (between Short longer 35 36 q f (omega arith) (omega arith) x).low) r at;
+  least =
+      λ to to_end other reach at. by_parts Short longer 0 36 to to_end 35 one_found other longer_sound
+      (λ way. absurd (no_children to to_end other way at))
+      (λ way. (between Short longer 35 36 to to_end (omega arith) (omega arith) way).low) reach at;
 }
 
 -- A scope of 62 bytes, whose children end at 53. The child in it claims to end at 75.
 abbrev past : List ℕ
-past = codes "(\u{1}\0\0\0\0\0\0\0\0\0\0\0\0\u{1f}\0\0\0\0\0\0\0(\u{2}\0\0\0\0\0\0\0\0\0\0\0\0\u{1f}\0\0\0\0\0\0\0)\0\0\0\0\0\0\0\0)\0\0\0\0\0\0\0\0"
+past =
+    codes "(\u{1}\0\0\0\0\0\0\0\0\0\0\0\0\u{1f}\0\0\0\0\0\0\0(\u{2}\0\0\0\0\0\0\0\0\0\0\0\0\u{1f}\0\0\0\0\0\0\0)\0\0\0\0\0\0\0\0)\0\0\0\0\0\0\0\0"
 
 abbrev past_found : FoundScope
-past_found = record { span = record { id = 1; start = pos 0; stop = pos 0; text = [] }; child_begin = 22; child_end = 53; next_sibling = 62 }
+past_found =
+    record { span = record { id = 1; start = pos 0; stop = pos 0; text = [] }; child_begin = 22; child_end = 53; next_sibling = 62 }
 
 past_size : length past ≡ 62
 past_size = refl
@@ -213,7 +216,10 @@ past_first = record {
   end = 53;
   reached = child past_sound here;
   stands = inl past_child;
-  least = λ q f other r at. parts past 0 62 q f 22 past_found other past_sound (λ x. (between Short past 22 53 q f (omega arith) (omega arith) x).low) (λ x. omega (arith, (between Short past 62 62 q f (omega arith) (omega arith) x).low)) r at;
+  least =
+      λ to to_end other reach at. by_parts Short past 0 62 to to_end 22 past_found other past_sound
+      (λ way. (between Short past 22 53 to to_end (omega arith) (omega arith) way).low)
+      (λ way. omega (arith, (between Short past 62 62 to to_end (omega arith) (omega arith) way).low)) reach at;
 }
 
 -- the two tries are the sound scope at 0 and the reading at 22
@@ -222,6 +228,9 @@ past_refused = record {
   place = 22;
   first = past_first;
   sounds = 0 ∷ [];
-  are_sounds = one_more {s = past_found} {inner = []} {later = []} past_sound (no_more (λ s sound. ok_is_not_err (Some s) PrematureEnd (sym sound ∙ past_child))) (no_more (λ s sound. nothing_is_not_sound Short [] s refl sound));
+  are_sounds =
+      one_more {found = past_found} {inner = []} {later = []} past_sound
+      (no_more (λ found sound. ok_is_not_err (Some found) PrematureEnd (sym sound ∙ past_child)))
+      (no_more (λ found sound. nothing_is_not_sound Short [] found refl sound));
   number = refl;
 }

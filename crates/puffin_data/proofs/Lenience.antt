@@ -18,62 +18,79 @@ use Rattle.puffin_data.proofs.Regions.{empty_region, nothing_is_no_fault}
 use Rattle.puffin_data.proofs.Resuming.{found_places}
 
 pub text_in-whole : (stored : List ℕ) → IsUtf8 stored → stored ≡ text_in stored
-text_in-whole stored utf8 = sym (ap (λ (n : ℕ). take n stored) (utf8_valid_len-IsUtf8 stored utf8) ∙ take_all (length stored) stored (omega arith))
+text_in-whole stored utf8 =
+    sym (ap (λ (any : ℕ). take any stored) (utf8_valid_len-IsUtf8 stored utf8) ∙ take_all (length stored) stored (omega arith))
 
-record Measured (s : FoundScope) : Type 0 where
-  id : 0 < s.span.id
-  fits : FitsSigned w64 (s.span.stop -ℤ s.span.start)
+-- a scope has an id, and its duration fits i64
+record HasSoundFields (found : FoundScope) : Type 0 where
+  id : 0 < found.span.id
+  fits : FitsSigned w64 (found.span.stop -ℤ found.span.start)
 
-measured : (form : Form) (region : List ℕ) (s : FoundScope) → reading form region ≡ Ok (Some s) → Measured s
+sound_fields : (form : Form) (region : List ℕ) (found : FoundScope) → reading form region ≡ Ok (Some found) → HasSoundFields found
 unfolding found_in
-measured form region s e =
-    let t = passes form region s e in
-    subst Measured t.is (record { id = t.id; fits = t.fits })
+sound_fields form region found read =
+    let passed = passes form region found read in
+    subst HasSoundFields passed.is (record { id = passed.id; fits = passed.fits })
 
--- what the telling of a sound scope asks
-pub record CanBeTold (p size : ℕ) (s : FoundScope) : Type 0 where
-  pub id : 0 < s.span.id
-  pub fits : FitsSigned w64 (s.span.stop -ℤ s.span.start)
-  pub begins : s.child_begin ≤ s.child_end
-  pub ends : s.child_end ≤ s.next_sibling
-  pub within : p + s.next_sibling ≤ size
+-- what `to_scope` requires of a scope that was found
+pub record IsConvertible (place size : ℕ) (found : FoundScope) : Type 0 where
+  pub id : 0 < found.span.id
+  pub fits : FitsSigned w64 (found.span.stop -ℤ found.span.start)
+  pub begins : found.child_begin ≤ found.child_end
+  pub ends : found.child_end ≤ found.next_sibling
+  pub within : place + found.next_sibling ≤ size
 
-pub can_be_told : (form : Form) (bytes : List ℕ) (p e : ℕ) (s : FoundScope) → p ≤ e → e ≤ length bytes → IsSoundAt form bytes p e s → CanBeTold p e s
-can_be_told form bytes p e s low high sound =
-    let m = measured form (region bytes p e) s sound in
-    let at = found_places form bytes p e s sound low high in
-    record { id = m.id; fits = m.fits; begins = at.inside; ends = omega (arith, at.next); within = omega (arith, at.fits) }
+pub is_convertible : (form : Form) (bytes : List ℕ) (place end : ℕ) (found : FoundScope) → place ≤ end → end ≤ length bytes
+    → IsSoundAt form bytes place end found → IsConvertible place end found
+is_convertible form bytes place end found low high sound =
+    let both = sound_fields form (region bytes place end) found sound in
+    let places = found_places form bytes place end found sound low high in
+    record {
+      id = both.id;
+      fits = both.fits;
+      begins = places.inside;
+      ends = omega (arith, places.next);
+      within = omega
+          (arith, places.fits);
+    }
 
--- the same of the code's reading
-pub found_told : (form : Form) (bytes : List ℕ) (p e : ℕ) (seen_there : Option RawScope) (found : RawScope) → p ≤ e → e ≤ length bytes → reading_of (Ok seen_there) ≡ reading form (region bytes p e) → seen_there ≡ Some found → CanBeTold p e (found_of found)
-found_told form bytes p e seen_there found low high read is =
-    can_be_told form bytes p e (found_of found) low high (sym read ∙ ap (λ (o : Option RawScope). reading_of (Ok o)) is)
+-- it is so for what the code found
+pub found_is_convertible : (form : Form) (bytes : List ℕ) (place end : ℕ) (seen_there : Option RawScope) (found : RawScope) → place ≤ end
+    → end ≤ length bytes → reading_of (Ok seen_there) ≡ reading form (region bytes place end) → seen_there ≡ Some found
+    → IsConvertible place end (found_of found)
+found_is_convertible form bytes place end seen_there found low high read is =
+    is_convertible form bytes place end (found_of found) low high (sym read ∙ ap (λ (any : Option RawScope). reading_of (Ok any)) is)
 
 -- a scope that was read is a sound one
-pub sound_from : (p : ℕ) (x : Result (Option FoundScope) Error) (r : ReadScope) → read_from p x ≡ Ok (Some r) → (s : FoundScope) × (x ≡ Ok (Some s)) × (r ≡ read_scope p s)
-sound_from p (Ok None) r e = absurd cc
-sound_from p (Ok (Some s)) r e = (s, refl, cc)
-sound_from p (Err fault) r e = absurd cc
+pub sound_from : (place : ℕ) (read : Result (Option FoundScope) Error) (scope : ReadScope) → read_from place read ≡ Ok (Some scope)
+    → (found : FoundScope) × (read ≡ Ok (Some found)) × (scope ≡ read_scope place found)
+sound_from place (Ok None) scope is = absurd cc
+sound_from place (Ok (Some found)) scope is = (found, refl, cc)
+sound_from place (Err fault) scope is = absurd cc
 
-pub fault_from : (p : ℕ) (x : Result (Option FoundScope) Error) (fault : Error) → read_from p x ≡ Err fault → x ≡ Err fault
-fault_from p (Ok None) fault e = absurd cc
-fault_from p (Ok (Some s)) fault e = absurd cc
-fault_from p (Err other) fault e = cc
+pub fault_from : (place : ℕ) (read : Result (Option FoundScope) Error) (fault : Error) → read_from place read ≡ Err fault → read ≡ Err fault
+fault_from place (Ok None) fault is = absurd cc
+fault_from place (Ok (Some found)) fault is = absurd cc
+fault_from place (Err other) fault is = cc
 
 -- the next sibling stands behind the scope, and no further than the end
-pub next_within : (form : Form) (bytes : List ℕ) (p e : ℕ) (r : ReadScope) → p ≤ e → e ≤ length bytes → scope_read form bytes p e ≡ Ok (Some r) → (p < r.next_sibling) × (r.next_sibling ≤ e)
-next_within form bytes p e r low high read =
-    let s = sound_from p (reading form (region bytes p e)) r read in
-    let at = found_places form bytes p e s.0 s.1 low high in
-    let next : r.next_sibling ≡ p + s.0.next_sibling = ap (λ (x : ReadScope). x.next_sibling) s.2 in
-    (omega (arith, at.head, at.inside, at.next, next), omega (arith, at.fits, next))
+pub next_within : (form : Form) (bytes : List ℕ) (place end : ℕ) (scope : ReadScope) → place ≤ end → end ≤ length bytes
+    → scope_read form bytes place end ≡ Ok (Some scope) → (place < scope.next_sibling) × (scope.next_sibling ≤ end)
+next_within form bytes place end scope low high read =
+    let sound = sound_from place (reading form (region bytes place end)) scope read in
+    let places = found_places form bytes place end sound.0 sound.1 low high in
+    let next : scope.next_sibling ≡ place + sound.0.next_sibling = ap (λ (any : ReadScope). any.next_sibling) sound.2 in
+    (omega (arith, places.head, places.inside, places.next, next), omega (arith, places.fits, next))
 
 -- a fault stands before the end
-pub fault_within : (form : Form) (bytes : List ℕ) (p e : ℕ) (fault : Error) → p ≤ e → scope_read form bytes p e ≡ Err fault → p < e
-fault_within form bytes p e fault low read =
-    elim (cases_lt p e) [
+pub fault_within : (form : Form) (bytes : List ℕ) (place end : ℕ) (fault : Error) → place ≤ end
+    → scope_read form bytes place end ≡ Err fault → place < end
+fault_within form bytes place end fault low read =
+    elim (cases_lt place end) [
       | inl lt ↦ lt
       | inr le ↦
-          let same : p ≡ e = omega arith in
-          absurd (nothing_is_no_fault form (region bytes p e) fault (subst (λ (n : ℕ). region bytes p n ≡ []) same (empty_region bytes p)) (inl (fault_from p (reading form (region bytes p e)) fault read)))
+          let same : place ≡ end = omega arith in
+          absurd (nothing_is_no_fault form (region bytes place end) fault
+          (subst (λ (any : ℕ). region bytes place any ≡ []) same (empty_region bytes place))
+          (inl (fault_from place (reading form (region bytes place end)) fault read)))
     ]

@@ -17,6 +17,7 @@ mod OneReading
 mod TopScopes
 mod ScopesSeen
 mod Going
+mod WalkedOver
 mod Visited
 mod SpelledScopes
 mod Causes

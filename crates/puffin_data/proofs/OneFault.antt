@@ -7,61 +7,92 @@ use Rattle.puffin_data.specs.Walk.{region, IsFaultAt, Reaches, here, child, sibl
 use Rattle.puffin_data.proofs.Resuming.{found_places}
 use Rattle.puffin_data.proofs.Regions.{between, one_sound, ok_is_not_err, Answer}
 
-only_here : (form : Form) (bytes : List ℕ) (p e q g : ℕ) → p ≤ e → e ≤ length bytes → Reaches form bytes p e q g → q ≡ p → e ≡ g
-only_here form bytes p e q g h k here same = refl
-only_here form bytes p e q g h k (child {s = t} sound b) same =
-    let at = found_places form bytes p e t sound h k in
-    let z = between form bytes (p + t.child_begin) (p + t.child_end) q g (omega (arith, at)) (omega (arith, at)) b in
-    absurd (omega (arith, at, z))
-only_here form bytes p e q g h k (sibling {s = t} sound b) same =
-    let at = found_places form bytes p e t sound h k in
-    let z = between form bytes (p + t.next_sibling) e q g (omega (arith, at)) k b in
-    absurd (omega (arith, at, z))
+-- a place is reached again from itself with its own end only: children and siblings begin behind it
+only_here : (form : Form) (bytes : List ℕ) (place end to to_end : ℕ) → place ≤ end → end ≤ length bytes
+    → Reaches form bytes place end to to_end → to ≡ place → end ≡ to_end
+only_here form bytes place end to to_end ordered bounded here same = refl
+only_here form bytes place end to to_end ordered bounded (child {found = found} sound reach) same =
+    let at = found_places form bytes place end found sound ordered bounded in
+    let inside =
+    between form bytes (place + found.child_begin) (place + found.child_end) to to_end (omega (arith, at)) (omega (arith, at))
+    reach in
+    absurd (omega (arith, at, inside))
+only_here form bytes place end to to_end ordered bounded (sibling {found = found} sound reach) same =
+    let at = found_places form bytes place end found sound ordered bounded in
+    let inside = between form bytes (place + found.next_sibling) end to to_end (omega (arith, at)) bounded reach in
+    absurd (omega (arith, at, inside))
 
-pub one_end : (form : Form) (bytes : List ℕ) (p e q f g : ℕ) → p ≤ e → e ≤ length bytes → Reaches form bytes p e q f → Reaches form bytes p e q g → f ≡ g
-one_end form bytes p e q f g h k here b = only_here form bytes p e p g h k b refl
-one_end form bytes p e q f g h k (child {s = s} sound a) here =
-    let at = found_places form bytes p e s sound h k in
-    let z = between form bytes (p + s.child_begin) (p + s.child_end) q f (omega (arith, at)) (omega (arith, at)) a in
-    absurd (omega (arith, at, z))
-one_end form bytes p e q f g h k (sibling {s = s} sound a) here =
-    let at = found_places form bytes p e s sound h k in
-    let z = between form bytes (p + s.next_sibling) e q f (omega (arith, at)) k a in
-    absurd (omega (arith, at, z))
-one_end form bytes p e q f g h k (child {s = s} sound a) (child {s = t} other b) =
-    let at = found_places form bytes p e s sound h k in
-    one_end form bytes (p + s.child_begin) (p + s.child_end) q f g (omega (arith, at)) (omega (arith, at)) a (subst (λ (x : FoundScope). Reaches form bytes (p + x.child_begin) (p + x.child_end) q g) (one_sound form (region bytes p e) t s other sound) b)
-one_end form bytes p e q f g h k (sibling {s = s} sound a) (sibling {s = t} other b) =
-    let at = found_places form bytes p e s sound h k in
-    one_end form bytes (p + s.next_sibling) e q f g (omega (arith, at)) k a (subst (λ (x : FoundScope). Reaches form bytes (p + x.next_sibling) e q g) (one_sound form (region bytes p e) t s other sound) b)
-one_end form bytes p e q f g h k (child {s = s} sound a) (sibling {s = t} other b) =
-    let at = found_places form bytes p e s sound h k in
-    let b' = subst (λ (x : FoundScope). Reaches form bytes (p + x.next_sibling) e q g) (one_sound form (region bytes p e) t s other sound) b in
-    let y = between form bytes (p + s.child_begin) (p + s.child_end) q f (omega (arith, at)) (omega (arith, at)) a in
-    let z = between form bytes (p + s.next_sibling) e q g (omega (arith, at)) k b' in
-    absurd (omega (arith, at, y, z))
-one_end form bytes p e q f g h k (sibling {s = s} sound a) (child {s = t} other b) =
-    let at = found_places form bytes p e s sound h k in
-    let b' = subst (λ (x : FoundScope). Reaches form bytes (p + x.child_begin) (p + x.child_end) q g) (one_sound form (region bytes p e) t s other sound) b in
-    let y = between form bytes (p + s.child_begin) (p + s.child_end) q g (omega (arith, at)) (omega (arith, at)) b' in
-    let z = between form bytes (p + s.next_sibling) e q f (omega (arith, at)) k a in
-    absurd (omega (arith, at, y, z))
+-- Two ways to one place have one end: both go to the children, or both to the next sibling, since these lie apart.
+pub one_end : (form : Form) (bytes : List ℕ) (place end to to_end other_end : ℕ) → place ≤ end → end ≤ length bytes
+    → Reaches form bytes place end to to_end → Reaches form bytes place end to other_end → to_end ≡ other_end
+one_end form bytes place end to to_end other_end ordered bounded here other_reach =
+    only_here form bytes place end place other_end ordered bounded other_reach refl
+one_end form bytes place end to to_end other_end ordered bounded (child {found = found} sound reach) here =
+    let at = found_places form bytes place end found sound ordered bounded in
+    let inside =
+    between form bytes (place + found.child_begin) (place + found.child_end) to to_end (omega (arith, at)) (omega (arith, at))
+    reach in
+    absurd (omega (arith, at, inside))
+one_end form bytes place end to to_end other_end ordered bounded (sibling {found = found} sound reach) here =
+    let at = found_places form bytes place end found sound ordered bounded in
+    let inside = between form bytes (place + found.next_sibling) end to to_end (omega (arith, at)) bounded reach in
+    absurd (omega (arith, at, inside))
+one_end form bytes place end to to_end other_end ordered bounded (child {found = found} sound reach)
+    (child {found = other_found} other_sound other_reach) =
+    let at = found_places form bytes place end found sound ordered bounded in
+    one_end form bytes (place + found.child_begin) (place + found.child_end) to to_end other_end (omega (arith, at))
+    (omega (arith, at)) reach (subst
+    (λ (any : FoundScope). Reaches form bytes (place + any.child_begin) (place + any.child_end) to other_end)
+    (one_sound form (region bytes place end) other_found found other_sound sound) other_reach)
+one_end form bytes place end to to_end other_end ordered bounded (sibling {found = found} sound reach)
+    (sibling {found = other_found} other_sound other_reach) =
+    let at = found_places form bytes place end found sound ordered bounded in
+    one_end form bytes (place + found.next_sibling) end to to_end other_end (omega (arith, at)) bounded reach
+    (subst (λ (any : FoundScope). Reaches form bytes (place + any.next_sibling) end to other_end)
+    (one_sound form (region bytes place end) other_found found other_sound sound) other_reach)
+one_end form bytes place end to to_end other_end ordered bounded (child {found = found} sound reach)
+    (sibling {found = other_found} other_sound other_reach) =
+    let at = found_places form bytes place end found sound ordered bounded in
+    let again =
+    subst (λ (any : FoundScope). Reaches form bytes (place + any.next_sibling) end to other_end)
+    (one_sound form (region bytes place end) other_found found other_sound sound) other_reach in
+    let first =
+    between form bytes (place + found.child_begin) (place + found.child_end) to to_end (omega (arith, at)) (omega (arith, at))
+    reach in
+    let second = between form bytes (place + found.next_sibling) end to other_end (omega (arith, at)) bounded again in
+    absurd (omega (arith, at, first, second))
+one_end form bytes place end to to_end other_end ordered bounded (sibling {found = found} sound reach)
+    (child {found = other_found} other_sound other_reach) =
+    let at = found_places form bytes place end found sound ordered bounded in
+    let again =
+    subst (λ (any : FoundScope). Reaches form bytes (place + any.child_begin) (place + any.child_end) to other_end)
+    (one_sound form (region bytes place end) other_found found other_sound sound) other_reach in
+    let first =
+    between form bytes (place + found.child_begin) (place + found.child_end) to other_end (omega (arith, at)) (omega (arith, at))
+    again in
+    let second = between form bytes (place + found.next_sibling) end to to_end (omega (arith, at)) bounded reach in
+    absurd (omega (arith, at, first, second))
 
-err_is : (a b : Error) → ◌≡◌ {A = Answer} (Err a) (Err b) → a ≡ b
-err_is a b e = cc
+err_is : (fault other : Error) → ◌≡◌ {A = Answer} (Err fault) (Err other) → fault ≡ other
+err_is fault other same = cc
 
-one_fault_in : (form : Form) (part : List ℕ) (a b : Error) → IsFaultIn form part a → IsFaultIn form part b → a ≡ b
-one_fault_in form part a b (inl x) (inl y) = err_is a b (sym x ∙ y)
-one_fault_in form part a b (inl x) (inr y) = absurd (ok_is_not_err None a (sym y.1 ∙ x))
-one_fault_in form part a b (inr x) (inl y) = absurd (ok_is_not_err None b (sym x.1 ∙ y))
-one_fault_in form part a b (inr x) (inr y) = x.2 ∙ sym y.2
+one_fault_in : (form : Form) (part : List ℕ) (fault other : Error) → IsFaultIn form part fault → IsFaultIn form part other → fault ≡ other
+one_fault_in form part fault other (inl at) (inl other_at) = err_is fault other (sym at ∙ other_at)
+one_fault_in form part fault other (inl at) (inr other_at) = absurd (ok_is_not_err None fault (sym other_at.1 ∙ at))
+one_fault_in form part fault other (inr at) (inl other_at) = absurd (ok_is_not_err None other (sym at.1 ∙ other_at))
+one_fault_in form part fault other (inr at) (inr other_at) = at.2 ∙ sym other_at.2
 
-pub one_fault : (form : Form) (bytes : List ℕ) (p q : ℕ) (a b : Error) → IsFirstFault form bytes p a → IsFirstFault form bytes q b → (p ≡ q) × (a ≡ b)
-one_fault form bytes p q a b x y =
-    let low = x.least q y.end b y.reached y.stands in
-    let high = y.least p x.end a x.reached x.stands in
-    let same : q ≡ p = omega (arith, low, high) in
-    let reached = subst (λ (n : ℕ). Reaches form bytes 0 (length bytes) n y.end) same y.reached in
-    let end : y.end ≡ x.end = one_end form bytes 0 (length bytes) p y.end x.end (omega arith) (omega arith) reached x.reached in
-    let stands : IsFaultAt form bytes p x.end b = subst (λ (n : ℕ). IsFaultAt form bytes p n b) end (subst (λ (n : ℕ). IsFaultAt form bytes n y.end b) same y.stands) in
-    (sym same, one_fault_in form (region bytes p x.end) a b x.stands stands)
+-- two first faults are each at a place that is no greater than the other's
+pub one_fault : (form : Form) (bytes : List ℕ) (place other_place : ℕ) (fault other : Error) → IsFirstFault form bytes place fault
+    → IsFirstFault form bytes other_place other → (place ≡ other_place) × (fault ≡ other)
+one_fault form bytes place other_place fault other first second =
+    let low = first.least other_place second.end other second.reached second.stands in
+    let high = second.least place first.end fault first.reached first.stands in
+    let same : other_place ≡ place = omega (arith, low, high) in
+    let reached = subst (λ (any : ℕ). Reaches form bytes 0 (length bytes) any second.end) same second.reached in
+    let end : second.end ≡ first.end =
+    one_end form bytes 0 (length bytes) place second.end first.end (omega arith) (omega arith) reached first.reached in
+    let stands : IsFaultAt form bytes place first.end other =
+    subst (λ (any : ℕ). IsFaultAt form bytes place any other) end
+    (subst (λ (any : ℕ). IsFaultAt form bytes any second.end other) same second.stands) in
+    (sym same, one_fault_in form (region bytes place first.end) fault other first.stands stands)

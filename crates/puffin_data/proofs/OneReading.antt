@@ -8,69 +8,95 @@ use Rattle.puffin_data.proofs.Lenience.{next_within, fault_within}
 abbrev Answer : Type 0
 Answer = Result (Option ReadScope) Error
 
-none_some : (x : Answer) (s : ReadScope) → x ≡ Ok None → x ≡ Ok (Some s) → ⊥
-none_some x s a b = let e : ◌≡◌ {A = Answer} (Ok None) (Ok (Some s)) = sym a ∙ b in cc
+-- ---- what is read at a place is one thing
 
-none_err : (x : Answer) (e : Error) → x ≡ Ok None → x ≡ Err e → ⊥
-none_err x e a b = let e : ◌≡◌ {A = Answer} (Ok None) (Err e) = sym a ∙ b in cc
+none_some : (read : Answer) (scope : ReadScope) → read ≡ Ok None → read ≡ Ok (Some scope) → ⊥
+none_some read scope is is_too = let fault : ◌≡◌ {A = Answer} (Ok None) (Ok (Some scope)) = sym is ∙ is_too in cc
 
-some_err : (x : Answer) (s : ReadScope) (e : Error) → x ≡ Ok (Some s) → x ≡ Err e → ⊥
-some_err x s e a b = let e : ◌≡◌ {A = Answer} (Ok (Some s)) (Err e) = sym a ∙ b in cc
+none_err : (read : Answer) (fault : Error) → read ≡ Ok None → read ≡ Err fault → ⊥
+none_err read fault is is_too = let fault : ◌≡◌ {A = Answer} (Ok None) (Err fault) = sym is ∙ is_too in cc
 
-same_scope : (x : Answer) (s t : ReadScope) → x ≡ Ok (Some s) → x ≡ Ok (Some t) → s ≡ t
-same_scope x s t a b = let e : ◌≡◌ {A = Answer} (Ok (Some s)) (Ok (Some t)) = sym a ∙ b in cc
+some_err : (read : Answer) (scope : ReadScope) (fault : Error) → read ≡ Ok (Some scope) → read ≡ Err fault → ⊥
+some_err read scope fault is is_too = let fault : ◌≡◌ {A = Answer} (Ok (Some scope)) (Err fault) = sym is ∙ is_too in cc
 
-same_fault : (x : Answer) (s t : Error) → x ≡ Err s → x ≡ Err t → s ≡ t
-same_fault x s t a b = let e : ◌≡◌ {A = Answer} (Err s) (Err t) = sym a ∙ b in cc
+same_scope : (read : Answer) (scope other : ReadScope) → read ≡ Ok (Some scope) → read ≡ Ok (Some other) → scope ≡ other
+same_scope read scope other is is_too = let same : ◌≡◌ {A = Answer} (Ok (Some scope)) (Ok (Some other)) = sym is ∙ is_too in cc
 
-ended : (form : Form) (bytes : List ℕ) (p : ℕ) (items : List (Result ReadScope Error)) → scope_read form bytes p (length bytes) ≡ Ok None → ReaderGives form bytes p items → items ≡ []
-ended form bytes p items e (ends f) = refl
-ended form bytes p items e (stops {fault = x} f) = absurd (none_err _ x e f)
-ended form bytes p items e (goes_on {s = s} f r) = absurd (none_some _ s e f)
+same_fault : (read : Answer) (fault other : Error) → read ≡ Err fault → read ≡ Err other → fault ≡ other
+same_fault read fault other is is_too = let same : ◌≡◌ {A = Answer} (Err fault) (Err other) = sym is ∙ is_too in cc
 
-stopped : (form : Form) (bytes : List ℕ) (p : ℕ) (fault : Error) (items : List (Result ReadScope Error)) → scope_read form bytes p (length bytes) ≡ Err fault → ReaderGives form bytes p items → items ≡ Err fault ∷ []
-stopped form bytes p fault items e (ends f) = absurd (none_err _ fault f e)
-stopped form bytes p fault items e (stops {fault = x} f) = ap (λ (y : Error). Err y ∷ []) (same_fault _ x fault f e)
-stopped form bytes p fault items e (goes_on {s = s} f r) = absurd (some_err _ s fault f e)
+-- ---- so the list has one first item, and one rest
 
-went_on : (form : Form) (bytes : List ℕ) (p : ℕ) (s : ReadScope) (items : List (Result ReadScope Error)) → scope_read form bytes p (length bytes) ≡ Ok (Some s) → ReaderGives form bytes p items → (later : List (Result ReadScope Error)) × ReaderGives form bytes s.next_sibling later × (items ≡ Ok s ∷ later)
-went_on form bytes p s items e (ends f) = absurd (none_some _ s f e)
-went_on form bytes p s items e (stops {fault = x} f) = absurd (some_err _ s x e f)
-went_on form bytes p s items e (goes_on {s = t} {later = later} f r) =
-    let same = same_scope _ t s f e in
-    (later, subst (λ (x : ReadScope). ReaderGives form bytes x.next_sibling later) same r, ap (λ (x : ReadScope). Ok x ∷ later) same)
+ended : (form : Form) (bytes : List ℕ) (place : ℕ) (items : List (Result ReadScope Error))
+    → scope_read form bytes place (length bytes) ≡ Ok None → ReaderGives form bytes place items → items ≡ []
+ended form bytes place items is (ends read) = refl
+ended form bytes place items is (stops {fault = other} read) = absurd (none_err _ other is read)
+ended form bytes place items is (goes_on {scope = scope} read rest) = absurd (none_some _ scope is read)
 
-pub one_reading : (form : Form) (bytes : List ℕ) (p : ℕ) (a b : List (Result ReadScope Error)) → ReaderGives form bytes p a → ReaderGives form bytes p b → a ≡ b
-one_reading form bytes p a b (ends e) r = sym (ended form bytes p b e r)
-one_reading form bytes p a b (stops {fault = fault} e) r = sym (stopped form bytes p fault b e r)
-one_reading form bytes p a b (goes_on {s = s} {later = later} e x) r =
-    let w = went_on form bytes p s b e r in
-    ap (λ (xs : List (Result ReadScope Error)). Ok s ∷ xs) (one_reading form bytes s.next_sibling later w.0 x w.1) ∙ sym w.2
+stopped : (form : Form) (bytes : List ℕ) (place : ℕ) (fault : Error) (items : List (Result ReadScope Error))
+    → scope_read form bytes place (length bytes) ≡ Err fault → ReaderGives form bytes place items → items ≡ Err fault ∷ []
+stopped form bytes place fault items is (ends read) = absurd (none_err _ fault read is)
+stopped form bytes place fault items is (stops {fault = other} read) = ap (λ (any : Error). Err any ∷ []) (same_fault _ other fault read is)
+stopped form bytes place fault items is (goes_on {scope = scope} read rest) = absurd (some_err _ scope fault read is)
+
+went_on : (form : Form) (bytes : List ℕ) (place : ℕ) (scope : ReadScope) (items : List (Result ReadScope Error))
+    → scope_read form bytes place (length bytes) ≡ Ok (Some scope) → ReaderGives form bytes place items
+    → (later : List (Result ReadScope Error)) × ReaderGives form bytes scope.next_sibling later × (items ≡ Ok scope ∷ later)
+went_on form bytes place scope items is (ends read) = absurd (none_some _ scope read is)
+went_on form bytes place scope items is (stops {fault = other} read) = absurd (some_err _ scope other is read)
+went_on form bytes place scope items is (goes_on {scope = found} {later = later} read rest) =
+    let same = same_scope _ found scope read is in (
+      later,
+      subst (λ (other : ReadScope). ReaderGives form bytes other.next_sibling later) same rest,
+      ap (λ (other : ReadScope). Ok other ∷ later) same,
+    )
+
+pub one_reading : (form : Form) (bytes : List ℕ) (place : ℕ) (items others : List (Result ReadScope Error))
+    → ReaderGives form bytes place items → ReaderGives form bytes place others → items ≡ others
+one_reading form bytes place items others (ends read) gives = sym (ended form bytes place others read gives)
+one_reading form bytes place items others (stops {fault = fault} read) gives = sym (stopped form bytes place fault others read gives)
+one_reading form bytes place items others (goes_on {scope = scope} {later = later} read rest) gives =
+    let went = went_on form bytes place scope others read gives in
+    ap (λ (any : List (Result ReadScope Error)). Ok scope ∷ any) (one_reading form bytes scope.next_sibling later went.0 rest went.1)
+    ∙ sym went.2
+
+-- ---- there is a list: each scope takes bytes, so the reading ends
 
 abbrev AreRead : (form : Form) → List ℕ → ℕ → Type 0
-AreRead form bytes p = (items : List (Result ReadScope Error)) × ReaderGives form bytes p items
+AreRead form bytes place = (items : List (Result ReadScope Error)) × ReaderGives form bytes place items
 
-read_so : (form : Form) (bytes : List ℕ) (p : ℕ) (x : Answer) → scope_read form bytes p (length bytes) ≡ x → ((s : ReadScope) → scope_read form bytes p (length bytes) ≡ Ok (Some s) → AreRead form bytes s.next_sibling) → AreRead form bytes p
-read_so form bytes p (Ok None) e later = ([], ends e)
-read_so form bytes p (Ok (Some s)) e later = let next = later s e in (Ok s ∷ next.0, goes_on e next.1)
-read_so form bytes p (Err fault) e later = (Err fault ∷ [], stops e)
+read_so : (form : Form) (bytes : List ℕ) (place : ℕ) (read : Answer) → scope_read form bytes place (length bytes) ≡ read
+    → ((scope : ReadScope) → scope_read form bytes place (length bytes) ≡ Ok (Some scope) → AreRead form bytes scope.next_sibling)
+    → AreRead form bytes place
+read_so form bytes place (Ok None) is later = ([], ends is)
+read_so form bytes place (Ok (Some scope)) is later = let next = later scope is in (Ok scope ∷ next.0, goes_on is next.1)
+read_so form bytes place (Err fault) is later = (Err fault ∷ [], stops is)
 
-none_left : (p size : ℕ) (x : ℕ) → size - p < 0 → ⊥
-none_left p size x h = omega arith
+none_left : (place size : ℕ) (more : ℕ) → size - place < 0 → ⊥
+none_left place size more less = omega arith
 
-read_up_to : (form : Form) (n : ℕ) (bytes : List ℕ) (p : ℕ) → p ≤ length bytes → length bytes - p < n → AreRead form bytes p
-read_up_to form zero bytes p low few = absurd (none_left p (length bytes) 0 few)
-read_up_to form (suc n) bytes p low few =
-    let again = read_up_to form n bytes in
-    read_so form bytes p (scope_read form bytes p (length bytes)) refl (λ s e. let at = next_within form bytes p (length bytes) s low (omega arith) e in again s.next_sibling at.1 (omega (arith, at)))
+read_up_to : (form : Form) (limit : ℕ) (bytes : List ℕ) (place : ℕ) → place ≤ length bytes → length bytes - place < limit
+    → AreRead form bytes place
+read_up_to form zero bytes place low few = absurd (none_left place (length bytes) 0 few)
+read_up_to form (suc limit) bytes place low few =
+    let again = read_up_to form limit bytes in
+    read_so form bytes place (scope_read form bytes place (length bytes)) refl
+    (λ scope read. let at = next_within form bytes place (length bytes) scope low (omega arith) read in again scope.next_sibling at.1
+    (omega (arith, at)))
 
-pub all_are_read : (form : Form) (bytes : List ℕ) (p : ℕ) → p ≤ length bytes → AreRead form bytes p
-all_are_read form bytes p low = read_up_to form (suc (length bytes - p)) bytes p low (omega arith)
+pub all_are_read : (form : Form) (bytes : List ℕ) (place : ℕ) → place ≤ length bytes → AreRead form bytes place
+all_are_read form bytes place low = read_up_to form (suc (length bytes - place)) bytes place low (omega arith)
 
-at_end : (form : Form) (bytes : List ℕ) (items : List (Result ReadScope Error)) (p : ℕ) → p ≡ length bytes → ReaderGives form bytes p items → items ≡ []
-at_end form bytes items p e (ends f) = refl
-at_end form bytes items p e (stops {fault = fault} f) = absurd (omega (arith, fault_within form bytes p (length bytes) fault (omega arith) f))
-at_end form bytes items p e (goes_on {s = s} f r) = absurd (omega (arith, next_within form bytes p (length bytes) s (omega arith) (omega arith) f))
+-- ---- nothing is read at the end
 
-pub nothing_at_end : (form : Form) (bytes : List ℕ) (items : List (Result ReadScope Error)) → ReaderGives form bytes (length bytes) items → items ≡ []
-nothing_at_end form bytes items r = at_end form bytes items (length bytes) refl r
+at_end : (form : Form) (bytes : List ℕ) (items : List (Result ReadScope Error)) (place : ℕ) → place ≡ length bytes
+    → ReaderGives form bytes place items → items ≡ []
+at_end form bytes items place end (ends read) = refl
+at_end form bytes items place end (stops {fault = fault} read) =
+    absurd (omega (arith, fault_within form bytes place (length bytes) fault (omega arith) read))
+at_end form bytes items place end (goes_on {scope = scope} read rest) =
+    absurd (omega (arith, next_within form bytes place (length bytes) scope (omega arith) (omega arith) read))
+
+pub nothing_at_end : (form : Form) (bytes : List ℕ) (items : List (Result ReadScope Error))
+    → ReaderGives form bytes (length bytes) items → items ≡ []
+nothing_at_end form bytes items rest = at_end form bytes items (length bytes) refl rest

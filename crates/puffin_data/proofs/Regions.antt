@@ -7,32 +7,41 @@ use Rattle.puffin_data.specs.Walk.Reading.{FoundScope, reading, IsFaultIn}
 use Rattle.puffin_data.specs.Walk.{region, Reaches, here, child, sibling}
 use Rattle.puffin_data.proofs.Resuming.{found_places}
 
-pub length-region : (bytes : List ℕ) (p e : ℕ) → e ≤ length bytes → length (region bytes p e) ≡ e - p
-length-region bytes p e h = simp (length-take, length-drop) (omega arith)
+pub length-region : (bytes : List ℕ) (place end : ℕ) → end ≤ length bytes → length (region bytes place end) ≡ end - place
+length-region bytes place end bounded = simp (length-take, length-drop) (omega arith)
 
 -- the front of what is left of a region
-take_within : (k m n : ℕ) (xs : List ℕ) → k + m ≤ n → take m (drop k (take n xs)) ≡ take m (drop k xs)
-take_within k m n xs h =
-    let n-is : n ≡ k + (n - k) = omega arith in
-    ap (λ (j : ℕ). take m (drop k (take j xs))) n-is ∙ ap (take m) (drop-take k (n - k) xs) ∙ take-take m (n - k) (drop k xs) (omega arith)
+take_within : (from count size : ℕ) (xs : List ℕ) → from + count ≤ size → take count (drop from (take size xs)) ≡ take count (drop from xs)
+take_within from count size xs fits =
+    let n-is : size ≡ from + (size - from) = omega arith in
+    ap (λ (any : ℕ). take count (drop from (take any xs))) n-is
+    ∙ ap (take count) (drop-take from (size - from) xs)
+    ∙ take-take count (size - from) (drop from xs) (omega arith)
 
-pub part_of_region : (bytes : List ℕ) (p e a b : ℕ) → a ≤ b → p + b ≤ e → region bytes (p + a) (p + b) ≡ take (b - a) (drop a (region bytes p e))
-part_of_region bytes p e a b h k =
-    let size : (p + b) - (p + a) ≡ b - a = omega arith in
-    ap (λ (n : ℕ). take n (drop (p + a) bytes)) size ∙ ap (take (b - a)) (sym (drop-drop a p bytes)) ∙ sym (take_within a (b - a) (e - p) (drop p bytes) (omega arith))
+-- a region within a region, and the rest of one
+pub part_of_region : (bytes : List ℕ) (place end from to : ℕ) → from ≤ to → place + to ≤ end
+    → region bytes (place + from) (place + to) ≡ take (to - from) (drop from (region bytes place end))
+part_of_region bytes place end from to ordered fits =
+    let size : (place + to) - (place + from) ≡ to - from = omega arith in
+    ap (λ (any : ℕ). take any (drop (place + from) bytes)) size
+    ∙ ap (take (to - from)) (sym (drop-drop from place bytes))
+    ∙ sym (take_within from (to - from) (end - place) (drop place bytes) (omega arith))
 
-pub rest_of_region : (bytes : List ℕ) (p e a : ℕ) → p + a ≤ e → region bytes (p + a) e ≡ drop a (region bytes p e)
-rest_of_region bytes p e a h =
-    let size : e - p ≡ a + (e - (p + a)) = omega arith in
-    ap (take (e - (p + a))) (sym (drop-drop a p bytes)) ∙ sym (drop-take a (e - (p + a)) (drop p bytes)) ∙ ap (λ (n : ℕ). drop a (take n (drop p bytes))) (sym size)
+pub rest_of_region : (bytes : List ℕ) (place end from : ℕ) → place + from ≤ end
+    → region bytes (place + from) end ≡ drop from (region bytes place end)
+rest_of_region bytes place end from fits =
+    let size : end - place ≡ from + (end - (place + from)) = omega arith in
+    ap (take (end - (place + from))) (sym (drop-drop from place bytes))
+    ∙ sym (drop-take from (end - (place + from)) (drop place bytes))
+    ∙ ap (λ (any : ℕ). drop from (take any (drop place bytes))) (sym size)
 
-pub empty_region : (bytes : List ℕ) (p : ℕ) → region bytes p p ≡ []
-empty_region bytes p = let none : p - p ≡ 0 = omega arith in ap (λ (n : ℕ). take n (drop p bytes)) none
+pub empty_region : (bytes : List ℕ) (place : ℕ) → region bytes place place ≡ []
+empty_region bytes place = let none : place - place ≡ 0 = omega arith in ap (λ (any : ℕ). take any (drop place bytes)) none
 
 pub whole_region : (bytes : List ℕ) → region bytes 0 (length bytes) ≡ bytes
 whole_region bytes = take_all (length bytes - 0) bytes (omega arith)
 
--- ---- nothing, a fault, a sound scope: one of the three
+-- ---- what is read at a place is one of three: nothing, a fault, a sound scope
 
 abbrev pub Answer : Type 0
 Answer = Result (Option FoundScope) Error
@@ -41,43 +50,49 @@ reading_nothing : (form : Form) → reading form [] ≡ Ok None
 unfolding reading
 reading_nothing form = refl
 
-pub ok_is_not_err : (o : Option FoundScope) (d : Error) → ◌≡◌ {A = Answer} (Ok o) (Err d) → ⊥
-ok_is_not_err o d e = cc
+pub ok_is_not_err : (found : Option FoundScope) (fault : Error) → ◌≡◌ {A = Answer} (Ok found) (Err fault) → ⊥
+ok_is_not_err found fault same = cc
 
-pub none_is_not_some : (s : FoundScope) → ◌≡◌ {A = Answer} (Ok None) (Ok (Some s)) → ⊥
-none_is_not_some s e = cc
+pub none_is_not_some : (found : FoundScope) → ◌≡◌ {A = Answer} (Ok None) (Ok (Some found)) → ⊥
+none_is_not_some found same = cc
 
-some_is : (a b : FoundScope) → ◌≡◌ {A = Answer} (Ok (Some a)) (Ok (Some b)) → a ≡ b
-some_is a b e = cc
+some_is : (one other : FoundScope) → ◌≡◌ {A = Answer} (Ok (Some one)) (Ok (Some other)) → one ≡ other
+some_is one other same = cc
 
-pub sound_is_no_fault : (form : Form) (part : List ℕ) (s : FoundScope) (fault : Error) → reading form part ≡ Ok (Some s) → IsFaultIn form part fault → ⊥
-sound_is_no_fault form part s fault e (inl f) = ok_is_not_err (Some s) fault (sym e ∙ f)
-sound_is_no_fault form part s fault e (inr f) = none_is_not_some s (sym f.1 ∙ e)
+pub sound_is_no_fault : (form : Form) (part : List ℕ) (found : FoundScope) (fault : Error) → reading form part ≡ Ok (Some found)
+    → IsFaultIn form part fault → ⊥
+sound_is_no_fault form part found fault read (inl at) = ok_is_not_err (Some found) fault (sym read ∙ at)
+sound_is_no_fault form part found fault read (inr at) = none_is_not_some found (sym at.1 ∙ read)
 
 pub nothing_is_no_fault : (form : Form) (part : List ℕ) (fault : Error) → part ≡ [] → IsFaultIn form part fault → ⊥
-nothing_is_no_fault form part fault h (inl f) = ok_is_not_err None fault (sym (ap (reading form) h ∙ reading_nothing form) ∙ f)
-nothing_is_no_fault form part fault h (inr f) = let size : length part ≡ 0 = ap length h in absurd (omega (arith, f.0))
+nothing_is_no_fault form part fault none (inl at) = ok_is_not_err None fault (sym (ap (reading form) none ∙ reading_nothing form) ∙ at)
+nothing_is_no_fault form part fault none (inr at) = let size : length part ≡ 0 = ap length none in absurd (omega (arith, at.0))
 
-pub nothing_is_not_sound : (form : Form) (part : List ℕ) (s : FoundScope) → part ≡ [] → reading form part ≡ Ok (Some s) → ⊥
-nothing_is_not_sound form part s h e = none_is_not_some s (sym (ap (reading form) h ∙ reading_nothing form) ∙ e)
+pub nothing_is_not_sound : (form : Form) (part : List ℕ) (found : FoundScope) → part ≡ [] → reading form part ≡ Ok (Some found) → ⊥
+nothing_is_not_sound form part found none read = none_is_not_some found (sym (ap (reading form) none ∙ reading_nothing form) ∙ read)
 
-pub one_sound : (form : Form) (part : List ℕ) (s t : FoundScope) → reading form part ≡ Ok (Some s) → reading form part ≡ Ok (Some t) → s ≡ t
-one_sound form part s t e f = some_is s t (sym e ∙ f)
+pub one_sound : (form : Form) (part : List ℕ) (one other : FoundScope) → reading form part ≡ Ok (Some one)
+    → reading form part ≡ Ok (Some other) → one ≡ other
+one_sound form part one other read again = some_is one other (sym read ∙ again)
 
 -- ---- what is reached lies within
 
-pub record Between (p e q f : ℕ) : Type 0 where
-  pub low : p ≤ q
-  pub middle : q ≤ f
-  pub high : f ≤ e
+-- a place that is reached, and the end of its region, are within the region that the walk began in
+pub record Between (place end to to_end : ℕ) : Type 0 where
+  pub low : place ≤ to
+  pub middle : to ≤ to_end
+  pub high : to_end ≤ end
 
-pub between : (form : Form) (bytes : List ℕ) (p e q f : ℕ) → p ≤ e → e ≤ length bytes → Reaches form bytes p e q f → Between p e q f
-between form bytes p e q f h k here = record { low = omega arith; middle = h; high = omega arith }
-between form bytes p e q f h k (child {s = s} sound r) =
-    let at = found_places form bytes p e s sound h k in
-    let b = between form bytes (p + s.child_begin) (p + s.child_end) q f (omega (arith, at)) (omega (arith, at)) r in
-    record { low = omega (arith, at, b); middle = b.middle; high = omega (arith, at, b) }
-between form bytes p e q f h k (sibling {s = s} sound r) =
-    let at = found_places form bytes p e s sound h k in
-    let b = between form bytes (p + s.next_sibling) e q f (omega (arith, at)) k r in
-    record { low = omega (arith, at, b); middle = b.middle; high = b.high }
+pub between : (form : Form) (bytes : List ℕ) (place end to to_end : ℕ) → place ≤ end → end ≤ length bytes
+    → Reaches form bytes place end to to_end → Between place end to to_end
+between form bytes place end to to_end ordered bounded here = record { low = omega arith; middle = ordered; high = omega arith }
+between form bytes place end to to_end ordered bounded (child {found = found} sound reach) =
+    let at = found_places form bytes place end found sound ordered bounded in
+    let inner =
+    between form bytes (place + found.child_begin) (place + found.child_end) to to_end (omega (arith, at)) (omega (arith, at))
+    reach in
+    record { low = omega (arith, at, inner); middle = inner.middle; high = omega (arith, at, inner) }
+between form bytes place end to to_end ordered bounded (sibling {found = found} sound reach) =
+    let at = found_places form bytes place end found sound ordered bounded in
+    let inner = between form bytes (place + found.next_sibling) end to to_end (omega (arith, at)) bounded reach in
+    record { low = omega (arith, at, inner); middle = inner.middle; high = inner.high }

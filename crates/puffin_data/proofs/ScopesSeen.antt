@@ -10,87 +10,138 @@ use Rattle.puffin_data.specs.Walk.PlacedScopes.{PlacedScope, Sees, no_scope, one
 use Rattle.puffin_data.proofs.Resuming.{found_places}
 use Rattle.puffin_data.proofs.Regions.{one_sound, ok_is_not_err, none_is_not_some, Answer}
 
--- ---- each has a list
+-- ---- each has a list: by induction over the region's length, since children and next sibling have shorter ones
 
+-- each region that is shorter than `size` has one, whatever it is nested in
 abbrev pub HasScopes : (form : Form) → List ℕ → ℕ → Type 0
-HasScopes form bytes n = (around : List Span) (p e : ℕ) → e - p < n → p ≤ e → e ≤ length bytes → (placed : List PlacedScope) × Sees form bytes around p e placed
+HasScopes form bytes size =
+    (around : List Span) (place end : ℕ) → end - place < size → place ≤ end → end ≤ length bytes
+    → (placed : List PlacedScope) × Sees form bytes around place end placed
 
-by_reading : (form : Form) (bytes : List ℕ) (n : ℕ) (around : List Span) (p e : ℕ) → HasScopes form bytes n → e - p < suc n → p ≤ e → e ≤ length bytes → (r : Answer) → reading form (region bytes p e) ≡ r → (placed : List PlacedScope) × Sees form bytes around p e placed
-by_reading form bytes n around p e shorter lt h k (Ok (Some s)) is =
-    let at = found_places form bytes p e s is h k in
-    let inner = shorter (around ++ (s.span ∷ [])) (p + s.child_begin) (p + s.child_end) (omega (arith, at)) (omega (arith, at)) (omega (arith, at)) in
-    let later = shorter around (p + s.next_sibling) e (omega (arith, at)) (omega (arith, at)) k in
-    (record { place = p; scope = record { around = around; span = s.span } } ∷ (inner.0 ++ later.0), one_scope is inner.1 later.1)
-by_reading form bytes n around p e shorter lt h k (Ok None) is = ([], no_scope (λ s sound. none_is_not_some s (sym is ∙ sound)))
-by_reading form bytes n around p e shorter lt h k (Err d) is = ([], no_scope (λ s sound. ok_is_not_err (Some s) d (sym sound ∙ is)))
+-- by what is read at the region's front
+by_reading : (form : Form) (bytes : List ℕ) (size : ℕ) (around : List Span) (place end : ℕ) → HasScopes form bytes size
+    → end - place < suc size → place ≤ end → end ≤ length bytes → (read : Answer) → reading form (region bytes place end) ≡ read
+    → (placed : List PlacedScope) × Sees form bytes around place end placed
+by_reading form bytes size around place end shorter smaller ordered bounded (Ok (Some found)) is =
+    let at = found_places form bytes place end found is ordered bounded in
+    let inner =
+    shorter (around ++ (found.span ∷ [])) (place + found.child_begin) (place + found.child_end) (omega (arith, at))
+    (omega (arith, at)) (omega (arith, at)) in
+    let later = shorter around (place + found.next_sibling) end (omega (arith, at)) (omega (arith, at)) bounded in
+    (record { place = place; scope = record { around = around; span = found.span } } ∷ (inner.0 ++ later.0), one_scope is inner.1 later.1)
+by_reading form bytes size around place end shorter smaller ordered bounded (Ok None) is =
+    ([], no_scope (λ found sound. none_is_not_some found (sym is ∙ sound)))
+by_reading form bytes size around place end shorter smaller ordered bounded (Err fault) is =
+    ([], no_scope (λ found sound. ok_is_not_err (Some found) fault (sym sound ∙ is)))
 
-pub has_scopes : (form : Form) (bytes : List ℕ) (n : ℕ) → HasScopes form bytes n
-has_scopes form bytes zero around p e lt h k = absurd (omega arith)
-has_scopes form bytes (suc n) around p e lt h k = by_reading form bytes n around p e (has_scopes form bytes n) lt h k (reading form (region bytes p e)) refl
+pub has_scopes : (form : Form) (bytes : List ℕ) (size : ℕ) → HasScopes form bytes size
+has_scopes form bytes zero around place end smaller ordered bounded = absurd (omega arith)
+has_scopes form bytes (suc size) around place end smaller ordered bounded =
+    by_reading form bytes size around place end (has_scopes form bytes size) smaller ordered bounded
+    (reading form (region bytes place end)) refl
 
--- those of a region
-pub placed_in : (form : Form) (bytes : List ℕ) (around : List Span) (p e : ℕ) → p ≤ e → e ≤ length bytes → (placed : List PlacedScope) × Sees form bytes around p e placed
-placed_in form bytes around p e h k = has_scopes form bytes (suc e) around p e (omega arith) h k
+-- the list of a region
+pub placed_in : (form : Form) (bytes : List ℕ) (around : List Span) (place end : ℕ) → place ≤ end → end ≤ length bytes
+    → (placed : List PlacedScope) × Sees form bytes around place end placed
+placed_in form bytes around place end ordered bounded = has_scopes form bytes (suc end) around place end (omega arith) ordered bounded
 
--- ---- no region has two
+-- ---- no region has two: what is read at a place is one thing, so both lists have the same first scope
 
-both_parts : (s : PlacedScope) (a b c d : List PlacedScope) → a ≡ b → c ≡ d → s ∷ (a ++ c) ≡ s ∷ (b ++ d)
-both_parts s a b c d x y = ap (λ (t : List PlacedScope). s ∷ (t ++ c)) x ∙ ap (λ (t : List PlacedScope). s ∷ (b ++ t)) y
+both_parts : (scope : PlacedScope) (inner other_inner later other_later : List PlacedScope) → inner ≡ other_inner
+    → later ≡ other_later → scope ∷ (inner ++ later) ≡ scope ∷ (other_inner ++ other_later)
+both_parts scope inner other_inner later other_later same_inner same_later =
+    ap (λ (any : List PlacedScope). scope ∷ (any ++ later)) same_inner
+    ∙ ap (λ (any : List PlacedScope). scope ∷ (other_inner ++ any)) same_later
 
-first_is : (p : ℕ) (around : List Span) (s t : FoundScope) (a : List PlacedScope) → s ≡ t → record { place = p; scope = record { around = around; span = s.span } } ∷ a ≡ record { place = p; scope = record { around = around; span = t.span } } ∷ a
-first_is p around s t a e = ap (λ (x : FoundScope). record { place = p; scope = record { around = around; span = x.span } } ∷ a) e
+first_is : (place : ℕ) (around : List Span) (found other : FoundScope) (rest : List PlacedScope) → found ≡ other
+    → record { place = place; scope = record { around = around; span = found.span } } ∷ rest
+    ≡ record { place = place; scope = record { around = around; span = other.span } } ∷ rest
+first_is place around found other rest same =
+    ap (λ (any : FoundScope). record { place = place; scope = record { around = around; span = any.span } } ∷ rest) same
 
-pub one_list_of_scopes : (form : Form) (bytes : List ℕ) (around : List Span) (p e : ℕ) (placed others : List PlacedScope) → Sees form bytes around p e placed → Sees form bytes around p e others → placed ≡ others
-one_list_of_scopes form bytes around p e placed others (no_scope none) (no_scope no_other) = refl
-one_list_of_scopes form bytes around p e placed others (no_scope none) (one_scope {s = t} other c d) = absurd (none t other)
-one_list_of_scopes form bytes around p e placed others (one_scope {s = s} sound a b) (no_scope none) = absurd (none s sound)
-one_list_of_scopes form bytes around p e placed others (one_scope {s = s} {inner = i} {later = l} sound a b) (one_scope {s = t} {inner = j} {later = m} other c d) =
-    let same : t ≡ s = one_sound form (region bytes p e) t s other sound in
-    let inner : i ≡ j = one_list_of_scopes form bytes (around ++ (s.span ∷ [])) (p + s.child_begin) (p + s.child_end) i j a (subst (λ (x : FoundScope). Sees form bytes (around ++ (x.span ∷ [])) (p + x.child_begin) (p + x.child_end) j) same c) in
-    let later : l ≡ m = one_list_of_scopes form bytes around (p + s.next_sibling) e l m b (subst (λ (x : FoundScope). Sees form bytes around (p + x.next_sibling) e m) same d) in
-    both_parts _ i j l m inner later ∙ first_is p around s t (j ++ m) (sym same)
+pub one_list_of_scopes : (form : Form) (bytes : List ℕ) (around : List Span) (place end : ℕ) (placed others : List PlacedScope)
+    → Sees form bytes around place end placed → Sees form bytes around place end others → placed ≡ others
+one_list_of_scopes form bytes around place end placed others (no_scope none) (no_scope no_other) = refl
+one_list_of_scopes form bytes around place end placed others (no_scope none)
+    (one_scope {found = other_found} other_sound of_other_inner of_other_later) =
+    absurd (none other_found other_sound)
+one_list_of_scopes form bytes around place end placed others (one_scope {found = found} sound of_inner of_later) (no_scope none) =
+    absurd (none found sound)
+one_list_of_scopes form bytes around place end placed others
+    (one_scope {found = found} {inner = inner} {later = later} sound of_inner of_later)
+    (one_scope {found = other_found} {inner = other_inner} {later = other_later} other_sound of_other_inner of_other_later) =
+    let same : other_found ≡ found = one_sound form (region bytes place end) other_found found other_sound sound in
+    let same_inner : inner ≡ other_inner =
+    one_list_of_scopes form bytes (around ++ (found.span ∷ [])) (place + found.child_begin) (place + found.child_end) inner
+    other_inner of_inner (subst (λ (any : FoundScope).
+    Sees form bytes (around ++ (any.span ∷ [])) (place + any.child_begin) (place + any.child_end) other_inner) same
+    of_other_inner) in
+    let same_later : later ≡ other_later =
+    one_list_of_scopes form bytes around (place + found.next_sibling) end later other_later of_later
+    (subst (λ (any : FoundScope). Sees form bytes around (place + any.next_sibling) end other_later) same of_other_later) in
+    both_parts _ inner other_inner later other_later same_inner same_later
+    ∙ first_is place around found other_found (other_inner ++ other_later) (sym same)
 
 -- ---- those before a place
 
 lt_test : (a b : ℕ) → a < b → ltb a b ≡ true
-lt_test a b h = grind arith
+lt_test a b ordered = grind arith
 
 le_test : (a b : ℕ) → b ≤ a → ltb a b ≡ false
-le_test a b h = grind arith
+le_test a b ordered = grind arith
 
-kept : (b : Bool) (s : PlacedScope) (rest : List PlacedScope) → b ≡ true → cond b (s ∷ rest) rest ≡ s ∷ rest
-kept b s rest e = ap (λ (x : Bool). cond x (s ∷ rest) rest) e
+kept : (test : Bool) (scope : PlacedScope) (rest : List PlacedScope) → test ≡ true → cond test (scope ∷ rest) rest ≡ scope ∷ rest
+kept test scope rest is = ap (λ (any : Bool). cond any (scope ∷ rest) rest) is
 
-dropped : (b : Bool) (s : PlacedScope) (rest : List PlacedScope) → b ≡ false → cond b (s ∷ rest) rest ≡ rest
-dropped b s rest e = ap (λ (x : Bool). cond x (s ∷ rest) rest) e
+dropped : (test : Bool) (scope : PlacedScope) (rest : List PlacedScope) → test ≡ false → cond test (scope ∷ rest) rest ≡ rest
+dropped test scope rest is = ap (λ (any : Bool). cond any (scope ∷ rest) rest) is
 
 -- a scope before the place, with those in it and those after it
-pub before-first : (place : ℕ) (s : PlacedScope) (inner later : List PlacedScope) → s.place < place → before place (s ∷ (inner ++ later)) ≡ s ∷ (before place inner ++ before place later)
-before-first place s inner later lt =
-    kept (nat_lt s.place place) s (before place (inner ++ later)) (lt_test s.place place lt) ∙ ap (λ (xs : List PlacedScope). s ∷ xs) (filter-append (λ (x : PlacedScope). nat_lt x.place place) inner later)
+pub before-first : (place : ℕ) (scope : PlacedScope) (inner later : List PlacedScope) → scope.place < place
+    → before place (scope ∷ (inner ++ later)) ≡ scope ∷ (before place inner ++ before place later)
+before-first place scope inner later earlier =
+    kept (nat_lt scope.place place) scope (before place (inner ++ later)) (lt_test scope.place place earlier)
+    ∙ ap (λ (any : List PlacedScope). scope ∷ any) (filter-append (λ (one : PlacedScope). nat_lt one.place place) inner later)
 
-before-not_first : (place : ℕ) (s : PlacedScope) (inner later : List PlacedScope) → place ≤ s.place → before place (s ∷ (inner ++ later)) ≡ before place inner ++ before place later
-before-not_first place s inner later le =
-    dropped (nat_lt s.place place) s (before place (inner ++ later)) (le_test s.place place le) ∙ filter-append (λ (x : PlacedScope). nat_lt x.place place) inner later
+-- the same if the scope isn't before the place
+before-not_first : (place : ℕ) (scope : PlacedScope) (inner later : List PlacedScope) → place ≤ scope.place
+    → before place (scope ∷ (inner ++ later)) ≡ before place inner ++ before place later
+before-not_first place scope inner later later_place =
+    dropped (nat_lt scope.place place) scope (before place (inner ++ later)) (le_test scope.place place later_place)
+    ∙ filter-append (λ (one : PlacedScope). nat_lt one.place place) inner later
 
-both_equal : (a b c d : List PlacedScope) → a ≡ b → c ≡ d → a ++ c ≡ b ++ d
-both_equal a b c d x y = ap (λ (t : List PlacedScope). t ++ c) x ∙ ap (λ (t : List PlacedScope). b ++ t) y
+both_equal : (inner other_inner later other_later : List PlacedScope) → inner ≡ other_inner → later ≡ other_later
+    → inner ++ later ≡ other_inner ++ other_later
+both_equal inner other_inner later other_later same_inner same_later =
+    ap (λ (any : List PlacedScope). any ++ later) same_inner ∙ ap (λ (any : List PlacedScope). other_inner ++ any) same_later
 
--- the placed scopes of a region lie in it: all of them are before a place after it, and none before a place before it
-pub all_before : (form : Form) (bytes : List ℕ) (around : List Span) (p e place : ℕ) (xs : List PlacedScope) → p ≤ e → e ≤ length bytes → e ≤ place → Sees form bytes around p e xs → before place xs ≡ xs
-all_before form bytes around p e place xs h k le (no_scope none) = refl
-all_before form bytes around p e place xs h k le (one_scope {s = s} {inner = inner} {later = later} sound a b) =
-    let at = found_places form bytes p e s sound h k in
-    let ia = all_before form bytes (around ++ (s.span ∷ [])) (p + s.child_begin) (p + s.child_end) place inner (omega (arith, at)) (omega (arith, at)) (omega (arith, at)) a in
-    let ib = all_before form bytes around (p + s.next_sibling) e place later (omega (arith, at)) k le b in
-    let first : PlacedScope = record { place = p; scope = record { around = around; span = s.span } } in
-    before-first place first inner later (omega (arith, at)) ∙ ap (λ (t : List PlacedScope). first ∷ t) (both_equal (before place inner) inner (before place later) later ia ib)
+-- The placed scopes of a region lie in it: all of them are before a place behind it, and none is before a place in front of it.
+pub all_before : (form : Form) (bytes : List ℕ) (around : List Span) (begin end place : ℕ) (placed : List PlacedScope) → begin ≤ end
+    → end ≤ length bytes → end ≤ place → Sees form bytes around begin end placed → before place placed ≡ placed
+all_before form bytes around begin end place placed ordered bounded apart (no_scope none) = refl
+all_before form bytes around begin end place placed ordered bounded apart
+    (one_scope {found = found} {inner = inner} {later = later} sound of_inner of_later) =
+    let at = found_places form bytes begin end found sound ordered bounded in
+    let inner_is =
+    all_before form bytes (around ++ (found.span ∷ [])) (begin + found.child_begin) (begin + found.child_end) place inner
+    (omega (arith, at)) (omega (arith, at)) (omega (arith, at)) of_inner in
+    let later_is = all_before form bytes around (begin + found.next_sibling) end place later (omega (arith, at)) bounded apart of_later in
+    let first : PlacedScope = record { place = begin; scope = record { around = around; span = found.span } } in
+    before-first place first inner later (omega (arith, at))
+    ∙ ap (λ (any : List PlacedScope). first ∷ any)
+    (both_equal (before place inner) inner (before place later) later inner_is later_is)
 
-pub none_before : (form : Form) (bytes : List ℕ) (around : List Span) (p e place : ℕ) (xs : List PlacedScope) → p ≤ e → e ≤ length bytes → place ≤ p → Sees form bytes around p e xs → before place xs ≡ []
-none_before form bytes around p e place xs h k le (no_scope none) = refl
-none_before form bytes around p e place xs h k le (one_scope {s = s} {inner = inner} {later = later} sound a b) =
-    let at = found_places form bytes p e s sound h k in
-    let ia = none_before form bytes (around ++ (s.span ∷ [])) (p + s.child_begin) (p + s.child_end) place inner (omega (arith, at)) (omega (arith, at)) (omega (arith, at)) a in
-    let ib = none_before form bytes around (p + s.next_sibling) e place later (omega (arith, at)) k (omega (arith, at)) b in
-    let first : PlacedScope = record { place = p; scope = record { around = around; span = s.span } } in
-    before-not_first place first inner later le ∙ both_equal (before place inner) [] (before place later) [] ia ib
+pub none_before : (form : Form) (bytes : List ℕ) (around : List Span) (begin end place : ℕ) (placed : List PlacedScope) → begin ≤ end
+    → end ≤ length bytes → place ≤ begin → Sees form bytes around begin end placed → before place placed ≡ []
+none_before form bytes around begin end place placed ordered bounded apart (no_scope none) = refl
+none_before form bytes around begin end place placed ordered bounded apart
+    (one_scope {found = found} {inner = inner} {later = later} sound of_inner of_later) =
+    let at = found_places form bytes begin end found sound ordered bounded in
+    let inner_is =
+    none_before form bytes (around ++ (found.span ∷ [])) (begin + found.child_begin) (begin + found.child_end) place inner
+    (omega (arith, at)) (omega (arith, at)) (omega (arith, at)) of_inner in
+    let later_is =
+    none_before form bytes around (begin + found.next_sibling) end place later (omega (arith, at)) bounded (omega (arith, at))
+    of_later in
+    let first : PlacedScope = record { place = begin; scope = record { around = around; span = found.span } } in
+    before-not_first place first inner later apart ∙ both_equal (before place inner) [] (before place later) [] inner_is later_is

@@ -7,74 +7,110 @@ use Rattle.puffin_data.specs.Walk.{region, Sounds, no_more, one_more}
 use Rattle.puffin_data.proofs.Resuming.{found_places}
 use Rattle.puffin_data.proofs.Regions.{one_sound, ok_is_not_err, none_is_not_some, Answer}
 
--- ---- each has a list
+-- ---- each has a list: by induction over the region's length, since children and next sibling have shorter ones
 
--- each region that is shorter than n has one
+-- each region that is shorter than `size` has one
 abbrev pub HasSounds : (form : Form) → List ℕ → ℕ → Type 0
-HasSounds form bytes n = (p e : ℕ) → e - p < n → p ≤ e → e ≤ length bytes → (places : List ℕ) × Sounds form bytes p e places
+HasSounds form bytes size =
+    (place end : ℕ) → end - place < size → place ≤ end → end ≤ length bytes → (places : List ℕ) × Sounds form bytes place end places
 
-by_reading : (form : Form) (bytes : List ℕ) (n p e : ℕ) → HasSounds form bytes n → e - p < suc n → p ≤ e → e ≤ length bytes → (r : Answer) → reading form (region bytes p e) ≡ r → (places : List ℕ) × Sounds form bytes p e places
-by_reading form bytes n p e shorter lt h k (Ok (Some s)) is =
-    let at = found_places form bytes p e s is h k in
-    let inner = shorter (p + s.child_begin) (p + s.child_end) (omega (arith, at)) (omega (arith, at)) (omega (arith, at)) in
-    let later = shorter (p + s.next_sibling) e (omega (arith, at)) (omega (arith, at)) k in
-    (p ∷ (inner.0 ++ later.0), one_more is inner.1 later.1)
-by_reading form bytes n p e shorter lt h k (Ok None) is = ([], no_more (λ s sound. none_is_not_some s (sym is ∙ sound)))
-by_reading form bytes n p e shorter lt h k (Err d) is = ([], no_more (λ s sound. ok_is_not_err (Some s) d (sym sound ∙ is)))
+-- by what is read at the region's front
+by_reading : (form : Form) (bytes : List ℕ) (size place end : ℕ) → HasSounds form bytes size → end - place < suc size → place ≤ end
+    → end ≤ length bytes → (read : Answer) → reading form (region bytes place end) ≡ read
+    → (places : List ℕ) × Sounds form bytes place end places
+by_reading form bytes size place end shorter smaller ordered bounded (Ok (Some found)) is =
+    let at = found_places form bytes place end found is ordered bounded in
+    let inner = shorter (place + found.child_begin) (place + found.child_end) (omega (arith, at)) (omega (arith, at)) (omega (arith, at)) in
+    let later = shorter (place + found.next_sibling) end (omega (arith, at)) (omega (arith, at)) bounded in
+    (place ∷ (inner.0 ++ later.0), one_more is inner.1 later.1)
+by_reading form bytes size place end shorter smaller ordered bounded (Ok None) is =
+    ([], no_more (λ found sound. none_is_not_some found (sym is ∙ sound)))
+by_reading form bytes size place end shorter smaller ordered bounded (Err fault) is =
+    ([], no_more (λ found sound. ok_is_not_err (Some found) fault (sym sound ∙ is)))
 
-pub has_sounds : (form : Form) (bytes : List ℕ) (n : ℕ) → HasSounds form bytes n
-has_sounds form bytes zero p e lt h k = absurd (omega arith)
-has_sounds form bytes (suc n) p e lt h k = by_reading form bytes n p e (has_sounds form bytes n) lt h k (reading form (region bytes p e)) refl
+pub has_sounds : (form : Form) (bytes : List ℕ) (size : ℕ) → HasSounds form bytes size
+has_sounds form bytes zero place end smaller ordered bounded = absurd (omega arith)
+has_sounds form bytes (suc size) place end smaller ordered bounded =
+    by_reading form bytes size place end (has_sounds form bytes size) smaller ordered bounded (reading form (region bytes place end))
+    refl
 
+-- the list of all bytes
 pub all_sounds : (form : Form) (bytes : List ℕ) → (places : List ℕ) × Sounds form bytes 0 (length bytes) places
 all_sounds form bytes = has_sounds form bytes (suc (length bytes)) 0 (length bytes) (omega arith) (omega arith) (omega arith)
 
--- ---- no region has two
+-- ---- no region has two: what is read at a place is one thing, so both lists have the same first scope
 
-both_parts : (p : ℕ) (a b c d : List ℕ) → a ≡ b → c ≡ d → p ∷ (a ++ c) ≡ p ∷ (b ++ d)
-both_parts p a b c d x y = ap (λ (t : List ℕ). p ∷ (t ++ c)) x ∙ ap (λ (t : List ℕ). p ∷ (b ++ t)) y
+both_parts : (place : ℕ) (inner other_inner later other_later : List ℕ) → inner ≡ other_inner → later ≡ other_later
+    → place ∷ (inner ++ later) ≡ place ∷ (other_inner ++ other_later)
+both_parts place inner other_inner later other_later same_inner same_later =
+    ap (λ (any : List ℕ). place ∷ (any ++ later)) same_inner ∙ ap (λ (any : List ℕ). place ∷ (other_inner ++ any)) same_later
 
-pub one_list : (form : Form) (bytes : List ℕ) (p e : ℕ) (places others : List ℕ) → Sounds form bytes p e places → Sounds form bytes p e others → places ≡ others
-one_list form bytes p e places others (no_more none) (no_more no_other) = refl
-one_list form bytes p e places others (no_more none) (one_more {s = t} other c d) = absurd (none t other)
-one_list form bytes p e places others (one_more {s = s} sound a b) (no_more none) = absurd (none s sound)
-one_list form bytes p e places others (one_more {s = s} {inner = i} {later = l} sound a b) (one_more {s = t} {inner = j} {later = m} other c d) =
-    let same : t ≡ s = one_sound form (region bytes p e) t s other sound in
-    let inner : i ≡ j = one_list form bytes (p + s.child_begin) (p + s.child_end) i j a (subst (λ (x : FoundScope). Sounds form bytes (p + x.child_begin) (p + x.child_end) j) same c) in
-    let later : l ≡ m = one_list form bytes (p + s.next_sibling) e l m b (subst (λ (x : FoundScope). Sounds form bytes (p + x.next_sibling) e m) same d) in
-    both_parts p i j l m inner later
+pub one_list : (form : Form) (bytes : List ℕ) (place end : ℕ) (places others : List ℕ) → Sounds form bytes place end places
+    → Sounds form bytes place end others → places ≡ others
+one_list form bytes place end places others (no_more none) (no_more no_other) = refl
+one_list form bytes place end places others (no_more none)
+    (one_more {found = other_found} other_sound of_other_inner of_other_later) =
+    absurd (none other_found other_sound)
+one_list form bytes place end places others (one_more {found = found} sound of_inner of_later) (no_more none) = absurd (none found sound)
+one_list form bytes place end places others (one_more {found = found} {inner = inner} {later = later} sound of_inner of_later)
+    (one_more {found = other_found} {inner = other_inner} {later = other_later} other_sound of_other_inner of_other_later) =
+    let same : other_found ≡ found = one_sound form (region bytes place end) other_found found other_sound sound in
+    let same_inner : inner ≡ other_inner =
+    one_list form bytes (place + found.child_begin) (place + found.child_end) inner other_inner of_inner
+    (subst (λ (any : FoundScope). Sounds form bytes (place + any.child_begin) (place + any.child_end) other_inner) same
+    of_other_inner) in
+    let same_later : later ≡ other_later =
+    one_list form bytes (place + found.next_sibling) end later other_later of_later
+    (subst (λ (any : FoundScope). Sounds form bytes (place + any.next_sibling) end other_later) same of_other_later) in
+    both_parts place inner other_inner later other_later same_inner same_later
 
 -- ---- the places rise
 
 -- the numbers rise strictly, from low on and below high
 abbrev Rises : ℕ → ℕ → List ℕ → Type 0
 Rises low high [] = Unit {0}
-Rises low high (x ∷ xs) = (low ≤ x) × (x < high) × Rises (suc x) high xs
+Rises low high (first ∷ others) = (low ≤ first) × (first < high) × Rises (suc first) high others
 
-rises_from : (a b high : ℕ) (xs : List ℕ) → a ≤ b → Rises b high xs → Rises a high xs
-rises_from a b high [] le h = tt
-rises_from a b high (x ∷ xs) le h = (omega (arith, h.0), h.1, h.2)
+-- what rises from a later place on rises from an earlier one on
+rises_from : (low from high : ℕ) (others : List ℕ) → low ≤ from → Rises from high others → Rises low high others
+rises_from low from high [] ordered rise = tt
+rises_from low from high (first ∷ others) ordered rise = (omega (arith, rise.0), rise.1, rise.2)
 
-rises_joined : (low a b high : ℕ) (xs ys : List ℕ) → low ≤ b → a ≤ b → b ≤ high → Rises low a xs → Rises b high ys → Rises low high (xs ++ ys)
-rises_joined low a b high [] ys from le to h k = rises_from low b high ys from k
-rises_joined low a b high (x ∷ xs) ys from le to h k = (h.0, omega (arith, h.1), rises_joined (suc x) a b high xs ys (omega (arith, h.1)) le to h.2 k)
+-- two rising lists, the second behind the first, rise when joined
+rises_joined : (low end place high : ℕ) (inner later : List ℕ) → low ≤ place → end ≤ place → place ≤ high → Rises low end inner
+    → Rises place high later → Rises low high (inner ++ later)
+rises_joined low end place high [] later apart ordered within inner_rise later_rise = rises_from low place high later apart later_rise
+rises_joined low end place high (first ∷ inner) later apart ordered within inner_rise later_rise = (
+  inner_rise.0,
+  omega (arith, inner_rise.1),
+  rises_joined (suc first) end place high inner later (omega (arith, inner_rise.1)) ordered within inner_rise.2 later_rise,
+)
 
-pub places_rise : (form : Form) (bytes : List ℕ) (p e : ℕ) (places : List ℕ) → p ≤ e → e ≤ length bytes → Sounds form bytes p e places → Rises p e places
-places_rise form bytes p e places h k (no_more none) = tt
-places_rise form bytes p e places h k (one_more {s = s} {inner = inner} {later = later} sound a b) =
-    let at = found_places form bytes p e s sound h k in
-    let x = places_rise form bytes (p + s.child_begin) (p + s.child_end) inner (omega (arith, at)) (omega (arith, at)) a in
-    let y = places_rise form bytes (p + s.next_sibling) e later (omega (arith, at)) k b in
-    let inside = rises_from (suc p) (p + s.child_begin) (p + s.child_end) inner (omega (arith, at)) x in
-    (omega arith, omega (arith, at), rises_joined (suc p) (p + s.child_end) (p + s.next_sibling) e inner later (omega (arith, at)) (omega (arith, at)) (omega (arith, at)) inside y)
+pub places_rise : (form : Form) (bytes : List ℕ) (place end : ℕ) (places : List ℕ) → place ≤ end → end ≤ length bytes
+    → Sounds form bytes place end places → Rises place end places
+places_rise form bytes place end places ordered bounded (no_more none) = tt
+places_rise form bytes place end places ordered bounded (one_more {found = found} {inner = inner} {later = later} sound of_inner of_later) =
+    let at = found_places form bytes place end found sound ordered bounded in
+    let inner_rise =
+    places_rise form bytes (place + found.child_begin) (place + found.child_end) inner (omega (arith, at)) (omega (arith, at))
+    of_inner in
+    let later_rise = places_rise form bytes (place + found.next_sibling) end later (omega (arith, at)) bounded of_later in
+    let inside = rises_from (suc place) (place + found.child_begin) (place + found.child_end) inner (omega (arith, at)) inner_rise in (
+      omega arith,
+      omega (arith, at),
+      rises_joined (suc place) (place + found.child_end) (place + found.next_sibling) end inner later (omega (arith, at))
+          (omega (arith, at)) (omega (arith, at)) inside later_rise,
+    )
 
-increasing : (low high : ℕ) (xs : List ℕ) → Rises low high xs → IsStrictlyIncreasing xs
-increasing low high [] h k lt = absurd (omega arith)
-increasing low high (x ∷ []) h k lt = absurd (omega arith)
-increasing low high (x ∷ y ∷ xs) h zero lt = omega (arith, h.2.0)
-increasing low high (x ∷ y ∷ xs) h (suc k) lt =
-    let e : suc (k + 1) ≡ suc k + 1 = omega arith in
-    subst (λ (n : ℕ). get_or (y ∷ xs) k 0 < get_or (x ∷ y ∷ xs) n 0) e (increasing (suc x) high (y ∷ xs) h.2 k (omega arith))
+increasing : (low high : ℕ) (others : List ℕ) → Rises low high others → IsStrictlyIncreasing others
+increasing low high [] rise index within = absurd (omega arith)
+increasing low high (first ∷ []) rise index within = absurd (omega arith)
+increasing low high (first ∷ second ∷ others) rise zero within = omega (arith, rise.2.0)
+increasing low high (first ∷ second ∷ others) rise (suc index) within =
+    let same : suc (index + 1) ≡ suc index + 1 = omega arith in
+    subst (λ (any : ℕ). get_or (second ∷ others) index 0 < get_or (first ∷ second ∷ others) any 0) same
+    (increasing (suc first) high (second ∷ others) rise.2 index (omega arith))
 
 pub sounds_increase : (form : Form) (bytes places : List ℕ) → Sounds form bytes 0 (length bytes) places → IsStrictlyIncreasing places
-sounds_increase form bytes places sounds = increasing 0 (length bytes) places (places_rise form bytes 0 (length bytes) places (omega arith) (omega arith) sounds)
+sounds_increase form bytes places sounds =
+    increasing 0 (length bytes) places (places_rise form bytes 0 (length bytes) places (omega arith) (omega arith) sounds)

@@ -1,294 +1,315 @@
--- What a walk with a visitor comes to, from how it went.
-use Rattle.std.proofs.Common.{◌≡◌, ℕ, ◌+◌, ◌-◌, ◌≤◌, List, [], ◌∷◌, ◌++◌, length, take, drop, map, refl, sym, ap, subst, ◌∙◌, arith, append_assoc, get_or, cond, eqb}
-use Rattle.std.proofs.lemmas.List.{length-append, get_or-take, get_or-drop, map-append}
+-- What a walk with a visitor comes to, by induction over how it went.
+use Rattle.std.proofs.Common.{◌≡◌, ℕ, ◌+◌, ◌≤◌, List, [], ◌∷◌, ◌++◌, length, map, refl, sym, ap, subst, ◌∙◌, arith, append_assoc}
+use Rattle.std.proofs.lemmas.List.{length-append}
 use Rattle.puffin_data.specs.declared.data.form.Form.{Form}
 use Rattle.puffin_data.specs.declared.error.Error.{Error}
-use Rattle.puffin_data.specs.Forest.{Span, Forest, empty, node, IsForest}
-use Rattle.puffin_data.specs.Forest.Spelling.{spelling}
-use Rattle.puffin_data.specs.Walk.Reading.{FoundScope}
+use Rattle.puffin_data.specs.Forest.{Span}
 use Rattle.puffin_data.specs.Walk.{region, IsFaultAt, Reaches, here, child, sibling}
 use Rattle.puffin_data.specs.inner.Walking.{tries_in}
-use Rattle.puffin_data.specs.Walk.PlacedScopes.{ScopeInContext, nested_in, PlacedScope, Sees, no_scope, one_scope, scopes_of, before}
+use Rattle.puffin_data.specs.Walk.PlacedScopes.{ScopeInContext, PlacedScope, Sees, no_scope, one_scope, scopes_of, before}
 use Rattle.puffin_data.specs.Walk.Visitor.{Entering, Refusing, TakesAll, StopsAtFault, StopsAtRefusal}
-use Rattle.puffin_data.proofs.lemmas.Numbers.{IsBytes, IsBytes-drop, IsBytes-take}
-use Rattle.puffin_data.proofs.Spelled.{spelt}
+use Rattle.puffin_data.proofs.lemmas.Numbers.{IsBytes}
 use Rattle.puffin_data.proofs.Resuming.{found_places}
-use Rattle.puffin_data.proofs.Regions.{length-region, part_of_region, rest_of_region, empty_region, whole_region, sound_is_no_fault, nothing_is_not_sound, between}
-use Rattle.puffin_data.proofs.Completes.{nothing_reached, after_sound, joined}
+use Rattle.puffin_data.proofs.Regions.{whole_region, sound_is_no_fault, between}
 use Rattle.puffin_data.proofs.FirstFaults.{by_parts}
 use Rattle.puffin_data.proofs.ScopesSeen.{placed_in, before-first, all_before, none_before}
-use Rattle.puffin_data.proofs.RangesTold.{fault_inside}
-use Rattle.puffin_data.proofs.Going.{over_all, at_fault, at_refusal, Goes, ends, meets_fault, is_refused, stops_within, goes_on}
-
--- laws of what a visitor takes, and of what it keeps of open scopes
-pub record VisitorLaws {V W : Type 0} (takes : V → List ScopeInContext → V → Type 0)
-    (stands_for : V → W → List Span → Type 0) : Type 0 where
-  pub none : (v : V) → takes v [] v
-  pub more : (u v w : V) (xs ys : List ScopeInContext) → takes u xs v → takes v ys w → takes u (xs ++ ys) w
-  pub still : (u v : V) (xs : List ScopeInContext) (w : W) (around : List Span) → takes u xs v →
-      stands_for u w around → stands_for v w around
-
-abbrev placed_at : ℕ → List Span → FoundScope → PlacedScope
-placed_at p around s = record { place = p; scope = record { around = around; span = s.span } }
-
--- the scopes of a placed one, of those in it and of those after it
-scopes_split : (s : PlacedScope) (inner later : List PlacedScope) → scopes_of (s ∷ (inner ++ later)) ≡ (s.scope ∷ []) ++ (scopes_of inner ++ scopes_of later)
-scopes_split s inner later = ap (λ (xs : List ScopeInContext). s.scope ∷ xs) (map-append (λ (x : PlacedScope). x.scope) inner later)
-
--- ---- a walk over its whole region
-
-pub record Done (form : Form) {V : Type 0} (takes : V → List ScopeInContext → V → Type 0) (bytes : List ℕ) (around : List Span) (v u : V) (n m p e : ℕ) : Type 0 where
-  pub forest : Forest
-  pub fits : IsForest form forest
-  pub spelled : region bytes p e ≡ spelling form forest
-  pub placed : List PlacedScope
-  pub sees : Sees form bytes around p e placed
-  pub same : scopes_of placed ≡ nested_in around forest
-  pub taken : takes v (scopes_of placed) u
-  pub tries : m ≡ n + length placed
-  pub faultless : (q f : ℕ) (fault : Error) → Reaches form bytes p e q f → IsFaultAt form bytes q f fault → ⊥
-
-pub same_scopes : (s : PlacedScope) (inner later : List PlacedScope) (a b : List ScopeInContext) → scopes_of inner ≡ a → scopes_of later ≡ b → scopes_of (s ∷ (inner ++ later)) ≡ s.scope ∷ (a ++ b)
-same_scopes s inner later a b x y =
-    scopes_split s inner later ∙ ap (λ (xs : List ScopeInContext). s.scope ∷ (xs ++ scopes_of later)) x ∙ ap (λ (xs : List ScopeInContext). s.scope ∷ (a ++ xs)) y
-
-taken_more : {V : Type 0} {W : Type 0} {takes : V → List ScopeInContext → V → Type 0} {stands_for : V → W → List Span → Type 0} (laws : VisitorLaws takes stands_for) (v u t z : V) (s : PlacedScope) (inner later : List PlacedScope)
-    → takes v (s.scope ∷ []) u → takes u (scopes_of inner) t → takes t (scopes_of later) z → takes v (scopes_of (s ∷ (inner ++ later))) z
-taken_more {V = V} {takes = takes} laws v u t z s inner later a b c =
-    subst (λ (xs : List ScopeInContext). takes v xs z) (sym (scopes_split s inner later))
-    (laws.more v u z (s.scope ∷ []) (scopes_of inner ++ scopes_of later) a (laws.more u t z (scopes_of inner) (scopes_of later) b c))
-
--- what is kept around a scope still stands after it
-still_after : {V : Type 0} {W : Type 0} {takes : V → List ScopeInContext → V → Type 0} {stands_for : V → W → List Span → Type 0} (laws : VisitorLaws takes stands_for) (v u t : V) (s : ScopeInContext) (inner : List ScopeInContext) (w : W) (around : List Span)
-    → takes v (s ∷ []) u → takes u inner t → stands_for v w around → stands_for t w around
-still_after laws v u t s inner w around a b stands = laws.still u t inner w around b (laws.still v u (s ∷ []) w around a stands)
-
-pub done : (form : Form) → {V W : Type 0} {takes : V → List ScopeInContext → V → Type 0} (refuses : V → ScopeInContext → Error → Type 0) {stands_for : V → W → List Span → Type 0} (laws : VisitorLaws takes stands_for) (bytes : List ℕ) (around : List Span) (w : W) (v u : V) (n m p e : ℕ)
-    → IsBytes bytes → p ≤ e → e ≤ length bytes → stands_for v w around → Goes form (Entering takes stands_for) (Refusing refuses stands_for) bytes w v n p e (over_all u m) → Done form takes bytes around v u n m p e
-done form refuses laws bytes around w v u n m p e fits h k stands ends =
-    record {
-      forest = empty;
-      fits = tt;
-      spelled = empty_region bytes p;
-      placed = [];
-      sees = no_scope (λ s sound. nothing_is_not_sound form (region bytes p p) s (empty_region bytes p) sound);
-      same = refl;
-      taken = laws.none v;
-      tries = omega arith;
-      faultless = λ q f fault r at. nothing_reached form bytes p p q f fault (empty_region bytes p) r at;
-    }
-done form refuses laws bytes around w v u n m p e fits h k stands (stops_within sound enter early inner) = absurd early
-done form refuses laws bytes around w v z n o p e fits h k stands (goes_on {x = x} {u = u} {t = t} {m = m} {s = s} sound enter inner later) =
-    let at = found_places form bytes p e s sound h k in
-    let first = enter around stands in
-    let a = done form refuses laws bytes (around ++ (s.span ∷ [])) x u t (n + 1) m (p + s.child_begin) (p + s.child_end) fits (omega (arith, at)) (omega (arith, at)) first.1 inner in
-    let b = done form refuses laws bytes around w t z m o (p + s.next_sibling) e fits (omega (arith, at)) k (still_after laws v u t _ _ w around first.0 a.taken stands) later in
-    let part = region bytes p e in
-    let spell = spelt form part s (IsBytes-take (e - p) (drop p bytes) (IsBytes-drop p bytes fits)) sound in
-    let inner_is : take (s.child_end - s.child_begin) (drop s.child_begin part) ≡ region bytes (p + s.child_begin) (p + s.child_end) = sym (part_of_region bytes p e s.child_begin s.child_end at.inside (omega (arith, at))) in
-    let rest_is : drop s.next_sibling part ≡ region bytes (p + s.next_sibling) e = sym (rest_of_region bytes p e s.next_sibling (omega (arith, at))) in
-    let size : length (take (s.child_end - s.child_begin) (drop s.child_begin part)) ≡ s.child_end - s.child_begin = ap length inner_is ∙ length-region bytes (p + s.child_begin) (p + s.child_end) (omega (arith, at)) ∙ omega arith in
-    record {
-      forest = node s.span a.forest b.forest;
-      fits = (spell.fits, a.fits, b.fits);
-      spelled = joined form part _ _ s.span (s.child_end - s.child_begin) a.forest b.forest spell.whole size (inner_is ∙ a.spelled) (rest_is ∙ b.spelled);
-      placed = placed_at p around s ∷ (a.placed ++ b.placed);
-      sees = one_scope sound a.sees b.sees;
-      same = same_scopes (placed_at p around s) a.placed b.placed _ _ a.same b.same;
-      taken = taken_more laws v u t z (placed_at p around s) a.placed b.placed first.0 a.taken b.taken;
-      tries = omega (arith, length-append a.placed b.placed, a.tries, b.tries);
-      faultless = λ q f fault r y. after_sound form bytes p e q f s fault sound (λ c. a.faultless q f fault c y) (λ c. b.faultless q f fault c y) r y;
-    }
+use Rattle.puffin_data.proofs.RangesTold.{fault_inside, tries_at}
+use Rattle.puffin_data.proofs.Going.{over_all, at_fault, at_refusal, Goes, meets_fault, is_refused, stops_within, goes_on}
+use Rattle.puffin_data.proofs.WalkedOver.{VisitorLaws, placed_at, taken_more, still_after, walks_over}
 
 -- ---- a walk that meets a fault
 
-pub record Meets (form : Form) {V : Type 0} (takes : V → List ScopeInContext → V → Type 0) (bytes : List ℕ) (around : List Span) (v u : V) (n m p e place : ℕ) (fault : Error) : Type 0 where
+-- the first fault of the region is at `place`, and the visitor has taken the scopes before it
+pub record Meets (form : Form) {V : Type 0} (takes : V → List ScopeInContext → V → Type 0) (bytes : List ℕ) (around : List Span)
+    (old new : V) (tries_before tries_after begin limit place : ℕ) (fault : Error) : Type 0 where
   pub end : ℕ
-  pub reached : Reaches form bytes p e place end
+  pub reached : Reaches form bytes begin limit place end
   pub stands : IsFaultAt form bytes place end fault
-  pub least : (q f : ℕ) (other : Error) → Reaches form bytes p e q f → IsFaultAt form bytes q f other → place ≤ q
+  pub least : (to to_end : ℕ) (other : Error) → Reaches form bytes begin limit to to_end → IsFaultAt form bytes to to_end other → place ≤ to
   pub placed : List PlacedScope
-  pub sees : Sees form bytes around p e placed
-  pub taken : takes v (scopes_of (before place placed)) u
-  pub tries : m ≡ n + length (before place placed) + tries_in (region bytes place end)
+  pub sees : Sees form bytes around begin limit placed
+  pub taken : takes old (scopes_of (before place placed)) new
+  pub tries : tries_after ≡ tries_before + length (before place placed) + tries_in (region bytes place end)
 
-pub meets : (form : Form) → {V W : Type 0} {takes : V → List ScopeInContext → V → Type 0} (refuses : V → ScopeInContext → Error → Type 0) {stands_for : V → W → List Span → Type 0} (laws : VisitorLaws takes stands_for) (bytes : List ℕ) (around : List Span) (w : W) (v u : V) (n m p e place : ℕ) (fault : Error)
-    → IsBytes bytes → p ≤ e → e ≤ length bytes → stands_for v w around → Goes form (Entering takes stands_for) (Refusing refuses stands_for) bytes w v n p e (at_fault u place fault m) → Meets form takes bytes around v u n m p e place fault
-meets form refuses laws bytes around w v u n m p e place fault fits h k stands (meets_fault at) =
+-- A walk that meets a fault. If it is within a scope, nothing behind that scope is before it; if it is behind, all in the scope is.
+pub meets : (form : Form)
+    → {V W : Type 0} {takes : V → List ScopeInContext → V → Type 0} (refuses : V → ScopeInContext → Error → Type 0)
+    {stands_for : V → W → List Span → Type 0} (laws : VisitorLaws takes stands_for) (bytes : List ℕ) (around : List Span) (within : W)
+    (old new : V) (tries_before tries_after begin limit place : ℕ) (fault : Error)
+    → IsBytes bytes → begin ≤ limit → limit ≤ length bytes → stands_for old within around
+    → Goes form (Entering takes stands_for) (Refusing refuses stands_for) bytes within old tries_before begin limit
+    (at_fault new place fault tries_after) → Meets form takes bytes around old new tries_before tries_after begin limit place fault
+meets form refuses laws bytes around within old new tries_before tries_after begin limit place fault fits ordered bounded stands
+    (meets_fault faulty_here) =
     record {
-      end = e;
+      end = limit;
       reached = here;
-      stands = at;
-      least = λ q f other r x. (between form bytes p e q f h k r).low;
+      stands = faulty_here;
+      least = λ to to_end other reach faulty. (between form bytes begin limit to to_end ordered bounded reach).low;
       placed = [];
-      sees = no_scope (λ s sound. sound_is_no_fault form (region bytes p e) s fault sound at);
-      taken = laws.none v;
+      sees = no_scope (λ found sound. sound_is_no_fault form (region bytes begin limit) found fault sound faulty_here);
+      taken = laws.none old;
       tries = omega arith;
     }
-meets form {takes = takes} refuses laws bytes around w v z n m p e place fault fits h k stands (stops_within {x = x} {u = u} {s = s} sound enter early inner) =
-    let at = found_places form bytes p e s sound h k in
+meets form {takes = takes} refuses laws bytes around within old new tries_before tries_after begin limit place fault fits ordered
+    bounded stands (stops_within {kept = kept} {visited = visited} {found = found} sound enter early inner) =
+    let places = found_places form bytes begin limit found sound ordered bounded in
     let first = enter around stands in
-    let a = meets form refuses laws bytes (around ++ (s.span ∷ [])) x u z (n + 1) m (p + s.child_begin) (p + s.child_end) place fault fits (omega (arith, at)) (omega (arith, at)) first.1 inner in
-    let inside = between form bytes (p + s.child_begin) (p + s.child_end) place a.end (omega (arith, at)) (omega (arith, at)) a.reached in
-    let b = placed_in form bytes around (p + s.next_sibling) e (omega (arith, at)) k in
-    let none = none_before form bytes around (p + s.next_sibling) e place b.0 (omega (arith, at)) k (omega (arith, at, inside)) b.1 in
-    let split = before-first place (placed_at p around s) a.placed b.0 (omega (arith, at, inside)) ∙ ap (λ (xs : List PlacedScope). placed_at p around s ∷ (before place a.placed ++ xs)) none in
+    let children =
+    meets form refuses laws bytes (around ++ (found.span ∷ [])) kept visited new (tries_before + 1) tries_after
+    (begin + found.child_begin) (begin + found.child_end) place fault fits (omega (arith, places)) (omega (arith, places)) first.1
+    inner in
+    let inside =
+    between form bytes (begin + found.child_begin) (begin + found.child_end) place children.end (omega (arith, places))
+    (omega (arith, places)) children.reached in
+    let others = placed_in form bytes around (begin + found.next_sibling) limit (omega (arith, places)) bounded in
+    let none =
+    none_before form bytes around (begin + found.next_sibling) limit place others.0 (omega (arith, places)) bounded
+    (omega (arith, places, inside)) others.1 in
+    let split =
+    before-first place (placed_at begin around found) children.placed others.0 (omega (arith, places, inside))
+    ∙ ap (λ (any : List PlacedScope). placed_at begin around found ∷ (before place children.placed ++ any)) none in
     record {
-      end = a.end;
-      reached = child sound a.reached;
-      stands = a.stands;
-      least = λ q f other r y. by_parts form bytes p e q f place s other sound (λ c. a.least q f other c y) (λ c. let d = between form bytes (p + s.next_sibling) e q f (omega (arith, at)) k c in omega (arith, at, inside, d)) r y;
-      placed = placed_at p around s ∷ (a.placed ++ b.0);
-      sees = one_scope sound a.sees b.1;
-      taken = subst (λ (xs : List PlacedScope). takes v (scopes_of xs) z) (sym split) (taken_more laws v u z z (placed_at p around s) (before place a.placed) [] first.0 a.taken (laws.none z));
-      tries = omega (arith, a.tries, ap length split, length-append (before place a.placed) []);
+      end = children.end;
+      reached = child sound children.reached;
+      stands = children.stands;
+      least =
+          λ to to_end other reach faulty.
+          by_parts form bytes begin limit to to_end place found other sound (λ way. children.least to to_end other way faulty)
+          (λ way. let lies = between form bytes (begin + found.next_sibling) limit to to_end (omega (arith, places)) bounded
+          way in omega (arith, places, inside, lies)) reach faulty;
+      placed = placed_at begin around found ∷ (children.placed ++ others.0);
+      sees = one_scope sound children.sees others.1;
+      taken =
+          subst (λ (any : List PlacedScope). takes old (scopes_of any) new) (sym split)
+          (taken_more laws old visited new new (placed_at begin around found) (before place children.placed) [] first.0 children.taken
+          (laws.none new));
+      tries = omega (arith, children.tries, ap length split, length-append (before place children.placed) []);
     }
-meets form {takes = takes} refuses laws bytes around w v z n o p e place fault fits h k stands (goes_on {x = x} {u = u} {t = t} {m = m} {s = s} sound enter inner later) =
-    let at = found_places form bytes p e s sound h k in
+meets form {takes = takes} refuses laws bytes around within old new tries_before tries_after begin limit place fault fits ordered
+    bounded stands (goes_on {kept = kept} {visited = visited} {left = left} {later_tries = tries_between} {found = found} sound enter
+    inner later) =
+    let places = found_places form bytes begin limit found sound ordered bounded in
     let first = enter around stands in
-    let a = done form refuses laws bytes (around ++ (s.span ∷ [])) x u t (n + 1) m (p + s.child_begin) (p + s.child_end) fits (omega (arith, at)) (omega (arith, at)) first.1 inner in
-    let b = meets form refuses laws bytes around w t z m o (p + s.next_sibling) e place fault fits (omega (arith, at)) k (still_after laws v u t _ _ w around first.0 a.taken stands) later in
-    let after = between form bytes (p + s.next_sibling) e place b.end (omega (arith, at)) k b.reached in
-    let all = all_before form bytes (around ++ (s.span ∷ [])) (p + s.child_begin) (p + s.child_end) place a.placed (omega (arith, at)) (omega (arith, at)) (omega (arith, at, after)) a.sees in
-    let split = before-first place (placed_at p around s) a.placed b.placed (omega (arith, at, after)) ∙ ap (λ (xs : List PlacedScope). placed_at p around s ∷ (xs ++ before place b.placed)) all in
+    let children =
+    walks_over form refuses laws bytes (around ++ (found.span ∷ [])) kept visited left (tries_before + 1) tries_between
+    (begin + found.child_begin) (begin + found.child_end) fits (omega (arith, places)) (omega (arith, places)) first.1 inner in
+    let others =
+    meets form refuses laws bytes around within left new tries_between tries_after (begin + found.next_sibling) limit place fault
+    fits (omega (arith, places)) bounded (still_after laws old visited left _ _ within around first.0 children.taken stands) later in
+    let after = between form bytes (begin + found.next_sibling) limit place others.end (omega (arith, places)) bounded others.reached in
+    let all =
+    all_before form bytes (around ++ (found.span ∷ [])) (begin + found.child_begin) (begin + found.child_end) place
+    children.placed (omega (arith, places)) (omega (arith, places)) (omega (arith, places, after)) children.sees in
+    let split =
+    before-first place (placed_at begin around found) children.placed others.placed (omega (arith, places, after))
+    ∙ ap (λ (any : List PlacedScope). placed_at begin around found ∷ (any ++ before place others.placed)) all in
     record {
-      end = b.end;
-      reached = sibling sound b.reached;
-      stands = b.stands;
-      least = λ q f other r y. by_parts form bytes p e q f place s other sound (λ c. absurd (a.faultless q f other c y)) (λ c. b.least q f other c y) r y;
-      placed = placed_at p around s ∷ (a.placed ++ b.placed);
-      sees = one_scope sound a.sees b.sees;
-      taken = subst (λ (xs : List PlacedScope). takes v (scopes_of xs) z) (sym split) (taken_more laws v u t z (placed_at p around s) a.placed (before place b.placed) first.0 a.taken b.taken);
-      tries = omega (arith, a.tries, b.tries, ap length split, length-append a.placed (before place b.placed));
+      end = others.end;
+      reached = sibling sound others.reached;
+      stands = others.stands;
+      least =
+          λ to to_end other reach faulty.
+          by_parts form bytes begin limit to to_end place found other sound
+          (λ way. absurd (children.faultless to to_end other way faulty)) (λ way. others.least to to_end other way faulty) reach
+          faulty;
+      placed = placed_at begin around found ∷ (children.placed ++ others.placed);
+      sees = one_scope sound children.sees others.sees;
+      taken =
+          subst (λ (any : List PlacedScope). takes old (scopes_of any) new) (sym split)
+          (taken_more laws old visited left new (placed_at begin around found) children.placed (before place others.placed) first.0
+          children.taken others.taken);
+      tries = omega (arith, children.tries, others.tries, ap length split, length-append children.placed (before place others.placed));
     }
 
 -- ---- a walk that is refused
 
-pub record Refused (form : Form) {V : Type 0} (takes : V → List ScopeInContext → V → Type 0) (refuses : V → ScopeInContext → Error → Type 0) (bytes : List ℕ) (around : List Span) (v : V) (n m p e : ℕ) (cause : Error) : Type 0 where
+-- the visitor has taken the scopes before one that it refuses, and no fault is before that one
+pub record MeetsRefusal (form : Form) {V : Type 0} (takes : V → List ScopeInContext → V → Type 0)
+    (refuses : V → ScopeInContext → Error → Type 0) (bytes : List ℕ) (around : List Span) (old : V)
+    (tries_before tries_after begin limit : ℕ) (cause : Error) : Type 0 where
   pub earlier : List PlacedScope
   pub met : PlacedScope
   pub later : List PlacedScope
-  pub sees : Sees form bytes around p e (earlier ++ (met ∷ later))
+  pub sees : Sees form bytes around begin limit (earlier ++ (met ∷ later))
   pub to : V
-  pub taken : takes v (scopes_of earlier) to
+  pub taken : takes old (scopes_of earlier) to
   pub refused : refuses to met.scope cause
-  pub first : (q f : ℕ) (fault : Error) → Reaches form bytes p e q f → IsFaultAt form bytes q f fault → met.place ≤ q
-  pub low : p ≤ met.place
-  pub high : met.place ≤ e
-  pub tries : m ≡ n + (length earlier + 1)
+  pub first : (to to_end : ℕ) (fault : Error) → Reaches form bytes begin limit to to_end → IsFaultAt form bytes to to_end fault
+      → met.place ≤ to
+  pub low : begin ≤ met.place
+  pub high : met.place ≤ limit
+  pub tries : tries_after ≡ tries_before + (length earlier + 1)
 
-regroup_inner : (s t : PlacedScope) (earlier later rest : List PlacedScope) → s ∷ ((earlier ++ (t ∷ later)) ++ rest) ≡ (s ∷ earlier) ++ (t ∷ (later ++ rest))
-regroup_inner s t earlier later rest = ap (λ (xs : List PlacedScope). s ∷ xs) (append_assoc earlier (t ∷ later) rest)
+regroup_inner : (outer met : PlacedScope) (earlier later rest : List PlacedScope)
+    → outer ∷ ((earlier ++ (met ∷ later)) ++ rest) ≡ (outer ∷ earlier) ++ (met ∷ (later ++ rest))
+regroup_inner outer met earlier later rest = ap (λ (any : List PlacedScope). outer ∷ any) (append_assoc earlier (met ∷ later) rest)
 
-regroup_later : (s t : PlacedScope) (inner earlier later : List PlacedScope) → s ∷ (inner ++ (earlier ++ (t ∷ later))) ≡ (s ∷ (inner ++ earlier)) ++ (t ∷ later)
-regroup_later s t inner earlier later = ap (λ (xs : List PlacedScope). s ∷ xs) (sym (append_assoc inner earlier (t ∷ later)))
+regroup_later : (outer met : PlacedScope) (inner earlier later : List PlacedScope)
+    → outer ∷ (inner ++ (earlier ++ (met ∷ later))) ≡ (outer ∷ (inner ++ earlier)) ++ (met ∷ later)
+regroup_later outer met inner earlier later = ap (λ (any : List PlacedScope). outer ∷ any) (sym (append_assoc inner earlier (met ∷ later)))
 
-pub refused_at : (form : Form) → {V W : Type 0} {takes : V → List ScopeInContext → V → Type 0} (refuses : V → ScopeInContext → Error → Type 0) {stands_for : V → W → List Span → Type 0} (laws : VisitorLaws takes stands_for) (bytes : List ℕ) (around : List Span) (w : W) (v : V) (n m p e place : ℕ) (cause : Error)
-    → IsBytes bytes → p ≤ e → e ≤ length bytes → stands_for v w around → Goes form (Entering takes stands_for) (Refusing refuses stands_for) bytes w v n p e (at_refusal place cause m) → Refused form takes refuses bytes around v n m p e cause
-refused_at form refuses laws bytes around w v n m p e place cause fits h k stands (is_refused {s = s} sound refused) =
-    let at = found_places form bytes p e s sound h k in
-    let a = placed_in form bytes (around ++ (s.span ∷ [])) (p + s.child_begin) (p + s.child_end) (omega (arith, at)) (omega (arith, at)) in
-    let b = placed_in form bytes around (p + s.next_sibling) e (omega (arith, at)) k in
+-- A walk that ends at a refused scope. Placed scopes behind that one are there too, though no walk went over them.
+pub refused_at : (form : Form)
+    → {V W : Type 0} {takes : V → List ScopeInContext → V → Type 0} (refuses : V → ScopeInContext → Error → Type 0)
+    {stands_for : V → W → List Span → Type 0} (laws : VisitorLaws takes stands_for) (bytes : List ℕ) (around : List Span) (within : W)
+    (old : V) (tries_before tries_after begin limit place : ℕ) (cause : Error)
+    → IsBytes bytes → begin ≤ limit → limit ≤ length bytes → stands_for old within around
+    → Goes form (Entering takes stands_for) (Refusing refuses stands_for) bytes within old tries_before begin limit
+    (at_refusal place cause tries_after) → MeetsRefusal form takes refuses bytes around old tries_before tries_after begin limit cause
+refused_at form refuses laws bytes around within old tries_before tries_after begin limit place cause fits ordered bounded stands
+    (is_refused {found = found} sound refused) =
+    let places = found_places form bytes begin limit found sound ordered bounded in
+    let children =
+    placed_in form bytes (around ++ (found.span ∷ [])) (begin + found.child_begin) (begin + found.child_end)
+    (omega (arith, places)) (omega (arith, places)) in
+    let others = placed_in form bytes around (begin + found.next_sibling) limit (omega (arith, places)) bounded in
     record {
       earlier = [];
-      met = placed_at p around s;
-      later = a.0 ++ b.0;
-      sees = one_scope sound a.1 b.1;
-      to = v;
-      taken = laws.none v;
+      met = placed_at begin around found;
+      later = children.0 ++ others.0;
+      sees = one_scope sound children.1 others.1;
+      to = old;
+      taken = laws.none old;
       refused = refused around stands;
-      first = λ q f fault r x. (between form bytes p e q f h k r).low;
+      first = λ to to_end fault reach faulty. (between form bytes begin limit to to_end ordered bounded reach).low;
       low = omega arith;
-      high = h;
+      high = ordered;
       tries = omega arith;
     }
-refused_at form {takes = takes} refuses laws bytes around w v n m p e place cause fits h k stands (stops_within {x = x} {u = u} {s = s} sound enter early inner) =
-    let at = found_places form bytes p e s sound h k in
+refused_at form {takes = takes} refuses laws bytes around within old tries_before tries_after begin limit place cause fits ordered
+    bounded stands (stops_within {kept = kept} {visited = visited} {found = found} sound enter early inner) =
+    let places = found_places form bytes begin limit found sound ordered bounded in
     let first = enter around stands in
-    let a = refused_at form refuses laws bytes (around ++ (s.span ∷ [])) x u (n + 1) m (p + s.child_begin) (p + s.child_end) place cause fits (omega (arith, at)) (omega (arith, at)) first.1 inner in
-    let b = placed_in form bytes around (p + s.next_sibling) e (omega (arith, at)) k in
-    let a-low = a.low in
-    let a-high = a.high in
+    let children =
+    refused_at form refuses laws bytes (around ++ (found.span ∷ [])) kept visited (tries_before + 1) tries_after
+    (begin + found.child_begin) (begin + found.child_end) place cause fits (omega (arith, places)) (omega (arith, places)) first.1
+    inner in
+    let others = placed_in form bytes around (begin + found.next_sibling) limit (omega (arith, places)) bounded in
+    let children_low = children.low in
+    let children_high = children.high in
     record {
-      earlier = placed_at p around s ∷ a.earlier;
-      met = a.met;
-      later = a.later ++ b.0;
-      sees = subst (λ (xs : List PlacedScope). Sees form bytes around p e xs) (regroup_inner (placed_at p around s) a.met a.earlier a.later b.0) (one_scope sound a.sees b.1);
-      to = a.to;
-      taken = laws.more v u a.to (record { around = around; span = s.span } ∷ []) (scopes_of a.earlier) first.0 a.taken;
-      refused = a.refused;
-      first = λ q f fault r y. by_parts form bytes p e q f a.met.place s fault sound (λ c. a.first q f fault c y) (λ c. let d = between form bytes (p + s.next_sibling) e q f (omega (arith, at)) k c in omega (arith, at, a-high, d)) r y;
-      low = omega (arith, at, a-low);
-      high = omega (arith, at, a-high);
-      tries = omega (arith, a.tries);
+      earlier = placed_at begin around found ∷ children.earlier;
+      met = children.met;
+      later = children.later ++ others.0;
+      sees =
+          subst (λ (any : List PlacedScope). Sees form bytes around begin limit any)
+          (regroup_inner (placed_at begin around found) children.met children.earlier children.later others.0)
+          (one_scope sound children.sees others.1);
+      to = children.to;
+      taken =
+          laws.more old visited children.to (record { around = around; span = found.span } ∷ []) (scopes_of children.earlier) first.0
+          children.taken;
+      refused = children.refused;
+      first =
+          λ to to_end fault reach faulty.
+          by_parts form bytes begin limit to to_end children.met.place found fault sound
+          (λ way. children.first to to_end fault way faulty)
+          (λ way. let lies = between form bytes (begin + found.next_sibling) limit to to_end (omega (arith, places)) bounded
+          way in omega (arith, places, children_high, lies)) reach faulty;
+      low = omega (arith, places, children_low);
+      high = omega (arith, places, children_high);
+      tries = omega (arith, children.tries);
     }
-refused_at form {takes = takes} refuses laws bytes around w v n o p e place cause fits h k stands (goes_on {x = x} {u = u} {t = t} {m = m} {s = s} sound enter inner later) =
-    let at = found_places form bytes p e s sound h k in
+refused_at form {takes = takes} refuses laws bytes around within old tries_before tries_after begin limit place cause fits ordered
+    bounded stands (goes_on {kept = kept} {visited = visited} {left = left} {later_tries = tries_between} {found = found} sound enter
+    inner later) =
+    let places = found_places form bytes begin limit found sound ordered bounded in
     let first = enter around stands in
-    let a = done form refuses laws bytes (around ++ (s.span ∷ [])) x u t (n + 1) m (p + s.child_begin) (p + s.child_end) fits (omega (arith, at)) (omega (arith, at)) first.1 inner in
-    let b = refused_at form refuses laws bytes around w t m o (p + s.next_sibling) e place cause fits (omega (arith, at)) k (still_after laws v u t _ _ w around first.0 a.taken stands) later in
-    let b-low = b.low in
-    let b-high = b.high in
+    let children =
+    walks_over form refuses laws bytes (around ++ (found.span ∷ [])) kept visited left (tries_before + 1) tries_between
+    (begin + found.child_begin) (begin + found.child_end) fits (omega (arith, places)) (omega (arith, places)) first.1 inner in
+    let others =
+    refused_at form refuses laws bytes around within left tries_between tries_after (begin + found.next_sibling) limit place cause
+    fits (omega (arith, places)) bounded (still_after laws old visited left _ _ within around first.0 children.taken stands) later in
+    let others_low = others.low in
+    let others_high = others.high in
     record {
-      earlier = placed_at p around s ∷ (a.placed ++ b.earlier);
-      met = b.met;
-      later = b.later;
-      sees = subst (λ (xs : List PlacedScope). Sees form bytes around p e xs) (regroup_later (placed_at p around s) b.met a.placed b.earlier b.later) (one_scope sound a.sees b.sees);
-      to = b.to;
-      taken = taken_more laws v u t b.to (placed_at p around s) a.placed b.earlier first.0 a.taken b.taken;
-      refused = b.refused;
-      first = λ q f fault r y. by_parts form bytes p e q f b.met.place s fault sound (λ c. absurd (a.faultless q f fault c y)) (λ c. b.first q f fault c y) r y;
-      low = omega (arith, at, b-low);
-      high = omega (arith, b-high);
-      tries = omega (arith, a.tries, b.tries, length-append a.placed b.earlier);
+      earlier = placed_at begin around found ∷ (children.placed ++ others.earlier);
+      met = others.met;
+      later = others.later;
+      sees =
+          subst (λ (any : List PlacedScope). Sees form bytes around begin limit any)
+          (regroup_later (placed_at begin around found) others.met children.placed others.earlier others.later)
+          (one_scope sound children.sees others.sees);
+      to = others.to;
+      taken =
+          taken_more laws old visited left others.to (placed_at begin around found) children.placed others.earlier first.0
+          children.taken others.taken;
+      refused = others.refused;
+      first =
+          λ to to_end fault reach faulty.
+          by_parts form bytes begin limit to to_end others.met.place found fault sound
+          (λ way. absurd (children.faultless to to_end fault way faulty)) (λ way. others.first to to_end fault way faulty) reach
+          faulty;
+      low = omega (arith, places, others_low);
+      high = omega (arith, others_high);
+      tries = omega (arith, children.tries, others.tries, length-append children.placed others.earlier);
     }
 
--- ---- told of the whole bytes
+-- ---- the same of all bytes, as the specs say it
 
-pub all_taken : (form : Form) → {V W : Type 0} {takes : V → List ScopeInContext → V → Type 0} (refuses : V → ScopeInContext → Error → Type 0) {stands_for : V → W → List Span → Type 0} (laws : VisitorLaws takes stands_for) (bytes : List ℕ) (w : W) (v u : V) (m : ℕ)
-    → IsBytes bytes → stands_for v w [] → Goes form (Entering takes stands_for) (Refusing refuses stands_for) bytes w v 0 0 (length bytes) (over_all u m) → TakesAll form takes v u bytes m
-all_taken form {takes = takes} refuses laws bytes w v u m fits stands g =
-    let d = done form refuses laws bytes [] w v u 0 m 0 (length bytes) fits (omega arith) (omega arith) stands g in
+pub all_taken : (form : Form)
+    → {V W : Type 0} {takes : V → List ScopeInContext → V → Type 0} (refuses : V → ScopeInContext → Error → Type 0)
+    {stands_for : V → W → List Span → Type 0} (laws : VisitorLaws takes stands_for) (bytes : List ℕ) (within : W) (old new : V)
+    (tries : ℕ)
+    → IsBytes bytes → stands_for old within []
+    → Goes form (Entering takes stands_for) (Refusing refuses stands_for) bytes within old 0 0 (length bytes) (over_all new tries)
+    → TakesAll form takes old new bytes tries
+all_taken form {takes = takes} refuses laws bytes within old new tries fits stands goes =
+    let all = walks_over form refuses laws bytes [] within old new 0 tries 0 (length bytes) fits (omega arith) (omega arith) stands goes in
     record {
-      forest = d.forest;
-      spells = record { whole = sym (whole_region bytes) ∙ d.spelled; fits = d.fits };
-      taken = subst (λ (xs : List ScopeInContext). takes v xs u) d.same d.taken;
-      tries = omega (arith, d.tries, ap length d.same, map_length (λ (x : PlacedScope). x.scope) d.placed);
+      forest = all.forest;
+      spells = record { whole = sym (whole_region bytes) ∙ all.spelled; fits = all.fits };
+      taken = subst (λ (any : List ScopeInContext). takes old any new) all.same all.taken;
+      tries = omega (arith, all.tries, ap length all.same, map_length (λ (one : PlacedScope). one.scope) all.placed);
     }
   where
-    map_length : {A B : Type 0} (f : A → B) (xs : List A) → length (map f xs) ≡ length xs
+    map_length : {A B : Type 0} (f : A → B) (any : List A) → length (map f any) ≡ length any
     map_length f [] = refl
-    map_length f (x ∷ xs) = let e = map_length f xs in omega arith
+    map_length f (one ∷ any) = let e = map_length f any in omega arith
 
-pub stops_at_fault : (form : Form) → {V W : Type 0} {takes : V → List ScopeInContext → V → Type 0} (refuses : V → ScopeInContext → Error → Type 0) {stands_for : V → W → List Span → Type 0} (laws : VisitorLaws takes stands_for) (bytes : List ℕ) (w : W) (v u : V) (m place : ℕ) (fault : Error)
-    → IsBytes bytes → stands_for v w [] → Goes form (Entering takes stands_for) (Refusing refuses stands_for) bytes w v 0 0 (length bytes) (at_fault u place fault m) → StopsAtFault form takes v u bytes m fault
-stops_at_fault form refuses laws bytes w v u m place fault fits stands g =
-    let s = meets form refuses laws bytes [] w v u 0 m 0 (length bytes) place fault fits (omega arith) (omega arith) stands g in
-    let within = between form bytes 0 (length bytes) place s.end (omega arith) (omega arith) s.reached in
-    let inside = fault_inside form bytes place s.end fault within.middle s.stands in
-    let first : get_or (region bytes place s.end) 0 0 ≡ get_or bytes place 0 = get_or-take (s.end - place) (drop place bytes) 0 0 (omega (arith, inside)) ∙ get_or-drop place bytes 0 0 ∙ ap (λ (n : ℕ). get_or bytes n 0) (omega arith) in
-    let last : tries_in (region bytes place s.end) ≡ cond {A = ℕ} (eqb (get_or bytes place 0) 40) 1 0 = ap (λ (b : ℕ). cond (eqb b 40) 1 0) first in
+pub stops_at_fault : (form : Form)
+    → {V W : Type 0} {takes : V → List ScopeInContext → V → Type 0} (refuses : V → ScopeInContext → Error → Type 0)
+    {stands_for : V → W → List Span → Type 0} (laws : VisitorLaws takes stands_for) (bytes : List ℕ) (within : W) (old new : V)
+    (tries place : ℕ) (fault : Error)
+    → IsBytes bytes → stands_for old within []
+    → Goes form (Entering takes stands_for) (Refusing refuses stands_for) bytes within old 0 0 (length bytes)
+    (at_fault new place fault tries) → StopsAtFault form takes old new bytes tries fault
+stops_at_fault form refuses laws bytes within old new tries place fault fits stands goes =
+    let met =
+    meets form refuses laws bytes [] within old new 0 tries 0 (length bytes) place fault fits (omega arith) (omega arith) stands
+    goes in
+    let lies = between form bytes 0 (length bytes) place met.end (omega arith) (omega arith) met.reached in
+    let inside = fault_inside form bytes place met.end fault lies.middle met.stands in
     record {
       place = place;
-      first = record { end = s.end; reached = s.reached; stands = s.stands; least = s.least };
-      placed = s.placed;
-      sees = s.sees;
-      taken = s.taken;
-      tries = omega (arith, s.tries, last);
+      first = record { end = met.end; reached = met.reached; stands = met.stands; least = met.least };
+      placed = met.placed;
+      sees = met.sees;
+      taken = met.taken;
+      tries = omega (arith, met.tries, tries_at bytes place met.end inside);
     }
 
-pub stops_at_refusal : (form : Form) → {V W : Type 0} {takes : V → List ScopeInContext → V → Type 0} (refuses : V → ScopeInContext → Error → Type 0) {stands_for : V → W → List Span → Type 0} (laws : VisitorLaws takes stands_for) (bytes : List ℕ) (w : W) (v : V) (m place : ℕ) (cause : Error)
-    → IsBytes bytes → stands_for v w [] → Goes form (Entering takes stands_for) (Refusing refuses stands_for) bytes w v 0 0 (length bytes) (at_refusal place cause m) → StopsAtRefusal form takes refuses v bytes m cause
-stops_at_refusal form refuses laws bytes w v m place cause fits stands g =
-    let s = refused_at form refuses laws bytes [] w v 0 m 0 (length bytes) place cause fits (omega arith) (omega arith) stands g in
+pub stops_at_refusal : (form : Form)
+    → {V W : Type 0} {takes : V → List ScopeInContext → V → Type 0} (refuses : V → ScopeInContext → Error → Type 0)
+    {stands_for : V → W → List Span → Type 0} (laws : VisitorLaws takes stands_for) (bytes : List ℕ) (within : W) (old : V)
+    (tries place : ℕ) (cause : Error)
+    → IsBytes bytes → stands_for old within []
+    → Goes form (Entering takes stands_for) (Refusing refuses stands_for) bytes within old 0 0 (length bytes)
+    (at_refusal place cause tries) → StopsAtRefusal form takes refuses old bytes tries cause
+stops_at_refusal form refuses laws bytes within old tries place cause fits stands goes =
+    let met =
+    refused_at form refuses laws bytes [] within old 0 tries 0 (length bytes) place cause fits (omega arith) (omega arith) stands
+    goes in
     record {
-      earlier = s.earlier;
-      met = s.met;
-      later = s.later;
-      sees = s.sees;
-      to = s.to;
-      taken = s.taken;
-      refused = s.refused;
-      first = s.first;
-      tries = omega (arith, s.tries);
+      earlier = met.earlier;
+      met = met.met;
+      later = met.later;
+      sees = met.sees;
+      to = met.to;
+      taken = met.taken;
+      refused = met.refused;
+      first = met.first;
+      tries = omega (arith, met.tries);
     }

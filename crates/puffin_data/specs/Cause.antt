@@ -6,6 +6,7 @@ use Rattle.puffin_data.specs.declared.error.Error.TheVariants as error
 use Rattle.puffin_data.specs.declared.file_error.FileError.{FileError}
 use Rattle.puffin_data.specs.declared.file_error.FileError.TheVariants as file
 
+-- the number of an error: 1 for the first variant, and so on
 abbrev pub error_number : Error → ℕ
 error_number error.PrematureEnd = 1
 error_number error.InvalidStream = 2
@@ -25,6 +26,7 @@ error_number error.NoThread = 15
 error_number error.Memory = 16
 error_number error.UnlikeForms = 17
 
+-- the name of an error, as characters
 abbrev pub error_name : Error → List ℕ
 error_name error.PrematureEnd = codes "PrematureEnd"
 error_name error.InvalidStream = codes "InvalidStream"
@@ -49,6 +51,7 @@ abbrev pub file_error_of : Error → FileError
 file_error_of error.Memory = file.Memory
 file_error_of cause = file.Refused cause
 
+-- the number of a file error: 1 for the first variant, and so on
 abbrev pub file_error_number : FileError → ℕ
 file_error_number file.Io = 1
 file_error_number file.NoMagic = 2
@@ -65,6 +68,7 @@ file_error_number file.PartTooLong = 12
 file_error_number (file.Refused cause) = 13
 file_error_number file.Memory = 14
 
+-- the name of a file error, without what it holds
 abbrev pub file_error_name : FileError → List ℕ
 file_error_name file.Io = codes "Io"
 file_error_name file.NoMagic = codes "NoMagic"
@@ -88,5 +92,6 @@ file_error_detail (file.Compressed kind) = 32 ∷ decimal kind
 file_error_detail (file.Refused cause) = 32 ∷ error_name cause
 file_error_detail _ = []
 
+-- a file error as it is displayed
 abbrev pub file_error_text : FileError → List ℕ
 file_error_text fault = file_error_name fault ++ file_error_detail fault

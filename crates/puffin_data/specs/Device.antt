@@ -8,16 +8,16 @@ use Rattle.puffin_data.specs.declared.file_error.FileError.TheVariants as file
 
 -- whether a call returned `Io`
 abbrev pub is_io : {X : Type 0} → Result X FileError → Bool
-is_io (Ok x) = false
+is_io (Ok value) = false
 is_io (Err file.Io) = true
 is_io (Err _) = false
 
 -- a reader's number of failures after a call
-abbrev pub failures_after : {X : Type 0} → ℕ → Result X FileError → ℕ
-failures_after n r = if is_io r then n + 1 else n
+abbrev pub failures_after : {X : Type 0} → (before : ℕ) → Result X FileError → ℕ
+failures_after before result = if is_io result then before + 1 else before
 
--- one more failure can be counted
-abbrev pub CanFail : {D : Type 0} → (D → ℕ) → D → Type 0
+-- the device has had so few failures that one more can be counted
+abbrev pub CanFail : {D : Type 0} → (failures : D → ℕ) → (device : D) → Type 0
 CanFail failures device = failures device < 2 ^ 64 - 1
 
 -- a failure of the device or of memory, not a fault in what was read
@@ -25,41 +25,44 @@ abbrev pub IsOutside : FileError → Type 0
 IsOutside fault = (fault ≡ file.Io) ⊎ (fault ≡ file.Memory)
 
 -- the last write took no byte of a piece that wasn't empty
-abbrev pub TookNothing : {D : Type 0} → (D → List ℕ → ℕ → D → Type 0) → D → Type 0
+abbrev pub TookNothing : {D : Type 0} → (takes : D → List ℕ → ℕ → D → Type 0) → (now : D) → Type 0
 TookNothing {D = D} takes now =
     (before : D) × (piece : List ℕ) × (0 < length piece) × takes before piece 0 now
 
 -- a prefix of these bytes was written
-abbrev pub WritesBeginning : Option (List ℕ) → Option (List ℕ) → List ℕ → Type 0
+abbrev pub WritesBeginning : (old : Option (List ℕ)) → (new : Option (List ℕ)) →
+    (bytes : List ℕ) → Type 0
 WritesBeginning old new bytes =
     (front rest : List ℕ) × (bytes ≡ front ++ rest) × Appends old new front
 
--- at most n bytes were taken, and fewer only at the end
-pub record TookUpTo (old new : Option (List ℕ)) (n : ℕ) (taken : List ℕ) : Type 0 where
+-- at most `limit` bytes were taken, and fewer only at the end
+pub record TookUpTo (old new : Option (List ℕ)) (limit : ℕ) (taken : List ℕ) : Type 0 where
   pub consumed : Consumes old new taken
   pub bytes : IsBytes taken
-  pub most : length taken ≤ n
-  pub fewer : length taken < n → IsAtEnd new
+  pub most : length taken ≤ limit
+  pub fewer : length taken < limit → IsAtEnd new
 
--- A call that read a device failed: with `Io` or `Memory`, or with the fault that the reading gives on the bytes that it took.
-abbrev pub FailsAt : {A : Type 0} → FileError → Option (List ℕ) → Option (List ℕ) →
-    (List ℕ → Result (A × List ℕ) FileError) → Type 0
+-- A call that read a device failed with this fault: with `Io` or `Memory`, or with the fault that the reading `read` gives on the
+-- bytes that the call took. `old` and `new` are the device's bytes before and after, if they are known.
+abbrev pub FailsAt : {A : Type 0} → (fault : FileError) → (old : Option (List ℕ)) →
+    (new : Option (List ℕ)) → (read : List ℕ → Result (A × List ℕ) FileError) → Type 0
 FailsAt file.Io old new read = Unit {0}
 FailsAt file.Memory old new read = Unit {0}
 -- the bytes end too early: the reading gives this fault on all that the device had
 FailsAt file.Truncated old new read =
     (taken : List ℕ) × Consumes old new taken × IsAtEnd new × (read taken ≡ Err file.Truncated)
 -- these bytes have this fault, whatever follows
-FailsAt e old new read =
-    (taken : List ℕ) × Consumes old new taken × ((rest : List ℕ) → read (taken ++ rest) ≡ Err e)
+FailsAt fault old new read =
+    (taken : List ℕ) × Consumes old new taken × ((rest : List ℕ) → read (taken ++ rest) ≡ Err fault)
 
--- A call took bytes from a device and returned, seen by view, what the reading gives on them, whatever follows. If the device's
--- bytes aren't known, that holds for some bytes.
-abbrev pub FromDevice : {X A : Type 0} → (X → A) → Option (List ℕ) → Option (List ℕ) →
-    Result X FileError → (List ℕ → Result (A × List ℕ) FileError) → Type 0
-FromDevice view old new (Ok x) read =
+-- A call took bytes from a device and returned, seen by `view`, what the reading `read` gives on them, whatever follows; or it
+-- failed. If the device's bytes aren't known, that holds for some bytes.
+abbrev pub FromDevice : {X A : Type 0} → (view : X → A) → (old : Option (List ℕ)) →
+    (new : Option (List ℕ)) → (result : Result X FileError) →
+    (read : List ℕ → Result (A × List ℕ) FileError) → Type 0
+FromDevice view old new (Ok value) read =
     (taken : List ℕ)
     × Consumes old new taken
-    × ((rest : List ℕ) → read (taken ++ rest) ≡ Ok (view x, rest))
+    × ((rest : List ℕ) → read (taken ++ rest) ≡ Ok (view value, rest))
     × IsBytes taken
-FromDevice view old new (Err e) read = FailsAt e old new read
+FromDevice view old new (Err fault) read = FailsAt fault old new read

@@ -1,19 +1,23 @@
--- Parts at the front of bytes that may end too early.
+-- Reading parts at the front of bytes that may end too early.
 use Rattle.std.specs.Prelude.{ℕ, List, length, take, drop, slice_index, Result, Ok, Err, nat_lt, if◌then◌else◌}
 use Rattle.byteorder.specs.Endian.{little_number}
 use Rattle.puffin_data.specs.declared.file_error.FileError.{FileError}
 use Rattle.puffin_data.specs.declared.file_error.FileError.TheVariants as file
 
+-- A reading gives a pair, what it read (`.0`) and the bytes after it (`.1`), or a fault.
+
+-- what the second reading gives on the first one's result, or the first one's fault
 infixl 10 ◌>>=◌
 abbrev pub ◌>>=◌ : {A B : Type 0} → Result A FileError → (A → Result B FileError) →
     Result B FileError
-(Ok x) >>= f = f x
-(Err e) >>= f = Err e
+(Ok value) >>= next = next value
+(Err fault) >>= next = Err fault
 
--- n bytes
-abbrev pub part_of : ℕ → List ℕ → Result (List ℕ × List ℕ) FileError
-part_of n bytes =
-    if nat_lt (length bytes) n then Err file.Truncated else Ok (take n bytes, drop n bytes)
+-- the first `count` bytes
+abbrev pub part_of : (count : ℕ) → List ℕ → Result (List ℕ × List ℕ) FileError
+part_of count bytes =
+    if nat_lt (length bytes) count then Err file.Truncated
+    else Ok (take count bytes, drop count bytes)
 
 -- one byte
 abbrev pub first_at : List ℕ → Result (ℕ × List ℕ) FileError
@@ -30,5 +34,5 @@ part_length_at bytes = do
 -- a length, and that many bytes
 abbrev pub counted_part_at : List ℕ → Result (List ℕ × List ℕ) FileError
 counted_part_at bytes = do
-  n ← part_length_at bytes
-  part_of n.0 n.1
+  count ← part_length_at bytes
+  part_of count.0 count.1

@@ -19,66 +19,75 @@ pub record ReadScope : Type 0 where
   pub child_end : ℕ
   pub next_sibling : ℕ
 
--- the sound scope found at place p
-abbrev pub read_scope : ℕ → FoundScope → ReadScope
-read_scope p s = record {
-  id = s.span.id;
-  start = s.span.start;
-  duration = s.span.stop -ℤ s.span.start;
-  text = text_in s.span.text;
-  child_begin = p + s.child_begin;
-  child_end = p + s.child_end;
-  next_sibling = p + s.next_sibling;
+-- the sound scope that was found at this place
+abbrev pub read_scope : (place : ℕ) → FoundScope → ReadScope
+read_scope place found = record {
+  id = found.span.id;
+  start = found.span.start;
+  duration = found.span.stop -ℤ found.span.start;
+  text = text_in found.span.text;
+  child_begin = place + found.child_begin;
+  child_end = place + found.child_end;
+  next_sibling = place + found.next_sibling;
 }
 
-abbrev pub read_from : ℕ → Result (Option FoundScope) Error → Result (Option ReadScope) Error
-read_from p (Ok None) = Ok None
-read_from p (Ok (Some s)) = Ok (Some (read_scope p s))
-read_from p (Err fault) = Err fault
+-- a reading at this place, with its scope, if any, as a reader returns it
+abbrev pub read_from : (place : ℕ) → Result (Option FoundScope) Error →
+    Result (Option ReadScope) Error
+read_from place (Ok None) = Ok None
+read_from place (Ok (Some found)) = Ok (Some (read_scope place found))
+read_from place (Err fault) = Err fault
 
--- what is at place p of the region that ends at e: no scope, a sound scope or a fault
-abbrev pub scope_read : Form → List ℕ → ℕ → ℕ → Result (Option ReadScope) Error
-scope_read form bytes p e = read_from p (reading form (region bytes p e))
+-- what is at a place of the region that ends at `end`: no scope, a sound scope or a fault
+abbrev pub scope_read : Form → (bytes : List ℕ) → (place : ℕ) → (end : ℕ) →
+    Result (Option ReadScope) Error
+scope_read form bytes place end = read_from place (reading form (region bytes place end))
 
--- a reader's place in a stream's bytes
+-- a reader's place `at` in a stream's bytes, and the stream's form
 pub record ReaderState : Type 0 where
   pub form : Form
   pub bytes : List ℕ
   pub at : ℕ
 
--- what a reader returns next, and its place afterwards: after a fault, the end of all bytes
+-- What a reader returns next and its place afterwards, from what is at its place. After a scope it moves to the next sibling, after a
+-- fault to the end of all bytes.
 abbrev pub next_after : ReaderState → Result (Option ReadScope) Error →
     Option (Result ReadScope Error) × ℕ
 next_after from (Ok None) = (None, from.at)
-next_after from (Ok (Some s)) = (Some (Ok s), s.next_sibling)
+next_after from (Ok (Some scope)) = (Some (Ok scope), scope.next_sibling)
 next_after from (Err fault) = (Some (Err fault), length from.bytes)
 
+-- what a reader in this state returns next, and its place afterwards
 abbrev pub next_read : ReaderState → Option (Result ReadScope Error) × ℕ
 next_read from = next_after from (scope_read from.form from.bytes from.at (length from.bytes))
 
--- All that a reader returns from place p on: the sound scopes one after the other, and then the fault, if there is one.
+-- All that a reader returns from a place on: the sound scopes one after the other, and then the fault, if there is one.
 pub data ReaderGives (form : Form) (bytes : List ℕ) :
-    ℕ → List (Result ReadScope Error) → Type 0 where
-  ends : {p : ℕ} → scope_read form bytes p (length bytes) ≡ Ok None → ReaderGives form bytes p []
-  stops : {p : ℕ} {fault : Error} → scope_read form bytes p (length bytes) ≡ Err fault →
-      ReaderGives form bytes p (Err fault ∷ [])
-  goes_on : {p : ℕ} {s : ReadScope} {later : List (Result ReadScope Error)} →
-      scope_read form bytes p (length bytes) ≡ Ok (Some s) →
-      ReaderGives form bytes s.next_sibling later →
-      ReaderGives form bytes p (Ok s ∷ later)
+    (place : ℕ) → (items : List (Result ReadScope Error)) → Type 0 where
+  ends : {place : ℕ} → scope_read form bytes place (length bytes) ≡ Ok None →
+      ReaderGives form bytes place []
+  stops : {place : ℕ} {fault : Error} → scope_read form bytes place (length bytes) ≡ Err fault →
+      ReaderGives form bytes place (Err fault ∷ [])
+  goes_on : {place : ℕ} {scope : ReadScope} {later : List (Result ReadScope Error)} →
+      scope_read form bytes place (length bytes) ≡ Ok (Some scope) →
+      ReaderGives form bytes scope.next_sibling later →
+      ReaderGives form bytes place (Ok scope ∷ later)
 
--- the top-level scopes of a forest whose spelling begins at place p
-abbrev pub top_scopes : Form → ℕ → Forest → List ReadScope
-top_scopes form p empty = []
-top_scopes form p (node s children others) =
+-- the number of a scope's bytes up to the end of its children
+abbrev pub inner_size : Form → (text : List ℕ) → (children : Forest) → ℕ
+inner_size form text children = head_size form text + length (spelling form children)
+
+-- the top-level scopes of a forest whose spelling begins at this place
+abbrev pub top_scopes : Form → (place : ℕ) → Forest → List ReadScope
+top_scopes form place empty = []
+top_scopes form place (node first children others) =
     record {
-      id = s.id;
-      start = s.start;
-      duration = s.stop -ℤ s.start;
-      text = text_in s.text;
-      child_begin = p + head_size form s.text;
-      child_end = p + (head_size form s.text + length (spelling form children));
-      next_sibling = p + (head_size form s.text + length (spelling form children) + end_size);
+      id = first.id;
+      start = first.start;
+      duration = first.stop -ℤ first.start;
+      text = text_in first.text;
+      child_begin = place + head_size form first.text;
+      child_end = place + inner_size form first.text children;
+      next_sibling = place + (inner_size form first.text children + end_size);
     }
-    ∷ top_scopes form (p + (head_size form s.text + length (spelling form children) + end_size))
-    others
+    ∷ top_scopes form (place + (inner_size form first.text children + end_size)) others

@@ -20,7 +20,7 @@ pub record IsCut (form : Form) (text cut : List ℕ) : Type 0 where
   pub is : cut ≡ take size text
   pub short : size ≤ text_limit form
   pub ends_character : IsCharBoundary text size
-  pub longest : (n : ℕ) → n ≤ text_limit form → IsCharBoundary text n → n ≤ size
+  pub longest : (other : ℕ) → other ≤ text_limit form → IsCharBoundary text other → other ≤ size
 
 -- the text of stored bytes: their longest prefix that is UTF-8
 abbrev pub text_in : List ℕ → List ℕ

@@ -3,3 +3,4 @@ pub mod Walking
 pub mod Fronts
 pub mod Groups
 pub mod Beginnings
+pub mod Appending

@@ -92,7 +92,7 @@ impl fmt::Display for Error {
     ghost use Rattle.std.specs.Prelude.{Some};
     ghost use Rattle.puffin_data.specs.Cause.{error_name};
 
-    ghost output = { λ e. Some (error_name e) };
+    ghost output = { λ error. Some (error_name error) };
 
     fn fmt<W: fmt::Write>(&self, f: &mut fmt::Formatter<W>) -> fmt::Result {
         f.write_str(self.name())
@@ -102,7 +102,7 @@ impl fmt::Display for Error {
 impl std::error::Error for Error {}
 
 impl From<AllocError> for Error {
-    ghost from_gives = { λ _ e. e ≡ Memory };
+    ghost from_gives = { λ _ error. error ≡ Memory };
 
     fn from(_e: AllocError) -> Error {
         Error::Memory
@@ -110,7 +110,7 @@ impl From<AllocError> for Error {
 }
 
 impl<T: Drop> From<AllocFailed<T>> for Error {
-    ghost from_gives = { λ _ e. e ≡ Memory };
+    ghost from_gives = { λ _ error. error ≡ Memory };
 
     fn from(_e: AllocFailed<T>) -> Error {
         Error::Memory

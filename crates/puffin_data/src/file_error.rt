@@ -90,7 +90,7 @@ impl fmt::Display for FileError {
     ghost use Rattle.std.specs.Prelude.{Some};
     ghost use Rattle.puffin_data.specs.Cause.{file_error_text};
 
-    ghost output = { λ e. Some (file_error_text e) };
+    ghost output = { λ error. Some (file_error_text error) };
 
     fn fmt<W: fmt::Write>(&self, f: &mut fmt::Formatter<W>) -> fmt::Result {
         match self {
@@ -105,7 +105,7 @@ impl fmt::Display for FileError {
 impl std::error::Error for FileError {}
 
 impl From<AllocError> for FileError {
-    ghost from_gives = { λ _ e. e ≡ Memory };
+    ghost from_gives = { λ _ error. error ≡ Memory };
 
     fn from(_e: AllocError) -> FileError {
         FileError::Memory
@@ -113,7 +113,7 @@ impl From<AllocError> for FileError {
 }
 
 impl<T: Drop> From<AllocFailed<T>> for FileError {
-    ghost from_gives = { λ _ e. e ≡ Memory };
+    ghost from_gives = { λ _ error. error ≡ Memory };
 
     fn from(_e: AllocFailed<T>) -> FileError {
         FileError::Memory
@@ -121,7 +121,7 @@ impl<T: Drop> From<AllocFailed<T>> for FileError {
 }
 
 impl From<Error> for FileError {
-    ghost from_gives = { λ cause e. e ≡ file_error_of cause };
+    ghost from_gives = { λ cause error. error ≡ file_error_of cause };
 
     fn from(cause: Error) -> FileError {
         match cause {
@@ -132,7 +132,7 @@ impl From<Error> for FileError {
 }
 
 impl From<io::Error> for FileError {
-    ghost from_gives = { λ _ e. e ≡ Io };
+    ghost from_gives = { λ _ error. error ≡ Io };
 
     fn from(_e: io::Error) -> FileError {
         FileError::Io

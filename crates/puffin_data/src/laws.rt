@@ -32,52 +32,59 @@ use crate::data::{Scope, ScopeRecord};
 /// A forest that can be written in a form has one spelling in that form. If the spelling is shorter than `2^63` bytes, no other
 /// such forest has it. The spelling of two forests, one after the other, is that of the first and then that of the second.
 pub fn one_forest()
-    ensures spelling { (form : Form) (f g : Forest) → IsForest form f → IsForest form g →
-        length (spelling form f) < 2 ^ 63 →
-        spelling form f ≡ spelling form g → f ≡ g }
-    ensures joined { (form : Form) (f g : Forest) →
-        spelling form (append f g) ≡ spelling form f ++ spelling form g }
+    ensures spelling { (form : Form) (first second : Forest) →
+        IsForest form first → IsForest form second →
+        length (spelling form first) < 2 ^ 63 →
+        spelling form first ≡ spelling form second → first ≡ second }
+    ensures joined { (form : Form) (first second : Forest) →
+        spelling form (append first second) ≡ spelling form first ++ spelling form second }
 {}
 
 /// Joining two forests adds their scope counts, and takes the greater height, the lesser start and the greater stop. If both
 /// can be written in a form, the joined forest can be written in it too.
 pub fn joined_measures()
-    ensures scope_count { (f g : Forest) →
-        scope_count (append f g) ≡ scope_count f + scope_count g }
-    ensures height { (f g : Forest) → height (append f g) ≡ max (height f) (height g) }
-    ensures least_start { (f g : Forest) →
-        least_start (append f g) ≡ int_min (least_start f) (least_start g) }
-    ensures greatest_stop { (f g : Forest) →
-        greatest_stop (append f g) ≡ int_max (greatest_stop f) (greatest_stop g) }
-    ensures written { (form : Form) (f g : Forest) → IsForest form f → IsForest form g →
-        IsForest form (append f g) }
+    ensures scope_count { (first second : Forest) →
+        scope_count (append first second) ≡ scope_count first + scope_count second }
+    ensures height { (first second : Forest) →
+        height (append first second) ≡ max (height first) (height second) }
+    ensures least_start { (first second : Forest) →
+        least_start (append first second) ≡ int_min (least_start first) (least_start second) }
+    ensures greatest_stop { (first second : Forest) →
+        greatest_stop (append first second) ≡ int_max (greatest_stop first) (greatest_stop second) }
+    ensures written { (form : Form) (first second : Forest) →
+        IsForest form first → IsForest form second →
+        IsForest form (append first second) }
 {}
 
 /// A forest's least start is at most `i64::MAX`, and its greatest stop at least `i64::MIN`. If there is a scope, the start
 /// isn't greater than the stop.
 pub fn range_of_a_forest()
-    ensures start { (f : Forest) → least_start f ≤ℤ pos (2 ^ 63 - 1) }
-    ensures stop { (f : Forest) → negsuc (2 ^ 63 - 1) ≤ℤ greatest_stop f }
-    ensures ordered { (form : Form) (f : Forest) → IsForest form f → 0 < scope_count f →
-        least_start f ≤ℤ greatest_stop f }
+    ensures start { (forest : Forest) → least_start forest ≤ℤ pos (2 ^ 63 - 1) }
+    ensures stop { (forest : Forest) → negsuc (2 ^ 63 - 1) ≤ℤ greatest_stop forest }
+    ensures ordered { (form : Form) (forest : Forest) →
+        IsForest form forest → 0 < scope_count forest →
+        least_start forest ≤ℤ greatest_stop forest }
 {}
 
 /// Joining two honest infos gives an honest one, unless both have bytes and their forms differ.
 pub fn joined_infos()
-    ensures { (a b : StreamFacts) (f g : Forest) → ¬ AreUnlike a b → AreHonestFacts a f →
-        AreHonestFacts b g → AreHonestFacts (joined_facts a b) (append f g) }
+    ensures { (first second : StreamFacts) (first_forest second_forest : Forest) →
+        ¬ AreUnlike first second →
+        AreHonestFacts first first_forest → AreHonestFacts second second_forest →
+        AreHonestFacts (joined_facts first second) (append first_forest second_forest) }
 {}
 
 /// Bytes have at most one first fault, at one offset.
 pub fn one_fault()
-    ensures { (form : Form) (bytes : List ℕ) (p q : ℕ) (a b : Error) → IsFirstFault form bytes p a →
-        IsFirstFault form bytes q b → (p ≡ q) × (a ≡ b) }
+    ensures { (form : Form) (bytes : List ℕ) (place other_place : ℕ) (fault other : Error) →
+        IsFirstFault form bytes place fault → IsFirstFault form bytes other_place other →
+        (place ≡ other_place) × (fault ≡ other) }
 {}
 
 /// Bytes that spell a forest have no fault.
 pub fn no_fault_in_a_spelling()
-    ensures { (form : Form) (bytes : List ℕ) (f : Forest) (fault : Error) → length bytes < 2 ^ 64 →
-        Spells form bytes f → IsFault form bytes fault → ⊥ }
+    ensures { (form : Form) (bytes : List ℕ) (forest : Forest) (fault : Error) →
+        length bytes < 2 ^ 64 → Spells form bytes forest → IsFault form bytes fault → ⊥ }
 {}
 
 /// Each stream has exactly one list of the offsets of its sound scopes, which are those read without a fault. The offsets are
@@ -101,10 +108,10 @@ pub fn scopes_of_a_walk()
     ensures one { (form : Form) (bytes : List ℕ) (placed others : List PlacedScope) →
         Sees form bytes [] 0 (length bytes) placed → Sees form bytes [] 0 (length bytes) others →
         placed ≡ others }
-    ensures spelled { (form : Form) (bytes : List ℕ) (f : Forest) (placed : List PlacedScope) →
+    ensures spelled { (form : Form) (bytes : List ℕ) (forest : Forest) (placed : List PlacedScope) →
         length bytes < 2 ^ 64 →
-        Spells form bytes f → Sees form bytes [] 0 (length bytes) placed →
-        scopes_of placed ≡ nested_in [] f }
+        Spells form bytes forest → Sees form bytes [] 0 (length bytes) placed →
+        scopes_of placed ≡ nested_in [] forest }
 {}
 
 /// The fault of a walk is `PrematureEnd`, `InvalidStream` or `ScopeNeverEnded`.
@@ -118,22 +125,26 @@ pub fn faults_of_a_walk()
 /// A balanced word is the tour of exactly one forest. The tour of two forests, one after the other, is the tour of the first
 /// and then that of the second.
 pub fn one_tour()
-    ensures tour { (f g : Forest) → tour f ≡ tour g → f ≡ g }
-    ensures balanced { (word : List Event) (a b : IsBalanced word) → a.0 ≡ b.0 }
-    ensures joined { (f g : Forest) → tour (append f g) ≡ tour f ++ tour g }
+    ensures tour { (first second : Forest) → tour first ≡ tour second → first ≡ second }
+    ensures balanced { (word : List Event) (one other : IsBalanced word) → one.0 ≡ other.0 }
+    ensures joined { (first second : Forest) →
+        tour (append first second) ≡ tour first ++ tour second }
 {}
 
 /// The measures of a forest, and the size of its spelling, are those of its tour. After the tour, no scope is open.
 pub fn tour_measures()
-    ensures size { (form : Form) (f : Forest) → word_size form (tour f) ≡ length (spelling form f) }
-    ensures begun { (f : Forest) → num_begun (tour f) ≡ scope_count f }
-    ensures open { (f : Forest) → open_after 0 (tour f) ≡ 0 }
-    ensures most_open { (f : Forest) → most_open 0 (tour f) ≡ height f }
-    ensures least_open { (f : Forest) → least_open (tour f) ≡ least_start f }
-    ensures greatest_close { (f : Forest) → greatest_close (tour f) ≡ greatest_stop f }
+    ensures size { (form : Form) (forest : Forest) →
+        word_size form (tour forest) ≡ length (spelling form forest) }
+    ensures begun { (forest : Forest) → num_begun (tour forest) ≡ scope_count forest }
+    ensures open { (forest : Forest) → open_after 0 (tour forest) ≡ 0 }
+    ensures most_open { (forest : Forest) → most_open 0 (tour forest) ≡ height forest }
+    ensures least_open { (forest : Forest) → least_open (tour forest) ≡ least_start forest }
+    ensures greatest_close { (forest : Forest) →
+        greatest_close (tour forest) ≡ greatest_stop forest }
 {}
 
-/// How a word's measures change when a scope opens.
+/// Appending an `Open` to a word adds the size of the scope's beginning, one scope and one open scope. The least start becomes the
+/// scope's if that is less; the greatest stop stays.
 pub fn opening_measures()
     ensures size { (form : Form) (word : List Event) (id : ℕ) (text : List ℕ) (start : ℤ) →
         word_size form (word ++ (Open id text start ∷ []))
@@ -152,7 +163,8 @@ pub fn opening_measures()
         greatest_close (word ++ (Open id text start ∷ [])) ≡ greatest_close word }
 {}
 
-/// How a word's measures change when a scope closes.
+/// Appending a `Close` to a word adds the size of a scope's end, and takes one open scope away. The greatest stop becomes this stop
+/// if that is greater; the other measures stay.
 pub fn closing_measures()
     ensures size { (form : Form) (word : List Event) (stop : ℤ) →
         word_size form (word ++ (Close stop ∷ [])) ≡ word_size form word + end_size }
@@ -178,75 +190,85 @@ pub fn cut_texts()
     ensures read_back { (form : Form) (text : List ℕ) → IsUtf8 text →
         text_in (cut_text form text) ≡ cut_text form text }
     ensures short { (form : Form) (text : List ℕ) → length (cut_text form text) ≤ text_limit form }
-    ensures bytes { (form : Form) (text : List ℕ) → All (λ b. b < 256) text →
-        All (λ b. b < 256) (cut_text form text) }
+    ensures bytes { (form : Form) (text : List ℕ) → All (λ item. item < 256) text →
+        All (λ item. item < 256) (cut_text form text) }
 {}
 
-/// How the bytes and the word of a stream with open scopes change when a scope begins and when the innermost one ends, where the
-/// size of the innermost scope's children is, and what stands there until it ends. If no scope is open, the stream spells a
-/// forest whose tour is the word.
+/// Beginning a scope appends its beginning to a stream's bytes, and an `Open` to its word. Ending the innermost open scope
+/// overwrites the size of its children, and appends its end and a `Close`. Until then, the size is the number that it was begun
+/// with. If no scope is open, the stream spells a forest whose tour is the word.
 pub fn open_streams()
-    ensures begins { (form : Form) (opened : List Opened) (closed : Forest) (id : ℕ) (start : ℤ)
-        (text : List ℕ) (size : ℕ) →
-        open_spelling form opened closed ++ begin_bytes form id start text size
+    ensures begins { (form : Form) (open_scopes : List Opened) (closed : Forest)
+        (id : ℕ) (start : ℤ) (text : List ℕ) (size : ℕ) →
+        open_spelling form open_scopes closed ++ begin_bytes form id start text size
         ≡ open_spelling form
-        (record { before = closed; id = id; start = start; text = text; size = size } ∷ opened)
+        (record { before = closed; id = id; start = start; text = text; size = size } ∷ open_scopes)
         empty }
-    ensures begins_word { (opened : List Opened) (closed : Forest) (id : ℕ) (start : ℤ) (
-        text : List ℕ) (size : ℕ) →
-        open_word opened closed ++ (Open id text start ∷ [])
+    ensures begins_word { (open_scopes : List Opened) (closed : Forest)
+        (id : ℕ) (start : ℤ) (text : List ℕ) (size : ℕ) →
+        open_word open_scopes closed ++ (Open id text start ∷ [])
         ≡ open_word
-        (record { before = closed; id = id; start = start; text = text; size = size } ∷ opened)
+        (record { before = closed; id = id; start = start; text = text; size = size } ∷ open_scopes)
         empty }
-    ensures begins_place { (form : Form) (o : Opened) (outer : List Opened) →
-        size_place form o outer + 8 ≡ length (open_spelling form (o ∷ outer) empty) }
-    ensures place_within { (form : Form) (o : Opened) (outer : List Opened) (closed : Forest) →
-        size_place form o outer + 8 ≤ length (open_spelling form (o ∷ outer) closed) }
-    ensures unfinished { (form : Form) (o : Opened) (outer : List Opened) (closed : Forest) →
-        o.size < 2 ^ 64 →
-        little_number 8 (drop (size_place form o outer) (open_spelling form (o ∷ outer) closed))
-        ≡ o.size }
-    ensures ends { (form : Form) (o : Opened) (outer : List Opened) (closed : Forest) (stop : ℤ) →
-        ended_bytes (open_spelling form (o ∷ outer) closed) (size_place form o outer) stop
-        ≡ open_spelling form outer (with_ended o closed stop) }
-    ensures ends_word { (o : Opened) (outer : List Opened) (closed : Forest) (stop : ℤ) →
-        open_word (o ∷ outer) closed ++ (Close stop ∷ [])
-        ≡ open_word outer (with_ended o closed stop) }
-    ensures ends_written { (form : Form) (o : Opened) (closed : Forest) (stop : ℤ) →
-        IsOpened form o →
-        IsForest form closed → FitsSigned w64 stop → o.start ≤ℤ stop →
-        FitsSigned w64 (stop -ℤ o.start) →
-        IsForest form (with_ended o closed stop) }
+    ensures begins_place { (form : Form) (innermost : Opened) (outer : List Opened) →
+        size_place form innermost outer + 8
+        ≡ length (open_spelling form (innermost ∷ outer) empty) }
+    ensures place_within { (form : Form) (innermost : Opened) (outer : List Opened)
+        (closed : Forest) →
+        size_place form innermost outer + 8
+        ≤ length (open_spelling form (innermost ∷ outer) closed) }
+    ensures unfinished { (form : Form) (innermost : Opened) (outer : List Opened)
+        (closed : Forest) → innermost.size < 2 ^ 64 →
+        little_number 8
+        (drop (size_place form innermost outer) (open_spelling form (innermost ∷ outer) closed))
+        ≡ innermost.size }
+    ensures ends { (form : Form) (innermost : Opened) (outer : List Opened) (closed : Forest)
+        (stop : ℤ) →
+        ended_bytes (open_spelling form (innermost ∷ outer) closed)
+        (size_place form innermost outer) stop
+        ≡ open_spelling form outer (with_ended innermost closed stop) }
+    ensures ends_word { (innermost : Opened) (outer : List Opened) (closed : Forest) (stop : ℤ) →
+        open_word (innermost ∷ outer) closed ++ (Close stop ∷ [])
+        ≡ open_word outer (with_ended innermost closed stop) }
+    ensures ends_written { (form : Form) (innermost : Opened) (closed : Forest) (stop : ℤ) →
+        IsOpened form innermost →
+        IsForest form closed → FitsSigned w64 stop → innermost.start ≤ℤ stop →
+        FitsSigned w64 (stop -ℤ innermost.start) →
+        IsForest form (with_ended innermost closed stop) }
     ensures none_open { (form : Form) (closed : Forest) →
         open_spelling form [] closed ≡ spelling form closed }
     ensures none_open_word { (closed : Forest) → open_word [] closed ≡ tour closed }
-    ensures size { (form : Form) (opened : List Opened) (closed : Forest) →
-        length (open_spelling form opened closed) ≡ word_size form (open_word opened closed) }
-    ensures open { (opened : List Opened) (closed : Forest) →
-        open_after 0 (open_word opened closed) ≡ length opened }
+    ensures size { (form : Form) (open_scopes : List Opened) (closed : Forest) →
+        length (open_spelling form open_scopes closed)
+        ≡ word_size form (open_word open_scopes closed) }
+    ensures open { (open_scopes : List Opened) (closed : Forest) →
+        open_after 0 (open_word open_scopes closed) ≡ length open_scopes }
 {}
 
 /// From each offset of a stream, a reader returns exactly one sequence: scopes, and then at most one fault. A fault moves the
 /// reader to the stream's end, where it returns nothing. From the first byte of a forest's spelling, it returns the top-level
 /// scopes.
 pub fn one_reading()
-    ensures read { (form : Form) (bytes : List ℕ) (p : ℕ) → p ≤ length bytes →
-        (items : List (Result ReadScope Error)) × ReaderGives form bytes p items }
-    ensures one { (form : Form) (bytes : List ℕ) (p : ℕ) (a b : List (Result ReadScope Error)) →
-        ReaderGives form bytes p a → ReaderGives form bytes p b → a ≡ b }
+    ensures read { (form : Form) (bytes : List ℕ) (place : ℕ) → place ≤ length bytes →
+        (items : List (Result ReadScope Error)) × ReaderGives form bytes place items }
+    ensures one { (form : Form) (bytes : List ℕ) (place : ℕ)
+        (items others : List (Result ReadScope Error)) →
+        ReaderGives form bytes place items → ReaderGives form bytes place others → items ≡ others }
     ensures end { (form : Form) (bytes : List ℕ) (items : List (Result ReadScope Error)) →
         ReaderGives form bytes (length bytes) items → items ≡ [] }
-    ensures spelled { (form : Form) (bytes : List ℕ) (f : Forest) → Spells form bytes f →
+    ensures spelled { (form : Form) (bytes : List ℕ) (forest : Forest) → Spells form bytes forest →
         length bytes < 2 ^ 63 →
-        ReaderGives form bytes 0 (map (λ s. Ok s) (top_scopes form 0 f)) }
+        ReaderGives form bytes 0 (map (λ scope. Ok scope) (top_scopes form 0 forest)) }
 {}
 
 /// Scopes that were read, and their records, are equal exactly when all of their fields are.
 pub fn scopes_by_fields()
-    ensures records { (a b : ScopeRecord) →
-        IsTrue (⟦<ScopeRecord<'static> as PartialEq>⟧.eq a b) ↔ (record_seen a ≡ record_seen b) }
-    ensures scopes { (a b : Scope) →
-        IsTrue (⟦<Scope<'static> as PartialEq>⟧.eq a b) ↔ (scope_seen a ≡ scope_seen b) }
+    ensures records { (one other : ScopeRecord) →
+        IsTrue (⟦<ScopeRecord<'static> as PartialEq>⟧.eq one other)
+        ↔ (record_seen one ≡ record_seen other) }
+    ensures scopes { (one other : Scope) →
+        IsTrue (⟦<Scope<'static> as PartialEq>⟧.eq one other)
+        ↔ (scope_seen one ≡ scope_seen other) }
 {}
 
 /// No value's layout is a prefix of the layout of another value of its kind. Numbers of 32 bits have the layouts of numbers of

@@ -16,68 +16,94 @@ use Rattle.puffin_data.specs.declared.data.form.Form.TheVariants.{Short, Long}
 use Rattle.puffin_data.specs.Text.{cut_text, IsCut, text_in}
 use Rattle.puffin_data.proofs.lemmas.Lengths.{short_room, one_group}
 
-start_from : (b : ℕ) → (128 ≤ b → 192 ≤ b) → is_char_start b ≡ true
-start_from b h = elim (cases_lt b 128) [
+-- a byte starts a character exactly if it is below 128 or at least 192
+start_from : (byte : ℕ) → (128 ≤ byte → 192 ≤ byte) → is_char_start byte ≡ true
+start_from byte if_high = elim (cases_lt byte 128) [
   | inl low ↦ grind (arith, low)
-  | inr high ↦ let top = h high in grind (arith, top)
+  | inr high ↦ let top = if_high high in grind (arith, top)
 ]
 
-from_start : (b : ℕ) → is_char_start b ≡ true → 128 ≤ b → 192 ≤ b
-from_start b e high = grind arith
+from_start : (byte : ℕ) → is_char_start byte ≡ true → 128 ≤ byte → 192 ≤ byte
+from_start byte starts high = grind arith
 
--- where the search for a boundary from k down ends
-record IsFloor (text : List ℕ) (k n : ℕ) : Type 0 where
-  within : n ≤ k
-  ends_character : IsCharBoundary text n
-  longest : (m : ℕ) → m ≤ k → IsCharBoundary text m → m ≤ n
+-- where the search for a boundary ends that begins at `limit` and goes down
+record IsFloor (text : List ℕ) (limit size : ℕ) : Type 0 where
+  within : size ≤ limit
+  ends_character : IsCharBoundary text size
+  longest : (other : ℕ) → other ≤ limit → IsCharBoundary text other → other ≤ size
 
-floor_is : (text : List ℕ) (k n : ℕ) → k < length text → IsFloor text k n → floor_char_boundary text k ≡ n
+-- what is such an end is what the search finds: by induction over where the search begins
+floor_is : (text : List ℕ) (limit size : ℕ) → limit < length text → IsFloor text limit size → floor_char_boundary text limit ≡ size
 unfolding floor_char_boundary
-floor_is text zero n lt h = omega (arith, h.within)
-floor_is text (suc i) n lt h =
-    elim (cases_eq n (suc i)) [
+floor_is text zero size inside at_floor = omega (arith, at_floor.within)
+floor_is text (suc less) size inside at_floor =
+    elim (cases_eq size (suc less)) [
       | inl same ↦
-          let here : is_char_start (get_or text (suc i) 0) ≡ true = start_from (get_or text (suc i) 0) (subst (λ j. 128 ≤ get_or text j 0 → 192 ≤ get_or text j 0) same (h.ends_character.1 (omega (arith, same, h.within)))) in
+          let here : is_char_start (get_or text (suc less) 0) ≡ true =
+          start_from (get_or text (suc less) 0)
+          (subst (λ any. 128 ≤ get_or text any 0 → 192 ≤ get_or text any 0) same
+          (at_floor.ends_character.1 (omega (arith, same, at_floor.within)))) in
           rw here (sym same)
-      | inr apart ↦ elim (cases_Bool (is_char_start (get_or text (suc i) 0))) [
-        | inl starts ↦ absurd (omega (arith, h.within, h.longest (suc i) (omega arith) (omega arith, λ _. from_start (get_or text (suc i) 0) starts)))
-        | inr goes_on ↦ rw goes_on (floor_is text i n (omega arith) (record { within = omega (arith, h.within); ends_character = h.ends_character; longest = λ m small. h.longest m (omega arith) }))
+      | inr apart ↦ elim (cases_Bool (is_char_start (get_or text (suc less) 0))) [
+        | inl starts ↦ absurd (omega (
+          arith,
+          at_floor.within,
+          at_floor.longest (suc less) (omega arith) (omega arith, λ _. from_start (get_or text (suc less) 0) starts),
+        ))
+        | inr goes_on ↦ rw goes_on (floor_is text less size (omega arith)
+            (record {
+              within = omega (arith, at_floor.within);
+              ends_character = at_floor.ends_character;
+              longest = λ other small.
+                  at_floor.longest other (omega arith);
+            }))
       ]
     ]
 
-is_floor : (text : List ℕ) (k : ℕ) → IsUtf8 text → k < length text → IsFloor text k (floor_char_boundary text k)
+-- what the search finds is such an end
+is_floor : (text : List ℕ) (limit : ℕ) → IsUtf8 text → limit < length text → IsFloor text limit (floor_char_boundary text limit)
 unfolding floor_char_boundary
-is_floor text zero utf8 lt = record { within = omega arith; ends_character = IsCharBoundary-start text utf8; longest = λ m small _. omega arith }
-is_floor text (suc i) utf8 lt =
-    elim (cases_Bool (is_char_start (get_or text (suc i) 0))) [
-      | inl starts ↦ rw starts (record { within = omega arith; ends_character = (omega arith, λ _. from_start (get_or text (suc i) 0) starts); longest = λ m small _. small })
+is_floor text zero utf8 inside =
+    record { within = omega arith; ends_character = IsCharBoundary-start text utf8; longest = λ other small _. omega arith }
+is_floor text (suc less) utf8 inside =
+    elim (cases_Bool (is_char_start (get_or text (suc less) 0))) [
+      | inl starts ↦ rw starts (record {
+        within = omega arith;
+        ends_character = (omega arith, λ _. from_start (get_or text (suc less) 0) starts);
+        longest = λ other
+            small _. small;
+      })
       | inr goes_on ↦
-          let below = is_floor text i utf8 (omega arith) in
+          let below = is_floor text less utf8 (omega arith) in
           rw goes_on (record {
             within = omega (arith, below.within);
             ends_character = below.ends_character;
-            longest = λ m small at. elim (cases_eq m (suc i)) [
-              | inl same ↦ absurd (not_both _ (start_from (get_or text (suc i) 0) (subst (λ j. 128 ≤ get_or text j 0 → 192 ≤ get_or text j 0) same (at.1 (omega arith)))) goes_on)
-              | inr apart ↦ below.longest m (omega arith) at
+            longest = λ other small boundary. elim (cases_eq other (suc less)) [
+              | inl same ↦ absurd (not_both _
+                  (start_from (get_or text (suc less) 0)
+                  (subst (λ any. 128 ≤ get_or text any 0 → 192 ≤ get_or text any 0) same (boundary.1 (omega arith)))) goes_on)
+              | inr apart ↦ below.longest other (omega arith) boundary
             ];
           })
     ]
   where
-    not_both : (b : _) → b ≡ true → b ≡ false → ⊥
-    not_both b x y = cc
+    not_both : (test : _) → test ≡ true → test ≡ false → ⊥
+    not_both test is_true is_false = cc
 
 -- whatever is the cut is what `cut_text` gives
 pub cut_text-is : (form : Form) (text cut : List ℕ) → IsCut form text cut → cut ≡ cut_text form text
-cut_text-is form text cut h =
+cut_text-is form text cut cut_is =
     elim (cases_lt (text_limit form) (length text)) [
       | inl long ↦
           let test : nat_le (length text) (text_limit form) ≡ false = grind arith in
-          let floor = floor_is text (text_limit form) h.size long (record { within = h.short; ends_character = h.ends_character; longest = h.longest }) in
-          rw test (h.is ∙ ap (λ (k : ℕ). take k text) (sym floor))
+          let floor =
+          floor_is text (text_limit form) cut_is.size long
+          (record { within = cut_is.short; ends_character = cut_is.ends_character; longest = cut_is.longest }) in
+          rw test (cut_is.is ∙ ap (λ (k : ℕ). take k text) (sym floor))
       | inr short ↦
           let test : nat_le (length text) (text_limit form) ≡ true = grind arith in
-          let whole : length text ≤ h.size = h.longest (length text) short (omega arith, λ lt. absurd (omega arith)) in
-          rw test (h.is ∙ take_all h.size text whole)
+          let whole : length text ≤ cut_is.size = cut_is.longest (length text) short (omega arith, λ lt. absurd (omega arith)) in
+          rw test (cut_is.is ∙ take_all cut_is.size text whole)
     ]
 
 -- what `cut_text` gives of a text is the cut
@@ -87,33 +113,61 @@ is_cut form text utf8 =
       | inl long ↦
           let test : nat_le (length text) (text_limit form) ≡ false = grind arith in
           let floor = is_floor text (text_limit form) utf8 long in
-          rw test (record { size = floor_char_boundary text (text_limit form); is = refl; short = floor.within; ends_character = floor.ends_character; longest = floor.longest })
+          rw test (record {
+            size = floor_char_boundary text (text_limit form);
+            is = refl;
+            short = floor.within;
+            ends_character = floor.ends_character;
+            longest = floor.longest;
+          })
       | inr short ↦
           let test : nat_le (length text) (text_limit form) ≡ true = grind arith in
-          rw test (record { size = length text; is = sym (take_all (length text) text (omega arith)); short = short; ends_character = IsCharBoundary-end text; longest = λ n small at. at.0 })
+          rw test (record {
+            size = length text;
+            is = sym (take_all (length text) text (omega arith));
+            short = short;
+            ends_character = IsCharBoundary-end text;
+            longest = λ other small boundary. boundary.0;
+          })
     ]
 
 -- what is stored of a text is read back
 pub text_in-cut : (form : Form) (text : List ℕ) → IsUtf8 text → text_in (cut_text form text) ≡ cut_text form text
 text_in-cut form text utf8 =
-    let h = is_cut form text utf8 in
-    let valid : IsUtf8 (cut_text form text) = subst IsUtf8 (sym h.is) (IsUtf8-take text h.size utf8 h.ends_character) in
-    ap (λ (n : ℕ). take n (cut_text form text)) (utf8_valid_len-IsUtf8 (cut_text form text) valid) ∙ take_all (length (cut_text form text)) (cut_text form text) (omega arith)
+    let cut = is_cut form text utf8 in
+    let valid : IsUtf8 (cut_text form text) = subst IsUtf8 (sym cut.is) (IsUtf8-take text cut.size utf8 cut.ends_character) in
+    ap (λ (any : ℕ). take any (cut_text form text)) (utf8_valid_len-IsUtf8 (cut_text form text) valid)
+    ∙ take_all (length (cut_text form text)) (cut_text form text) (omega arith)
 
 -- what the search for the boundary ensures of it
-pub cut_text-found : (form : Form) (text : List ℕ) (n limit : ℕ) → limit ≡ text_limit form → n ≤ limit → IsCharBoundary text n → ((i : ℕ) → n < i → i ≤ limit → ¬ (IsCharBoundary text i)) → take n text ≡ cut_text form text
-cut_text-found form text n limit same short at nearest =
-    cut_text-is form text (take n text) (record { size = n; is = refl; short = omega (arith, same); ends_character = at; longest = λ m le b. elim (cases_lt n m) [ inl above ↦ absurd (nearest m above (omega (arith, same)) b) | inr within ↦ within ] })
+pub cut_text-found : (form : Form) (text : List ℕ) (size limit : ℕ) → limit ≡ text_limit form → size ≤ limit
+    → IsCharBoundary text size → ((other : ℕ) → size < other → other ≤ limit → ¬ (IsCharBoundary text other))
+    → take size text ≡ cut_text form text
+cut_text-found form text size limit same short boundary nearest =
+    cut_text-is form text (take size text)
+    (record {
+      size = size;
+      is = refl;
+      short = omega (arith, same);
+      ends_character = boundary;
+      longest = λ other small other_boundary.
+          elim (cases_lt size other) [
+            | inl above ↦ absurd (nearest other above (omega (arith, same)) other_boundary)
+            | inr within ↦ within
+          ];
+    })
 
-floor_low : (text : List ℕ) (k : ℕ) → floor_char_boundary text k ≤ k
+-- the search never goes up
+floor_low : (text : List ℕ) (limit : ℕ) → floor_char_boundary text limit ≤ limit
 unfolding floor_char_boundary
 floor_low text zero = omega arith
-floor_low text (suc i) =
-    elim (cases_Bool (is_char_start (get_or text (suc i) 0))) [
+floor_low text (suc less) =
+    elim (cases_Bool (is_char_start (get_or text (suc less) 0))) [
       | inl starts ↦ rw starts (omega arith)
-      | inr goes_on ↦ rw goes_on (omega (arith, floor_low text i))
+      | inr goes_on ↦ rw goes_on (omega (arith, floor_low text less))
     ]
 
+-- a cut is within the form's limit, and no longer than the text
 pub cut_text-short : (form : Form) (text : List ℕ) → length (cut_text form text) ≤ (text_limit form)
 cut_text-short form text =
     elim (cases_lt (text_limit form) (length text)) [
@@ -136,12 +190,13 @@ cut_text-within form text =
           rw test (omega arith)
     ]
 
-pub cut_text-bytes : (form : Form) (text : List ℕ) → All (λ b. b < 256) text → All (λ b. b < 256) (cut_text form text)
+-- a cut of bytes is bytes
+pub cut_text-bytes : (form : Form) (text : List ℕ) → All (λ byte. byte < 256) text → All (λ byte. byte < 256) (cut_text form text)
 cut_text-bytes form text bytes =
     elim (cases_lt (text_limit form) (length text)) [
       | inl long ↦
           let test : nat_le (length text) (text_limit form) ≡ false = grind arith in
-          rw test (All-take (λ b. b < 256) (floor_char_boundary text (text_limit form)) text bytes)
+          rw test (All-take (λ byte. byte < 256) (floor_char_boundary text (text_limit form)) text bytes)
       | inr short ↦
           let test : nat_le (length text) (text_limit form) ≡ true = grind arith in
           rw test bytes
@@ -152,5 +207,6 @@ pub most_of_one_byte : (form : Form) (text : List ℕ) → length text ≤ 127 �
 most_of_one_byte Short text small = omega (arith, short_room (cut_text Short text), cut_text-short Short text)
 most_of_one_byte Long text small =
     let short : length (cut_text Long text) ≤ 127 = omega (arith, small, cut_text-within Long text) in
-    let one : length (length_layout Long (length (cut_text Long text))) ≡ 1 = ap length (one_group Long (length (cut_text Long text)) short) in
+    let one : length (length_layout Long (length (cut_text Long text))) ≡ 1 =
+    ap length (one_group Long (length (cut_text Long text)) short) in
     omega (arith, one, short)

@@ -1,5 +1,5 @@
 -- Readings from a device, one after the other.
-use Rattle.std.proofs.Common.{◌≡◌, ℕ, List, [], ◌++◌, Option, Some, None, Result, Ok, Err, refl, sym, ap, subst, inl, inr, ◌∙◌, append_assoc}
+use Rattle.std.proofs.Common.{◌≡◌, ℕ, List, [], ◌++◌, Option, Some, None, Result, Ok, Err, refl, ap, inl, inr, ◌∙◌, append_assoc}
 use Rattle.std.specs.Io.KnownBytes.{Consumes, IsAtEnd}
 use Rattle.std.proofs.KnownBytes.{Consumes-nil, Consumes-trans}
 use Rattle.std.proofs.lemmas.List.{append-nil}
@@ -9,79 +9,100 @@ use Rattle.puffin_data.specs.Device.{FromDevice, FailsAt, IsOutside}
 use Rattle.puffin_data.specs.Part.{◌>>=◌}
 use Rattle.puffin_data.proofs.lemmas.Numbers.{IsBytes-nil, IsBytes-append}
 
--- a fault of the device itself is no answer of a reading
-pub outside : {A : Type 0} (e : FileError) (old new : Option (List ℕ)) (read : List ℕ → Result (A × List ℕ) FileError) → IsOutside e → FailsAt e old new read
-outside e old new read (inl io) = subst (λ (f : FileError). FailsAt f old new read) (sym io) tt
-outside e old new read (inr memory) = subst (λ (f : FileError). FailsAt f old new read) (sym memory) tt
-
 -- the second of two readings, after the first
-after_again : {A B : Type 0} (a : A) (taken more : List ℕ) (read : List ℕ → Result (A × List ℕ) FileError) (next : A → List ℕ → Result (B × List ℕ) FileError)
-    → ((rest : List ℕ) → read (taken ++ rest) ≡ Ok (a, rest)) → (rest : List ℕ) → (read ((taken ++ more) ++ rest) >>= λ x. next x.0 x.1) ≡ next a (more ++ rest)
-after_again a taken more read next first rest =
-    ap (λ (t : List ℕ). read t >>= λ x. next x.0 x.1) (append_assoc taken more rest) ∙ rw (first (more ++ rest)) refl
+after_again : {A B : Type 0} (value : A) (taken more : List ℕ) (read : List ℕ → Result (A × List ℕ) FileError)
+    (next : A → List ℕ → Result (B × List ℕ) FileError)
+    → ((rest : List ℕ) → read (taken ++ rest) ≡ Ok (value, rest)) → (rest : List ℕ)
+    → (read ((taken ++ more) ++ rest) >>= λ one. next one.0 one.1) ≡ next value (more ++ rest)
+after_again value taken more read next first rest =
+    ap (λ (any : List ℕ). read any >>= λ one. next one.0 one.1) (append_assoc taken more rest) ∙ rw (first (more ++ rest)) refl
 
-fails_after : {A B : Type 0} (e : FileError) (a : A) (old mid new : Option (List ℕ)) (read : List ℕ → Result (A × List ℕ) FileError) (next : A → List ℕ → Result (B × List ℕ) FileError)
-    (taken : List ℕ) → Consumes old mid taken → ((rest : List ℕ) → read (taken ++ rest) ≡ Ok (a, rest))
-    → FailsAt e mid new (next a) → FailsAt e old new (λ bytes. read bytes >>= λ x. next x.0 x.1)
-fails_after file.Io a old mid new read next taken c first h = tt
-fails_after file.Memory a old mid new read next taken c first h = tt
-fails_after file.Truncated a old mid new read next taken c first h =
-    (taken ++ h.0, Consumes-trans old mid new taken h.0 c h.1, h.2, rw (first h.0) h.3)
-fails_after _ a old mid new read next taken c first h =
-    (taken ++ h.0, Consumes-trans old mid new taken h.0 c h.1, λ rest. after_again a taken h.0 read next first rest ∙ h.2 rest)
+-- a chain fails where its second reading does
+fails_after : {A B : Type 0} (fault : FileError) (value : A) (old mid new : Option (List ℕ))
+    (read : List ℕ → Result (A × List ℕ) FileError) (next : A → List ℕ → Result (B × List ℕ) FileError)
+    (taken : List ℕ) → Consumes old mid taken → ((rest : List ℕ) → read (taken ++ rest) ≡ Ok (value, rest))
+    → FailsAt fault mid new (next value) → FailsAt fault old new (λ bytes. read bytes >>= λ one. next one.0 one.1)
+fails_after file.Io value old mid new read next taken took reads failed = tt
+fails_after file.Memory value old mid new read next taken took reads failed = tt
+fails_after file.Truncated value old mid new read next taken took reads failed =
+    (taken ++ failed.0, Consumes-trans old mid new taken failed.0 took failed.1, failed.2, rw (reads failed.0) failed.3)
+fails_after _ value old mid new read next taken took reads failed = (
+  taken ++ failed.0,
+  Consumes-trans old mid new taken failed.0 took failed.1,
+  λ rest. after_again value taken failed.0 read next reads rest ∙ failed.2 rest,
+)
 
 -- a first reading that succeeded, and then another
-pub goes_on : {Y A B : Type 0} (view : Y → B) (a : A) (old mid new : Option (List ℕ)) (read : List ℕ → Result (A × List ℕ) FileError) (next : A → List ℕ → Result (B × List ℕ) FileError) (r : Result Y FileError)
-    → FromDevice (λ (x : A). x) old mid (Ok a) read → FromDevice view mid new r (next a) → FromDevice view old new r (λ bytes. read bytes >>= λ x. next x.0 x.1)
-goes_on view a old mid new read next (Ok y) p q =
-    (p.0 ++ q.0, Consumes-trans old mid new p.0 q.0 p.1 q.1, λ rest. after_again a p.0 q.0 read next p.2 rest ∙ q.2 rest, IsBytes-append p.0 q.0 p.3 q.3)
-goes_on view a old mid new read next (Err e) p q = fails_after e a old mid new read next p.0 p.1 p.2 q
+pub goes_on : {Y A B : Type 0} (view : Y → B) (value : A) (old mid new : Option (List ℕ))
+    (read : List ℕ → Result (A × List ℕ) FileError) (next : A → List ℕ → Result (B × List ℕ) FileError) (result : Result Y FileError)
+    → FromDevice (λ (one : A). one) old mid (Ok value) read → FromDevice view mid new result (next value)
+    → FromDevice view old new result (λ bytes. read bytes >>= λ one. next one.0 one.1)
+goes_on view value old mid new read next (Ok seen) first second = (
+  first.0 ++ second.0,
+  Consumes-trans old mid new first.0 second.0 first.1 second.1,
+  λ rest. after_again value first.0 second.0 read next first.2 rest
+      ∙ second.2 rest,
+  IsBytes-append first.0 second.0 first.3 second.3,
+)
+goes_on view value old mid new read next (Err fault) first second =
+    fails_after fault value old mid new read next first.0 first.1 first.2 second
 
 -- a first reading that failed
-pub stops : {A B : Type 0} (e : FileError) (old new : Option (List ℕ)) (read : List ℕ → Result (A × List ℕ) FileError) (next : A → List ℕ → Result (B × List ℕ) FileError)
-    → FailsAt e old new read → FailsAt e old new (λ bytes. read bytes >>= λ x. next x.0 x.1)
-stops file.Io old new read next h = tt
-stops file.Memory old new read next h = tt
-stops file.Truncated old new read next h = (h.0, h.1, h.2, rw h.3 refl)
-stops _ old new read next h = (h.0, h.1, λ rest. rw (h.2 rest) refl)
+pub stops : {A B : Type 0} (fault : FileError) (old new : Option (List ℕ)) (read : List ℕ → Result (A × List ℕ) FileError)
+    (next : A → List ℕ → Result (B × List ℕ) FileError)
+    → FailsAt fault old new read → FailsAt fault old new (λ bytes. read bytes >>= λ one. next one.0 one.1)
+stops file.Io old new read next failed = tt
+stops file.Memory old new read next failed = tt
+stops file.Truncated old new read next failed = (failed.0, failed.1, failed.2, rw failed.3 refl)
+stops _ old new read next failed = (failed.0, failed.1, λ rest. rw (failed.2 rest) refl)
 
 -- a reading that takes nothing and always gives this value
-pub given : {A : Type 0} (a : A) (old : Option (List ℕ)) → FromDevice (λ (x : A). x) old old (Ok a) (λ bytes. Ok (a, bytes))
-given a old = ([], Consumes-nil old, λ rest. refl, IsBytes-nil)
+pub given : {A : Type 0} (value : A) (old : Option (List ℕ)) → FromDevice (λ (one : A). one) old old (Ok value) (λ bytes. Ok (value, bytes))
+given value old = ([], Consumes-nil old, λ rest. refl, IsBytes-nil)
 
 -- the same two for what a whole chain gives, without a view: for a chain that failed later, and for one that succeeded
-pub fails_on : {A B : Type 0} (e : FileError) (a : A) (old mid new : Option (List ℕ)) (read : List ℕ → Result (A × List ℕ) FileError) (next : A → List ℕ → Result (B × List ℕ) FileError)
-    → FromDevice (λ (x : A). x) old mid (Ok a) read → FailsAt e mid new (next a) → FailsAt e old new (λ bytes. read bytes >>= λ x. next x.0 x.1)
-fails_on e a old mid new read next p q = fails_after e a old mid new read next p.0 p.1 p.2 q
+pub fails_on : {A B : Type 0} (fault : FileError) (value : A) (old mid new : Option (List ℕ))
+    (read : List ℕ → Result (A × List ℕ) FileError) (next : A → List ℕ → Result (B × List ℕ) FileError)
+    → FromDevice (λ (one : A). one) old mid (Ok value) read → FailsAt fault mid new (next value)
+    → FailsAt fault old new (λ bytes. read bytes >>= λ one. next one.0 one.1)
+fails_on fault value old mid new read next first second = fails_after fault value old mid new read next first.0 first.1 first.2 second
 
-pub gives_on : {A B : Type 0} (a : A) (b : B) (old mid new : Option (List ℕ)) (read : List ℕ → Result (A × List ℕ) FileError) (next : A → List ℕ → Result (B × List ℕ) FileError)
-    → FromDevice (λ (x : A). x) old mid (Ok a) read → FromDevice (λ (x : B). x) mid new (Ok b) (next a) → FromDevice (λ (x : B). x) old new (Ok b) (λ bytes. read bytes >>= λ x. next x.0 x.1)
-gives_on {B = B} a b old mid new read next p q = goes_on (λ (x : B). x) a old mid new read next (Ok b) p q
+pub gives_on : {A B : Type 0} (value : A) (last : B) (old mid new : Option (List ℕ)) (read : List ℕ → Result (A × List ℕ) FileError)
+    (next : A → List ℕ → Result (B × List ℕ) FileError)
+    → FromDevice (λ (one : A). one) old mid (Ok value) read → FromDevice (λ (one : B). one) mid new (Ok last) (next value)
+    → FromDevice (λ (one : B). one) old new (Ok last) (λ bytes. read bytes >>= λ one. next one.0 one.1)
+gives_on {B = B} value last old mid new read next first second =
+    goes_on (λ (one : B). one) value old mid new read next (Ok last) first second
 
 -- a fault of one reading is that of another that always gives the same
-same_fault : {A : Type 0} (e : FileError) (old new : Option (List ℕ)) (read other : List ℕ → Result (A × List ℕ) FileError) → ((bytes : List ℕ) → other bytes ≡ read bytes) → FailsAt e old new read → FailsAt e old new other
-same_fault file.Io old new read other same h = tt
-same_fault file.Memory old new read other same h = tt
-same_fault file.Truncated old new read other same h = (h.0, h.1, h.2, same h.0 ∙ h.3)
-same_fault _ old new read other same h = (h.0, h.1, λ rest. same (h.0 ++ rest) ∙ h.2 rest)
+same_fault : {A : Type 0} (fault : FileError) (old new : Option (List ℕ)) (read other : List ℕ → Result (A × List ℕ) FileError)
+    → ((bytes : List ℕ) → other bytes ≡ read bytes) → FailsAt fault old new read → FailsAt fault old new other
+same_fault file.Io old new read other same holds = tt
+same_fault file.Memory old new read other same holds = tt
+same_fault file.Truncated old new read other same holds = (holds.0, holds.1, holds.2, same holds.0 ∙ holds.3)
+same_fault _ old new read other same holds = (holds.0, holds.1, λ rest. same (holds.0 ++ rest) ∙ holds.2 rest)
 
-pub same_reading : {X A : Type 0} (view : X → A) (r : Result X FileError) (old new : Option (List ℕ)) (read other : List ℕ → Result (A × List ℕ) FileError) → ((bytes : List ℕ) → other bytes ≡ read bytes) → FromDevice view old new r read → FromDevice view old new r other
-same_reading view (Ok x) old new read other same h = (h.0, h.1, λ rest. same (h.0 ++ rest) ∙ h.2 rest, h.3)
-same_reading view (Err e) old new read other same h = same_fault e old new read other same h
+pub same_reading : {X A : Type 0} (view : X → A) (result : Result X FileError) (old new : Option (List ℕ))
+    (read other : List ℕ → Result (A × List ℕ) FileError) → ((bytes : List ℕ) → other bytes ≡ read bytes)
+    → FromDevice view old new result read → FromDevice view old new result other
+same_reading view (Ok seen) old new read other same holds = (holds.0, holds.1, λ rest. same (holds.0 ++ rest) ∙ holds.2 rest, holds.3)
+same_reading view (Err fault) old new read other same holds = same_fault fault old new read other same holds
 
 -- ---- devices whose bytes are known
 
-known_taken : (old : List ℕ) (new : Option (List ℕ)) (taken : List ℕ) → Consumes (Some old) new taken → (rest : List ℕ) × (new ≡ Some rest) × (old ≡ taken ++ rest)
-known_taken old None taken c = absurd c
-known_taken old (Some rest) taken c = (rest, refl, c)
+known_taken : (old : List ℕ) (new : Option (List ℕ)) (taken : List ℕ) → Consumes (Some old) new taken
+    → (rest : List ℕ) × (new ≡ Some rest) × (old ≡ taken ++ rest)
+known_taken old None taken took = absurd took
+known_taken old (Some rest) taken took = (rest, refl, took)
 
 at_end : (taken : List ℕ) (old : List ℕ) (new : Option (List ℕ)) → Consumes (Some old) new taken → IsAtEnd new → old ≡ taken
-at_end taken old None c end = absurd c
-at_end taken old (Some rest) c end = c ∙ (ap (λ (t : List ℕ). taken ++ t) end ∙ append-nil taken)
+at_end taken old None took end = absurd took
+at_end taken old (Some rest) took end = took ∙ (ap (λ (any : List ℕ). taken ++ any) end ∙ append-nil taken)
 
 -- and a fault that isn't the device's is that of all its bytes
-pub known_fault : {A : Type 0} (e : FileError) (old : List ℕ) (new : Option (List ℕ)) (read : List ℕ → Result (A × List ℕ) FileError) → (IsOutside e → ⊥) → FailsAt e (Some old) new read → read old ≡ Err e
-known_fault file.Io old new read not_it h = absurd (not_it (inl refl))
-known_fault file.Memory old new read not_it h = absurd (not_it (inr refl))
-known_fault file.Truncated old new read not_it h = ap read (at_end h.0 old new h.1 h.2) ∙ h.3
-known_fault _ old new read not_it h = let k = known_taken old new h.0 h.1 in ap read k.2 ∙ h.2 k.0
+pub known_fault : {A : Type 0} (fault : FileError) (old : List ℕ) (new : Option (List ℕ))
+    (read : List ℕ → Result (A × List ℕ) FileError) → (IsOutside fault → ⊥) → FailsAt fault (Some old) new read → read old ≡ Err fault
+known_fault file.Io old new read not_it failed = absurd (not_it (inl refl))
+known_fault file.Memory old new read not_it failed = absurd (not_it (inr refl))
+known_fault file.Truncated old new read not_it failed = ap read (at_end failed.0 old new failed.1 failed.2) ∙ failed.3
+known_fault _ old new read not_it failed = let rest = known_taken old new failed.0 failed.1 in ap read rest.2 ∙ failed.2 rest.0

@@ -12,80 +12,121 @@ use Rattle.puffin_data.specs.Honesty.{StreamFacts, AreHonestFacts, AreUnlike, jo
 use Rattle.puffin_data.proofs.lemmas.Unique.{spelling-append, long}
 use Rattle.puffin_data.proofs.lemmas.ForestRanges.{least_in_range, greatest_in_range, from_most, from_least}
 
-pub scope_count-append : (f g : Forest) → scope_count (append f g) ≡ scope_count f + scope_count g
-scope_count-append empty g = omega arith
-scope_count-append (node s c o) g = omega (arith, scope_count-append o g)
+pub scope_count-append : (first second : Forest) → scope_count (append first second) ≡ scope_count first + scope_count second
+scope_count-append empty second = omega arith
+scope_count-append (node span children others) second = omega (arith, scope_count-append others second)
 
-pub height-append : (f g : Forest) → height (append f g) ≡ max (height f) (height g)
-height-append empty g = omega arith
-height-append (node s c o) g = omega (arith, height-append o g)
+pub height-append : (first second : Forest) → height (append first second) ≡ max (height first) (height second)
+height-append empty second = omega arith
+height-append (node span children others) second = omega (arith, height-append others second)
 
-least_assoc : (a b c d : ℤ) → int_min a (int_min b (int_min c d)) ≡ int_min (int_min a (int_min b c)) d
-least_assoc a b c d = omega (arith, ints, clamps)
+least_assoc : (own inner later second : ℤ)
+    → int_min own (int_min inner (int_min later second)) ≡ int_min (int_min own (int_min inner later)) second
+least_assoc own inner later second = omega (arith, ints, clamps)
 
-greatest_assoc : (a b c d : ℤ) → int_max a (int_max b (int_max c d)) ≡ int_max (int_max a (int_max b c)) d
-greatest_assoc a b c d = omega (arith, ints, clamps)
+greatest_assoc : (own inner later second : ℤ)
+    → int_max own (int_max inner (int_max later second)) ≡ int_max (int_max own (int_max inner later)) second
+greatest_assoc own inner later second = omega (arith, ints, clamps)
 
-pub least_start-append : (f g : Forest) → least_start (append f g) ≡ int_min (least_start f) (least_start g)
-least_start-append empty g = sym (from_most (least_start g) (least_in_range g))
-least_start-append (node s c o) g = ap (λ (t : ℤ). int_min s.start (int_min (least_start c) t)) (least_start-append o g) ∙ least_assoc s.start (least_start c) (least_start o) (least_start g)
+pub least_start-append : (first second : Forest) → least_start (append first second) ≡ int_min (least_start first) (least_start second)
+least_start-append empty second = sym (from_most (least_start second) (least_in_range second))
+least_start-append (node span children others) second =
+    ap (λ (any : ℤ). int_min span.start (int_min (least_start children) any)) (least_start-append others second)
+    ∙ least_assoc span.start (least_start children) (least_start others) (least_start second)
 
-pub greatest_stop-append : (f g : Forest) → greatest_stop (append f g) ≡ int_max (greatest_stop f) (greatest_stop g)
-greatest_stop-append empty g = sym (from_least (greatest_stop g) (greatest_in_range g))
-greatest_stop-append (node s c o) g = ap (λ (t : ℤ). int_max s.stop (int_max (greatest_stop c) t)) (greatest_stop-append o g) ∙ greatest_assoc s.stop (greatest_stop c) (greatest_stop o) (greatest_stop g)
+pub greatest_stop-append : (first second : Forest)
+    → greatest_stop (append first second) ≡ int_max (greatest_stop first) (greatest_stop second)
+greatest_stop-append empty second = sym (from_least (greatest_stop second) (greatest_in_range second))
+greatest_stop-append (node span children others) second =
+    ap (λ (any : ℤ). int_max span.stop (int_max (greatest_stop children) any)) (greatest_stop-append others second)
+    ∙ greatest_assoc span.stop (greatest_stop children) (greatest_stop others) (greatest_stop second)
 
-pub IsForest-append : (form : Form) (f g : Forest) → IsForest form f → IsForest form g → IsForest form (append f g)
-IsForest-append form empty g x y = y
-IsForest-append form (node s c o) g x y = (x.0, x.1, IsForest-append form o g x.2 y)
+pub IsForest-append : (form : Form) (first second : Forest) → IsForest form first → IsForest form second
+    → IsForest form (append first second)
+IsForest-append form empty second fits second_fits = second_fits
+IsForest-append form (node span children others) second fits second_fits =
+    (fits.0, fits.1, IsForest-append form others second fits.2 second_fits)
 
 -- no scope has one spelling in all forms
-respelled : (x y : Form) (f : Forest) (bytes : List ℕ) → length bytes ≡ 0 → Spells x bytes f → Spells y bytes f
-respelled x y empty bytes none h = record { whole = h.whole; fits = tt }
-respelled x y (node s c o) bytes none h = absurd (omega (arith, none, ap length h.whole, long x s (spelling x c) (spelling x o)))
+respelled : (form other_form : Form) (forest : Forest) (bytes : List ℕ) → length bytes ≡ 0 → Spells form bytes forest
+    → Spells other_form bytes forest
+respelled form other_form empty bytes none spells = record { whole = spells.whole; fits = tt }
+respelled form other_form (node span children others) bytes none spells =
+    absurd (omega (arith, none, ap length spells.whole, long form span (spelling form children) (spelling form others)))
 
-same_form : (x y : Form) → (x ≢ y → ⊥) → x ≡ y
-same_form Short Short h = refl
-same_form Short Long h = absurd (h (λ e. cc))
-same_form Long Short h = absurd (h (λ e. cc))
-same_form Long Long h = refl
+same_form : (form other_form : Form) → (form ≢ other_form → ⊥) → form ≡ other_form
+same_form Short Short not_apart = refl
+same_form Short Long not_apart = absurd (not_apart (λ same. cc))
+same_form Long Short not_apart = absurd (not_apart (λ same. cc))
+same_form Long Long not_apart = refl
 
-on_one_form : (a b : StreamFacts) (f g : Forest) (none : Bool) → eqb (length a.bytes) 0 ≡ none → (AreUnlike a b → ⊥) → Spells a.form a.bytes f → Spells b.form b.bytes g → Spells (cond none b.form a.form) a.bytes f × Spells (cond none b.form a.form) b.bytes g
-on_one_form a b f g true e may x y = (respelled a.form b.form f a.bytes (eqb-true _ _ e) x, y)
-on_one_form a b f g false e may x y = (
-  x,
-  elim (cases_eq (length b.bytes) 0) [
-    | inl none ↦ respelled b.form a.form g b.bytes none y
-    | inr some ↦ subst (λ (form : Form). Spells form b.bytes g) (sym (same_form a.form b.form (λ apart. may (grind arith, omega (arith, some), apart)))) y
+on_one_form : (first second : StreamFacts) (first_forest second_forest : Forest) (none : Bool) → eqb (length first.bytes) 0 ≡ none
+    → (AreUnlike first second → ⊥) → Spells first.form first.bytes first_forest → Spells second.form second.bytes second_forest
+    → Spells (cond none second.form first.form) first.bytes first_forest
+    × Spells (cond none second.form first.form) second.bytes second_forest
+on_one_form first second first_forest second_forest true is not_unlike first_spells second_spells =
+    (respelled first.form second.form first_forest first.bytes (eqb-true _ _ is) first_spells, second_spells)
+on_one_form first second first_forest second_forest false is not_unlike first_spells second_spells = (
+  first_spells,
+  elim (cases_eq (length second.bytes) 0) [
+    | inl none ↦ respelled second.form first.form second_forest second.bytes none second_spells
+    | inr some ↦ subst (λ (form : Form). Spells form second.bytes second_forest)
+        (sym (same_form first.form second.form (λ apart. not_unlike (grind arith, omega (arith, some), apart)))) second_spells
   ],
 )
 
-pub honest_joined : (a b : StreamFacts) (f g : Forest) → (AreUnlike a b → ⊥) → AreHonestFacts a f → AreHonestFacts b g → AreHonestFacts (joined_facts a b) (append f g)
-honest_joined a b f g may x y =
-    let form = joined_form a b in
-    let both = on_one_form a b f g (eqb (length a.bytes) 0) refl may x.stream y.stream in
+-- two honest infos make an honest one
+pub honest_joined : (first second : StreamFacts) (first_forest second_forest : Forest) → (AreUnlike first second → ⊥)
+    → AreHonestFacts first first_forest → AreHonestFacts second second_forest
+    → AreHonestFacts (joined_facts first second) (append first_forest second_forest)
+honest_joined first second first_forest second_forest not_unlike of_first of_second =
+    let form = joined_form first second in
+    let both =
+    on_one_form first second first_forest second_forest (eqb (length first.bytes) 0) refl not_unlike of_first.stream
+    of_second.stream in
     record {
       stream = record {
-        whole = ap (λ (t : List ℕ). t ++ b.bytes) both.0.whole ∙ ap (λ (t : List ℕ). spelling form f ++ t) both.1.whole ∙ sym (spelling-append form f g);
-        fits = IsForest-append form f g both.0.fits both.1.fits;
+        whole =
+            ap (λ (any : List ℕ). any ++ second.bytes) both.0.whole
+            ∙ ap (λ (any : List ℕ). spelling form first_forest ++ any) both.1.whole
+            ∙ sym (spelling-append form first_forest second_forest);
+        fits = IsForest-append form first_forest second_forest both.0.fits both.1.fits;
       };
       counts = record {
-        num_scopes = omega (arith, x.counts.num_scopes, y.counts.num_scopes, scope_count-append f g);
-        depth = omega (arith, x.counts.depth, y.counts.depth, height-append f g);
-        least_start = ap (λ (t : ℤ). int_min t b.range_ns.0) x.counts.least_start ∙ ap (λ (t : ℤ). int_min (least_start f) t) y.counts.least_start ∙ sym (least_start-append f g);
-        greatest_stop = ap (λ (t : ℤ). int_max t b.range_ns.1) x.counts.greatest_stop ∙ ap (λ (t : ℤ). int_max (greatest_stop f) t) y.counts.greatest_stop ∙ sym (greatest_stop-append f g);
+        num_scopes = omega (arith, of_first.counts.num_scopes, of_second.counts.num_scopes, scope_count-append first_forest second_forest);
+        depth = omega (arith, of_first.counts.depth, of_second.counts.depth, height-append first_forest second_forest);
+        least_start =
+            ap (λ (any : ℤ). int_min any second.range_ns.0) of_first.counts.least_start
+            ∙ ap (λ (any : ℤ). int_min (least_start first_forest) any) of_second.counts.least_start
+            ∙ sym (least_start-append first_forest second_forest);
+        greatest_stop =
+            ap (λ (any : ℤ). int_max any second.range_ns.1) of_first.counts.greatest_stop
+            ∙ ap (λ (any : ℤ). int_max (greatest_stop first_forest) any) of_second.counts.greatest_stop
+            ∙ sym (greatest_stop-append first_forest second_forest);
       };
     }
 
 -- an info that was extended field by field
-pub extended : (n a b : StreamFacts) (f g : Forest) → n.form ≡ joined_form a b → (AreUnlike a b → ⊥) → n.bytes ≡ a.bytes ++ b.bytes → n.num_scopes ≡ a.num_scopes + b.num_scopes → n.depth ≡ max a.depth b.depth → n.range_ns.0 ≡ int_min a.range_ns.0 b.range_ns.0 → n.range_ns.1 ≡ int_max a.range_ns.1 b.range_ns.1
-    → AreHonestFacts a f → AreHonestFacts b g → AreHonestFacts n (append f g)
-extended n a b f g en may e1 e2 e3 e4 e5 x y =
-    let h = honest_joined a b f g may x y in
+pub extended : (info first second : StreamFacts) (first_forest second_forest : Forest) → info.form ≡ joined_form first second
+    → (AreUnlike first second → ⊥) → info.bytes ≡ first.bytes ++ second.bytes → info.num_scopes ≡ first.num_scopes + second.num_scopes
+    → info.depth ≡ max first.depth second.depth → info.range_ns.0 ≡ int_min first.range_ns.0 second.range_ns.0
+    → info.range_ns.1 ≡ int_max first.range_ns.1 second.range_ns.1
+    → AreHonestFacts first first_forest → AreHonestFacts second second_forest → AreHonestFacts info (append first_forest second_forest)
+extended info first second first_forest second_forest form_is not_unlike bytes_are num_is depth_is start_is stop_is of_first of_second =
+    let joined = honest_joined first second first_forest second_forest not_unlike of_first of_second in
     record {
-      stream = subst (λ (form : Form). Spells form n.bytes (append f g)) (sym en) (record { whole = e1 ∙ h.stream.whole; fits = h.stream.fits });
-      counts = record { num_scopes = e2 ∙ h.counts.num_scopes; depth = e3 ∙ h.counts.depth; least_start = e4 ∙ h.counts.least_start; greatest_stop = e5 ∙ h.counts.greatest_stop };
+      stream =
+          subst (λ (form : Form). Spells form info.bytes (append first_forest second_forest)) (sym form_is)
+          (record { whole = bytes_are ∙ joined.stream.whole; fits = joined.stream.fits });
+      counts =
+          record {
+            num_scopes = num_is ∙ joined.counts.num_scopes;
+            depth = depth_is ∙ joined.counts.depth;
+            least_start = start_is ∙ joined.counts.least_start;
+            greatest_stop = stop_is ∙ joined.counts.greatest_stop;
+          };
     }
 
 -- a test isn't both
-pub true_not_false : (b : Bool) → b ≡ true → b ≡ false → ⊥
-true_not_false b x y = cc
+pub true_not_false : (test : Bool) → test ≡ true → test ≡ false → ⊥
+true_not_false test is_true is_false = cc

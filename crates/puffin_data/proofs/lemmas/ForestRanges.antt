@@ -6,20 +6,20 @@ use Rattle.puffin_data.specs.declared.data.form.Form.{Form}
 use Rattle.puffin_data.specs.Forest.{Forest, empty, node, IsForest}
 use Rattle.puffin_data.specs.Forest.Measures.{scope_count, least_start, greatest_stop}
 
-pub least_in_range : (f : Forest) → least_start f ≤ℤ pos (2 ^ 63 - 1)
+pub least_in_range : (forest : Forest) → least_start forest ≤ℤ pos (2 ^ 63 - 1)
 least_in_range empty = omega (arith, ints)
-least_in_range (node s c o) = omega (arith, ints, clamps, least_in_range c, least_in_range o)
+least_in_range (node span children others) = omega (arith, ints, clamps, least_in_range children, least_in_range others)
 
-pub greatest_in_range : (f : Forest) → negsuc (2 ^ 63 - 1) ≤ℤ greatest_stop f
+pub greatest_in_range : (forest : Forest) → negsuc (2 ^ 63 - 1) ≤ℤ greatest_stop forest
 greatest_in_range empty = omega (arith, ints)
-greatest_in_range (node s c o) = omega (arith, ints, clamps, greatest_in_range c, greatest_in_range o)
+greatest_in_range (node span children others) = omega (arith, ints, clamps, greatest_in_range children, greatest_in_range others)
 
-pub ordered : (form : Form) (f : Forest) → IsForest form f → 0 < scope_count f → least_start f ≤ℤ greatest_stop f
-ordered form empty fits some = absurd (omega arith)
-ordered form (node s c o) fits some = omega (arith, ints, clamps, fits.0.ordered)
+pub ordered : (form : Form) (forest : Forest) → IsForest form forest → 0 < scope_count forest → least_start forest ≤ℤ greatest_stop forest
+ordered form empty fits has_scope = absurd (omega arith)
+ordered form (node span children others) fits has_scope = omega (arith, ints, clamps, fits.0.ordered)
 
-pub from_most : (z : ℤ) → z ≤ℤ pos (2 ^ 63 - 1) → int_min (pos (2 ^ 63 - 1)) z ≡ z
-from_most z h = omega (arith, ints, clamps)
+pub from_most : (time : ℤ) → time ≤ℤ pos (2 ^ 63 - 1) → int_min (pos (2 ^ 63 - 1)) time ≡ time
+from_most time within = omega (arith, ints, clamps)
 
-pub from_least : (z : ℤ) → negsuc (2 ^ 63 - 1) ≤ℤ z → int_max (negsuc (2 ^ 63 - 1)) z ≡ z
-from_least z h = omega (arith, ints, clamps)
+pub from_least : (time : ℤ) → negsuc (2 ^ 63 - 1) ≤ℤ time → int_max (negsuc (2 ^ 63 - 1)) time ≡ time
+from_least time within = omega (arith, ints, clamps)

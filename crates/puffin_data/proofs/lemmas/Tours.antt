@@ -4,9 +4,13 @@ use Rattle.std.proofs.lemmas.List.{append-nil}
 use Rattle.puffin_data.specs.Forest.{Span, Forest, empty, node, append}
 use Rattle.puffin_data.specs.Forest.Tour.{Event, Open, Close, tour}
 
-pub tour-append : (f g : Forest) → tour (append f g) ≡ tour f ++ tour g
-tour-append empty g = refl
-tour-append (node s c o) g = ap (λ (x : List Event). Open s.id s.text s.start ∷ (tour c ++ (Close s.stop ∷ x))) (tour-append o g) ∙ ap (λ (x : List Event). Open s.id s.text s.start ∷ x) (sym (append_assoc (tour c) (Close s.stop ∷ tour o) (tour g)))
+pub tour-append : (first second : Forest) → tour (append first second) ≡ tour first ++ tour second
+tour-append empty second = refl
+tour-append (node span children others) second =
+    ap (λ (any : List Event). Open span.id span.text span.start ∷ (tour children ++ (Close span.stop ∷ any)))
+    (tour-append others second)
+    ∙ ap (λ (any : List Event). Open span.id span.text span.start ∷ any)
+    (sym (append_assoc (tour children) (Close span.stop ∷ tour others) (tour second)))
 
 -- nothing, or a close
 abbrev IsAfter : List Event → Type 0
@@ -14,49 +18,72 @@ IsAfter [] = Unit {0}
 IsAfter (Open id text start ∷ word) = ⊥
 IsAfter (Close stop ∷ word) = Unit {0}
 
-open_is_not_after : (id : ℕ) (text : List ℕ) (start : ℤ) (word x : List Event) → IsAfter x → x ≡ Open id text start ∷ word → ⊥
-open_is_not_after id text start word [] h e = cc
-open_is_not_after id text start word (Open a b c ∷ xs) h e = h
-open_is_not_after id text start word (Close a ∷ xs) h e = cc
+open_is_not_after : (id : ℕ) (text : List ℕ) (start : ℤ) (word rest : List Event) → IsAfter rest → rest ≡ Open id text start ∷ word → ⊥
+open_is_not_after id text start word [] after same = cc
+open_is_not_after id text start word (Open other_id other_text other_start ∷ others) after same = after
+open_is_not_after id text start word (Close other_id ∷ others) after same = cc
 
-record Heads (s t : Span) (x y : List Event) : Type 0 where
-  id : s.id ≡ t.id
-  text : s.text ≡ t.text
-  start : s.start ≡ t.start
-  rest : x ≡ y
+record Heads (one other : Span) (word other_word : List Event) : Type 0 where
+  id : one.id ≡ other.id
+  text : one.text ≡ other.text
+  start : one.start ≡ other.start
+  rest : word ≡ other_word
 
-heads : (s t : Span) (x y : List Event) → Open s.id s.text s.start ∷ x ≡ Open t.id t.text t.start ∷ y → Heads s t x y
-heads s t x y e = record { id = cc; text = cc; start = cc; rest = cc }
+heads : (one other : Span) (rest other_rest : List Event)
+    → Open one.id one.text one.start ∷ rest ≡ Open other.id other.text other.start ∷ other_rest → Heads one other rest other_rest
+heads one other rest other_rest same = record { id = cc; text = cc; start = cc; rest = cc }
 
-stops_same : (a b : ℤ) (x y : List Event) → Close a ∷ x ≡ Close b ∷ y → (a ≡ b) × (x ≡ y)
-stops_same a b x y e = (cc, cc)
+stops_same : (stop other_stop : ℤ) (rest other_rest : List Event) → Close stop ∷ rest ≡ Close other_stop ∷ other_rest
+    → (stop ≡ other_stop) × (rest ≡ other_rest)
+stops_same stop other_stop rest other_rest same = (cc, cc)
 
 abbrev made : ℕ → List ℕ → ℤ → ℤ → Span
 made id text start stop = record { id = id; start = start; stop = stop; text = text }
 
-same_made : (id id' : ℕ) (text text' : List ℕ) (start start' stop stop' : ℤ) → id ≡ id' → text ≡ text' → start ≡ start' → stop ≡ stop' → made id text start stop ≡ made id' text' start' stop'
-same_made id id' text text' start start' stop stop' e1 e2 e3 e4 = cc
+same_made : (id id' : ℕ) (text text' : List ℕ) (start start' stop stop' : ℤ) → id ≡ id' → text ≡ text' → start ≡ start' → stop ≡ stop'
+    → made id text start stop ≡ made id' text' start' stop'
+same_made id id' text text' start start' stop stop' same_id same_text same_start same_stop = cc
 
-same_node : (s t : Span) (c d o u : Forest) → s ≡ t → c ≡ d → o ≡ u → node s c o ≡ node t d u
-same_node s t c d o u e1 e2 e3 = cc
+same_node : (span other_span : Span) (children other_children others other_others : Forest) → span ≡ other_span
+    → children ≡ other_children → others ≡ other_others → node span children others ≡ node other_span other_children other_others
+same_node span other_span children other_children others other_others same_span same_children same_others = cc
 
-same_span : (s t : Span) (c d o u : Forest) → s.id ≡ t.id → s.text ≡ t.text → s.start ≡ t.start → s.stop ≡ t.stop → c ≡ d → o ≡ u → node s c o ≡ node t d u
-same_span s t c d o u e1 e2 e3 e4 e5 e6 =
-    same_node s t c d o u (same_made s.id t.id s.text t.text s.start t.start s.stop t.stop e1 e2 e3 e4) e5 e6
+same_span : (span other_span : Span) (children other_children others other_others : Forest) → span.id ≡ other_span.id
+    → span.text ≡ other_span.text → span.start ≡ other_span.start → span.stop ≡ other_span.stop → children ≡ other_children
+    → others ≡ other_others → node span children others ≡ node other_span other_children other_others
+same_span span other_span children other_children others other_others same_id same_text same_start same_stop same_children same_others =
+    same_node span other_span children other_children others other_others
+    (same_made span.id other_span.id span.text other_span.text span.start other_span.start span.stop other_span.stop same_id same_text
+    same_start same_stop) same_children same_others
 
-regroup : (s : Span) (c o : Forest) (x : List Event) → tour (node s c o) ++ x ≡ Open s.id s.text s.start ∷ (tour c ++ (Close s.stop ∷ (tour o ++ x)))
-regroup s c o x = ap (λ (y : List Event). Open s.id s.text s.start ∷ y) (append_assoc (tour c) (Close s.stop ∷ tour o) x)
+regroup : (span : Span) (children others : Forest) (rest : List Event)
+    → tour (node span children others) ++ rest
+    ≡ Open span.id span.text span.start ∷ (tour children ++ (Close span.stop ∷ (tour others ++ rest)))
+regroup span children others rest =
+    ap (λ (any : List Event). Open span.id span.text span.start ∷ any)
+    (append_assoc (tour children) (Close span.stop ∷ tour others) rest)
 
-same_tours : (f g : Forest) (x y : List Event) → IsAfter x → IsAfter y → tour f ++ x ≡ tour g ++ y → (f ≡ g) × (x ≡ y)
-same_tours empty empty x y hx hy e = (refl, e)
-same_tours empty (node t d u) x y hx hy e = absurd (open_is_not_after t.id t.text t.start _ x hx e)
-same_tours (node s c o) empty x y hx hy e = absurd (open_is_not_after s.id s.text s.start _ y hy (sym e))
-same_tours (node s c o) (node t d u) x y hx hy e =
-    let h = heads s t _ _ (sym (regroup s c o x) ∙ e ∙ regroup t d u y) in
-    let inner = same_tours c d (Close s.stop ∷ (tour o ++ x)) (Close t.stop ∷ (tour u ++ y)) tt tt h.rest in
-    let closes = stops_same s.stop t.stop (tour o ++ x) (tour u ++ y) inner.1 in
-    let later = same_tours o u x y hx hy closes.1 in
-    (same_span s t c d o u h.id h.text h.start closes.0 inner.0 later.0, later.1)
+-- Two tours that are equal but for what follows are of one forest, if nothing or a close follows both.
+same_tours : (forest other : Forest) (rest other_rest : List Event) → IsAfter rest → IsAfter other_rest
+    → tour forest ++ rest ≡ tour other ++ other_rest → (forest ≡ other) × (rest ≡ other_rest)
+same_tours empty empty rest other_rest after other_after same = (refl, same)
+same_tours empty (node other_span other_children other_others) rest other_rest after other_after same =
+    absurd (open_is_not_after other_span.id other_span.text other_span.start _ rest after same)
+same_tours (node span children others) empty rest other_rest after other_after same =
+    absurd (open_is_not_after span.id span.text span.start _ other_rest other_after (sym same))
+same_tours (node span children others) (node other_span other_children other_others) rest other_rest after other_after same =
+    let heads_same =
+    heads span other_span _ _ (sym (regroup span children others rest) ∙ same
+    ∙ regroup other_span other_children other_others other_rest) in
+    let inner =
+    same_tours children other_children (Close span.stop ∷ (tour others ++ rest))
+    (Close other_span.stop ∷ (tour other_others ++ other_rest)) tt tt heads_same.rest in
+    let closes = stops_same span.stop other_span.stop (tour others ++ rest) (tour other_others ++ other_rest) inner.1 in
+    let later = same_tours others other_others rest other_rest after other_after closes.1 in (
+      same_span span other_span children other_children others other_others heads_same.id heads_same.text heads_same.start closes.0
+          inner.0 later.0,
+      later.1,
+    )
 
-pub one_tour : (f g : Forest) → tour f ≡ tour g → f ≡ g
-one_tour f g e = (same_tours f g [] [] tt tt (append-nil (tour f) ∙ e ∙ sym (append-nil (tour g)))).0
+pub one_tour : (forest other : Forest) → tour forest ≡ tour other → forest ≡ other
+one_tour forest other same = (same_tours forest other [] [] tt tt (append-nil (tour forest) ∙ same ∙ sym (append-nil (tour other)))).0

@@ -16,69 +16,80 @@ use Rattle.puffin_data.proofs.lemmas.Readers.{IsReader, IsBytes-rest, IsBytes-af
 -- ---- bytes of a number
 
 abbrev AreBack : ℕ → Type 0
-AreBack width = (xs : List ℕ) → width ≤ length xs → IsBytes xs → little_bytes width (little_number width xs) ≡ take width xs
+AreBack width = (bytes : List ℕ) → width ≤ length bytes → IsBytes bytes → little_bytes width (little_number width bytes) ≡ take width bytes
 
-le_number_2 : (xs : List ℕ) → little_number 2 xs ≡ from_le_bytes w16 xs
-le_number_2 xs = omega arith
+le_number_2 : (bytes : List ℕ) → little_number 2 bytes ≡ from_le_bytes w16 bytes
+le_number_2 bytes = omega arith
 
 bytes_2 : AreBack 2
-bytes_2 xs h fits =
-    le_bytes_2 (take 2 xs) (little_number 2 xs) (omega (arith, length-take 2 xs)) (IsBytes-take 2 xs fits) (sym (little_from-take 0 2 2 xs (omega arith)) ∙ le_number_2 (take 2 xs))
+bytes_2 bytes long are_bytes =
+    le_bytes_2 (take 2 bytes) (little_number 2 bytes) (omega (arith, length-take 2 bytes)) (IsBytes-take 2 bytes are_bytes)
+    (sym (little_from-take 0 2 2 bytes (omega arith)) ∙ le_number_2 (take 2 bytes))
 
 -- ---- a number of some bytes
 
-wide_again : (width least n : ℕ) (rest : List ℕ) → least ≤ n → n < 256 ^ width → wide_at width least (little_bytes width n ++ rest) ≡ Some (n, rest)
+wide_again : (width least value : ℕ) (rest : List ℕ) → least ≤ value → value < 256 ^ width
+    → wide_at width least (little_bytes width value ++ rest) ≡ Some (value, rest)
 unfolding wide_at
-wide_again width least n rest low high =
-    let len : length (little_bytes width n) ≡ width = length-bytes_low_first 0 width n in
-    let long : ltb (length (little_bytes width n ++ rest)) width ≡ false = le-ltb _ _ (omega (arith, length-append (little_bytes width n) rest, len)) in
-    let back : little_number width (little_bytes width n ++ rest) ≡ n = little_number-reads_back width n rest high in
-    rw (long, back, le-ltb n least low, drop_at (little_bytes width n) rest width len) refl
+wide_again width least value rest least_fits most_fits =
+    let len : length (little_bytes width value) ≡ width = length-bytes_low_first 0 width value in
+    let long : ltb (length (little_bytes width value ++ rest)) width ≡ false =
+    le-ltb _ _ (omega (arith, length-append (little_bytes width value) rest, len)) in
+    let back : little_number width (little_bytes width value ++ rest) ≡ value = little_number-reads_back width value rest most_fits in
+    rw (long, back, le-ltb value least least_fits, drop_at (little_bytes width value) rest width len) refl
 
-guarded : {A : Type 0} (b : Bool) (o : Option A) (y : A) → cond b None o ≡ Some y → (b ≡ false) × (o ≡ Some y)
-guarded true o y e = absurd cc
-guarded false o y e = (refl, e)
+guarded : {A : Type 0} (test : Bool) (option : Option A) (value : A) → cond test None option ≡ Some value
+    → (test ≡ false) × (option ≡ Some value)
+guarded true option value is = absurd cc
+guarded false option value is = (refl, is)
 
-record Wide (width least : ℕ) (bytes : List ℕ) (n : ℕ) (rest : List ℕ) : Type 0 where
-  low : least ≤ n
-  high : n < 256 ^ width
-  text : bytes ≡ little_bytes width n ++ rest
+record Wide (width least : ℕ) (bytes : List ℕ) (value : ℕ) (rest : List ℕ) : Type 0 where
+  low : least ≤ value
+  high : value < 256 ^ width
+  text : bytes ≡ little_bytes width value ++ rest
 
-wide_taken : (width least : ℕ) → AreBack width → (bytes : List ℕ) (n : ℕ) (rest : List ℕ) → IsBytes bytes → wide_at width least bytes ≡ Some (n, rest) → Wide width least bytes n rest
+-- what is read as a number of some bytes was laid out so, and needs as many
+wide_taken : (width least : ℕ) → AreBack width → (bytes : List ℕ) (value : ℕ) (rest : List ℕ) → IsBytes bytes
+    → wide_at width least bytes ≡ Some (value, rest) → Wide width least bytes value rest
 unfolding wide_at
-wide_taken width least back bytes n rest is e =
-    let a = guarded (ltb (length bytes) width) (cond (ltb (little_number width bytes) least) None (Some (little_number width bytes, drop width bytes))) (n, rest) e in
-    let b = guarded (ltb (little_number width bytes) least) (Some (little_number width bytes, drop width bytes)) (n, rest) a.1 in
-    let parts = some_pair_parts (little_number width bytes) n (drop width bytes) rest b.1 in
-    let long : width ≤ length bytes = ltb-false _ _ a.0 in
-    let front : little_bytes width n ≡ take width bytes = ap (little_bytes width) (sym parts.0) ∙ back bytes long is in
+wide_taken width least back bytes value rest are_bytes read_is =
+    let long_enough =
+    guarded (ltb (length bytes) width)
+    (cond (ltb (little_number width bytes) least) None (Some (little_number width bytes, drop width bytes))) (value, rest) read_is in
+    let great_enough =
+    guarded (ltb (little_number width bytes) least) (Some (little_number width bytes, drop width bytes)) (value, rest)
+    long_enough.1 in
+    let parts = some_pair_parts (little_number width bytes) value (drop width bytes) rest great_enough.1 in
+    let long : width ≤ length bytes = ltb-false _ _ long_enough.0 in
+    let front : little_bytes width value ≡ take width bytes = ap (little_bytes width) (sym parts.0) ∙ back bytes long are_bytes in
     record {
-      low = rw (← parts.0) (ltb-false _ _ b.0);
-      high = rw (← parts.0) (little_from-lt 0 width bytes is);
+      low = rw (← parts.0) (ltb-false _ _ great_enough.0);
+      high = rw (← parts.0) (little_from-lt 0 width bytes are_bytes);
       text = rw (front, ← parts.1) (sym (take-append-drop width bytes));
     }
 
 -- ---- the shortest spelling
 
-short_is : (n : ℕ) → n < 251 → number n ≡ n ∷ []
+short_is : (value : ℕ) → value < 251 → number value ≡ value ∷ []
 unfolding number
-short_is n h = rw (lt-ltb n 251 h) refl
+short_is value small = rw (lt-ltb value 251 small) refl
 
-two_is : (n : ℕ) → 251 ≤ n → n < 2 ^ 16 → number n ≡ 251 ∷ little_bytes 2 n
+two_is : (value : ℕ) → 251 ≤ value → value < 2 ^ 16 → number value ≡ 251 ∷ little_bytes 2 value
 unfolding number
-two_is n low high = rw (le-ltb n 251 low, lt-ltb n (2 ^ 16) high) refl
+two_is value least_fits most_fits = rw (le-ltb value 251 least_fits, lt-ltb value (2 ^ 16) most_fits) refl
 
-four_is : (n : ℕ) → 2 ^ 16 ≤ n → n < 2 ^ 32 → number n ≡ 252 ∷ little_bytes 4 n
+four_is : (value : ℕ) → 2 ^ 16 ≤ value → value < 2 ^ 32 → number value ≡ 252 ∷ little_bytes 4 value
 unfolding number
-four_is n low high = rw (le-ltb n 251 (omega arith), le-ltb n (2 ^ 16) low, lt-ltb n (2 ^ 32) high) refl
+four_is value least_fits most_fits =
+    rw (le-ltb value 251 (omega arith), le-ltb value (2 ^ 16) least_fits, lt-ltb value (2 ^ 32) most_fits) refl
 
-eight_is : (n : ℕ) → 2 ^ 32 ≤ n → number n ≡ 253 ∷ little_bytes 8 n
+eight_is : (value : ℕ) → 2 ^ 32 ≤ value → number value ≡ 253 ∷ little_bytes 8 value
 unfolding number
-eight_is n low = rw (le-ltb n 251 (omega arith), le-ltb n (2 ^ 16) (omega arith), le-ltb n (2 ^ 32) low) refl
+eight_is value least_fits = rw (le-ltb value 251 (omega arith), le-ltb value (2 ^ 16) (omega arith), le-ltb value (2 ^ 32) least_fits) refl
 
-after_short : (b : ℕ) (rest : List ℕ) → b < 251 → number_after b rest ≡ Some (b, rest)
+after_short : (first : ℕ) (rest : List ℕ) → first < 251 → number_after first rest ≡ Some (first, rest)
 unfolding number_after
-after_short b rest h = rw (lt-ltb b 251 h) refl
+after_short first rest small = rw (lt-ltb first 251 small) refl
 
 after_251 : (rest : List ℕ) → number_after 251 rest ≡ wide_at 2 251 rest
 unfolding number_after
@@ -92,78 +103,93 @@ after_253 : (rest : List ℕ) → number_after 253 rest ≡ wide_at 8 (2 ^ 32) r
 unfolding number_after
 after_253 rest = refl
 
-pub number-again : (n : ℕ) (rest : List ℕ) → IsLong n → number_at (number n ++ rest) ≡ Some (n, rest)
-number-again n rest h =
-    elim (cases_lt n 251) [
-      | inl short ↦ ap (λ (t : List ℕ). number_at (t ++ rest)) (short_is n short) ∙ after_short n rest short
-      | inr from251 ↦ elim (cases_lt n (2 ^ 16)) [
-        | inl two ↦ ap (λ (t : List ℕ). number_at (t ++ rest)) (two_is n from251 two) ∙ (after_251 (little_bytes 2 n ++ rest) ∙ wide_again 2 251 n rest from251 (omega arith))
-        | inr from16 ↦ elim (cases_lt n (2 ^ 32)) [
-          | inl four ↦ ap (λ (t : List ℕ). number_at (t ++ rest)) (four_is n from16 four) ∙ (after_252 (little_bytes 4 n ++ rest) ∙ wide_again 4 (2 ^ 16) n rest from16 (omega arith))
-          | inr from32 ↦ ap (λ (t : List ℕ). number_at (t ++ rest)) (eight_is n from32) ∙ (after_253 (little_bytes 8 n ++ rest) ∙ wide_again 8 (2 ^ 32) n rest from32 (omega arith))
+-- a number is read back, by the size of its layout
+pub number-again : (value : ℕ) (rest : List ℕ) → IsLong value → number_at (number value ++ rest) ≡ Some (value, rest)
+number-again value rest is_long =
+    elim (cases_lt value 251) [
+      | inl short ↦ ap (λ (any : List ℕ). number_at (any ++ rest)) (short_is value short) ∙ after_short value rest short
+      | inr from251 ↦ elim (cases_lt value (2 ^ 16)) [
+        | inl two ↦ ap (λ (any : List ℕ). number_at (any ++ rest)) (two_is value from251 two)
+            ∙ (after_251 (little_bytes 2 value ++ rest) ∙ wide_again 2 251 value rest from251 (omega arith))
+        | inr from16 ↦ elim (cases_lt value (2 ^ 32)) [
+          | inl four ↦ ap (λ (any : List ℕ). number_at (any ++ rest)) (four_is value from16 four)
+              ∙ (after_252 (little_bytes 4 value ++ rest) ∙ wide_again 4 (2 ^ 16) value rest from16 (omega arith))
+          | inr from32 ↦ ap (λ (any : List ℕ). number_at (any ++ rest)) (eight_is value from32)
+              ∙ (after_253 (little_bytes 8 value ++ rest) ∙ wide_again 8 (2 ^ 32) value rest from32 (omega arith))
         ]
       ]
     ]
 
-chosen : {A : Type 0} (b : Bool) (x y z : A) → cond b x y ≡ z → ((b ≡ true) × (x ≡ z)) ⊎ ((b ≡ false) × (y ≡ z))
-chosen true x y z e = inl (refl, e)
-chosen false x y z e = inr (refl, e)
+chosen : {A : Type 0} (test : Bool) (one other value : A) → cond test one other ≡ value
+    → ((test ≡ true) × (one ≡ value)) ⊎ ((test ≡ false) × (other ≡ value))
+chosen true one other value is = inl (refl, is)
+chosen false one other value is = inr (refl, is)
 
-not_any : {A : Type 0} (x : A) → None ≡ Some x → ⊥
-not_any x e = absurd cc
+not_any : {A : Type 0} (value : A) → None ≡ Some value → ⊥
+not_any value same = absurd cc
 
-Taken : ℕ → List ℕ → ℕ → List ℕ → Type 0
-Taken b tail n rest = (n < 2 ^ 64) × (b ∷ tail ≡ number n ++ rest)
+-- the number was laid out so
+IsLaidOut : ℕ → List ℕ → ℕ → List ℕ → Type 0
+IsLaidOut first tail value rest = (value < 2 ^ 64) × (first ∷ tail ≡ number value ++ rest)
 
-taken_two : (b : ℕ) (tail : List ℕ) (n : ℕ) (rest : List ℕ) → b ≡ 251 → Wide 2 251 tail n rest → Taken b tail n rest
-unfolding Taken
-taken_two b tail n rest eq w =
-    let high : n < 2 ^ 16 = let h = w.high in omega arith in
-    (omega arith, rw (eq, two_is n w.low high) (ap (λ (t : List ℕ). 251 ∷ t) w.text))
+taken_two : (first : ℕ) (tail : List ℕ) (value : ℕ) (rest : List ℕ) → first ≡ 251 → Wide 2 251 tail value rest
+    → IsLaidOut first tail value rest
+unfolding IsLaidOut
+taken_two first tail value rest first_is wide =
+    let fits : value < 2 ^ 16 = let most = wide.high in omega arith in
+    (omega arith, rw (first_is, two_is value wide.low fits) (ap (λ (any : List ℕ). 251 ∷ any) wide.text))
 
-taken_four : (b : ℕ) (tail : List ℕ) (n : ℕ) (rest : List ℕ) → b ≡ 252 → Wide 4 (2 ^ 16) tail n rest → Taken b tail n rest
-unfolding Taken
-taken_four b tail n rest eq w =
-    let high : n < 2 ^ 32 = let h = w.high in omega arith in
-    (omega arith, rw (eq, four_is n w.low high) (ap (λ (t : List ℕ). 252 ∷ t) w.text))
+taken_four : (first : ℕ) (tail : List ℕ) (value : ℕ) (rest : List ℕ) → first ≡ 252 → Wide 4 (2 ^ 16) tail value rest
+    → IsLaidOut first tail value rest
+unfolding IsLaidOut
+taken_four first tail value rest first_is wide =
+    let fits : value < 2 ^ 32 = let most = wide.high in omega arith in
+    (omega arith, rw (first_is, four_is value wide.low fits) (ap (λ (any : List ℕ). 252 ∷ any) wide.text))
 
-taken_eight : (b : ℕ) (tail : List ℕ) (n : ℕ) (rest : List ℕ) → b ≡ 253 → Wide 8 (2 ^ 32) tail n rest → Taken b tail n rest
-unfolding Taken
-taken_eight b tail n rest eq w =
-    let high : n < 2 ^ 64 = let h = w.high in omega arith in
-    (high, rw (eq, eight_is n w.low) (ap (λ (t : List ℕ). 253 ∷ t) w.text))
+taken_eight : (first : ℕ) (tail : List ℕ) (value : ℕ) (rest : List ℕ) → first ≡ 253 → Wide 8 (2 ^ 32) tail value rest
+    → IsLaidOut first tail value rest
+unfolding IsLaidOut
+taken_eight first tail value rest first_is wide =
+    let fits : value < 2 ^ 64 = let most = wide.high in omega arith in
+    (fits, rw (first_is, eight_is value wide.low) (ap (λ (any : List ℕ). 253 ∷ any) wide.text))
 
-taken_short : (b : ℕ) (tail : List ℕ) (n : ℕ) (rest : List ℕ) → b < 251 → (b ≡ n) × (tail ≡ rest) → Taken b tail n rest
-unfolding Taken
-taken_short b tail n rest low e =
-    (omega (arith, e.0), rw (← e.0, ← e.1, short_is b low) refl)
+taken_short : (first : ℕ) (tail : List ℕ) (value : ℕ) (rest : List ℕ) → first < 251 → (first ≡ value) × (tail ≡ rest)
+    → IsLaidOut first tail value rest
+unfolding IsLaidOut
+taken_short first tail value rest small same =
+    (omega (arith, same.0), rw (← same.0, ← same.1, short_is first small) refl)
 
-number_taken : (b : ℕ) (tail : List ℕ) (n : ℕ) (rest : List ℕ) → IsBytes tail → number_after b tail ≡ Some (n, rest) → Taken b tail n rest
+-- what is read is a number's layout, by its first byte
+number_taken : (first : ℕ) (tail : List ℕ) (value : ℕ) (rest : List ℕ) → IsBytes tail → number_after first tail ≡ Some (value, rest)
+    → IsLaidOut first tail value rest
 unfolding number_after
-number_taken b tail n rest is e =
+number_taken first tail value rest are_bytes read_is =
     let none : Option (ℕ × List ℕ) = None in
-    let third : Option (ℕ × List ℕ) = cond (eqb b 253) (wide_at 8 (2 ^ 32) tail) none in
-    let second : Option (ℕ × List ℕ) = cond (eqb b 252) (wide_at 4 (2 ^ 16) tail) third in
-    let first : Option (ℕ × List ℕ) = cond (eqb b 251) (wide_at 2 251 tail) second in
-    let out : Option (ℕ × List ℕ) = Some (n, rest) in
-    elim (chosen (ltb b 251) (Some (b, tail)) first out e) [
-      | inl p ↦ taken_short b tail n rest (ltb-true _ _ p.0) (some_pair_parts b n tail rest p.1)
-      | inr p ↦ elim (chosen (eqb b 251) (wide_at 2 251 tail) second out p.1) [
-        | inl q ↦ taken_two b tail n rest (eqb-true _ _ q.0) (wide_taken 2 251 bytes_2 tail n rest is q.1)
-        | inr q ↦ elim (chosen (eqb b 252) (wide_at 4 (2 ^ 16) tail) third out q.1) [
-          | inl r ↦ taken_four b tail n rest (eqb-true _ _ r.0) (wide_taken 4 (2 ^ 16) bytes_4 tail n rest is r.1)
-          | inr r ↦ elim (chosen (eqb b 253) (wide_at 8 (2 ^ 32) tail) none out r.1) [
-            | inl s ↦ taken_eight b tail n rest (eqb-true _ _ s.0) (wide_taken 8 (2 ^ 32) bytes_8 tail n rest is s.1)
-            | inr s ↦ absurd (not_any (n, rest) s.1)
+    let from_253 : Option (ℕ × List ℕ) = cond (eqb first 253) (wide_at 8 (2 ^ 32) tail) none in
+    let from_252 : Option (ℕ × List ℕ) = cond (eqb first 252) (wide_at 4 (2 ^ 16) tail) from_253 in
+    let from_251 : Option (ℕ × List ℕ) = cond (eqb first 251) (wide_at 2 251 tail) from_252 in
+    let out : Option (ℕ × List ℕ) = Some (value, rest) in
+    elim (chosen (ltb first 251) (Some (first, tail)) from_251 out read_is) [
+      | inl short ↦ taken_short first tail value rest (ltb-true _ _ short.0) (some_pair_parts first value tail rest short.1)
+      | inr short ↦ elim (chosen (eqb first 251) (wide_at 2 251 tail) from_252 out short.1) [
+        | inl two ↦ taken_two first tail value rest (eqb-true _ _ two.0) (wide_taken 2 251 bytes_2 tail value rest are_bytes two.1)
+        | inr two ↦ elim (chosen (eqb first 252) (wide_at 4 (2 ^ 16) tail) from_253 out two.1) [
+          | inl four ↦ taken_four first tail value rest (eqb-true _ _ four.0)
+              (wide_taken 4 (2 ^ 16) bytes_4 tail value rest are_bytes four.1)
+          | inr four ↦ elim (chosen (eqb first 253) (wide_at 8 (2 ^ 32) tail) none out four.1) [
+            | inl eight ↦ taken_eight first tail value rest (eqb-true _ _ eight.0)
+                (wide_taken 8 (2 ^ 32) bytes_8 tail value rest are_bytes eight.1)
+            | inr eight ↦ absurd (not_any (value, rest) eight.1)
           ]
         ]
       ]
     ]
 
-pub number-taken : (bytes : List ℕ) (n : ℕ) (rest : List ℕ) → IsBytes bytes → number_at bytes ≡ Some (n, rest) → IsLong n × (bytes ≡ number n ++ rest)
-unfolding Taken
-number-taken [] n rest is e = absurd cc
-number-taken (b ∷ tail) n rest is e = number_taken b tail n rest (IsBytes-rest b tail is) e
+pub number-taken : (bytes : List ℕ) (value : ℕ) (rest : List ℕ) → IsBytes bytes → number_at bytes ≡ Some (value, rest)
+    → IsLong value × (bytes ≡ number value ++ rest)
+unfolding IsLaidOut
+number-taken [] value rest are_bytes read_is = absurd cc
+number-taken (first ∷ tail) value rest are_bytes read_is = number_taken first tail value rest (IsBytes-rest first tail are_bytes) read_is
 
 pub number_reader : IsReader IsLong number number_at
 number_reader = record { again = number-again; taken = number-taken }
@@ -172,109 +198,124 @@ number_reader = record { again = number-again; taken = number-taken }
 
 pub word_reader : IsReader IsU32 number u32_at
 word_reader =
-    let p = checked_reader IsLong number number_at (λ n. ltb n (2 ^ 32)) number_reader in
+    let reader = checked_reader IsLong number number_at (λ value. ltb value (2 ^ 32)) number_reader in
     record {
-      again = λ n rest h. p.again n rest (omega arith, lt-ltb n (2 ^ 32) h);
-      taken = λ bytes n rest is e. let t = p.taken bytes n rest is e in (ltb-true _ _ t.0.1, t.1);
+      again = λ value rest fits. reader.again value rest (omega arith, lt-ltb value (2 ^ 32) fits);
+      taken =
+          λ bytes value rest are_bytes read_is.
+          let taken = reader.taken bytes value rest are_bytes read_is in (ltb-true _ _ taken.0.1, taken.1);
     }
 
 -- ---- times
 
-even_is : (n : ℕ) → n % 2 ≡ 0 → zigzag (unzigzag n) ≡ n
-even_is n h = rw h (omega arith)
+even_is : (folded : ℕ) → folded % 2 ≡ 0 → zigzag (unzigzag folded) ≡ folded
+even_is folded rest = rw rest (omega arith)
 
-odd_is : (n : ℕ) → n % 2 ≡ 1 → zigzag (unzigzag n) ≡ n
-odd_is n h = rw h (omega arith)
+odd_is : (folded : ℕ) → folded % 2 ≡ 1 → zigzag (unzigzag folded) ≡ folded
+odd_is folded rest = rw rest (omega arith)
 
-pub zigzag-back : (n : ℕ) → zigzag (unzigzag n) ≡ n
-zigzag-back n =
-    let small : n % 2 < 2 = omega arith in
-    elim (cases_lt (n % 2) 1) [
-      | inl zero_ ↦ even_is n (omega arith)
-      | inr one ↦ odd_is n (omega arith)
+pub zigzag-back : (folded : ℕ) → zigzag (unzigzag folded) ≡ folded
+zigzag-back folded =
+    let small : folded % 2 < 2 = omega arith in
+    elim (cases_lt (folded % 2) 1) [
+      | inl zero_ ↦ even_is folded (omega arith)
+      | inr one ↦ odd_is folded (omega arith)
     ]
 
-pub zigzag-forth : (z : ℤ) → unzigzag (zigzag z) ≡ z
-zigzag-forth (pos n) =
-    let even : 2 * n % 2 ≡ 0 = omega arith in
-    let half : 2 * n / 2 ≡ n = omega arith in
+pub zigzag-forth : (value : ℤ) → unzigzag (zigzag value) ≡ value
+zigzag-forth (pos size) =
+    let even : 2 * size % 2 ≡ 0 = omega arith in
+    let half : 2 * size / 2 ≡ size = omega arith in
     rw (even, half) refl
-zigzag-forth (negsuc n) =
-    let odd : (2 * n + 1) % 2 ≡ 1 = omega arith in
-    let half : (2 * n + 1) / 2 ≡ n = omega arith in
+zigzag-forth (negsuc size) =
+    let odd : (2 * size + 1) % 2 ≡ 1 = omega arith in
+    let half : (2 * size + 1) / 2 ≡ size = omega arith in
     rw (odd, half) refl
 
 -- ---- bytes
 
-pub byte-again : (n : ℕ) (rest : List ℕ) → IsByte n → byte_at (byte n ++ rest) ≡ Some (n, rest)
-byte-again n rest h = refl
+pub byte-again : (value : ℕ) (rest : List ℕ) → IsByte value → byte_at (byte value ++ rest) ≡ Some (value, rest)
+byte-again value rest fits = refl
 
-pub byte-taken : (bytes : List ℕ) (n : ℕ) (rest : List ℕ) → IsBytes bytes → byte_at bytes ≡ Some (n, rest) → IsByte n × (bytes ≡ byte n ++ rest)
-byte-taken [] n rest is e = absurd cc
-byte-taken (b ∷ tail) n rest is e =
-    let p = some_pair_parts b n tail rest e in
-    let small : b < 256 = is 0 in
-    (rw (← p.0) small, rw (← p.0, ← p.1) refl)
+pub byte-taken : (bytes : List ℕ) (value : ℕ) (rest : List ℕ) → IsBytes bytes → byte_at bytes ≡ Some (value, rest)
+    → IsByte value × (bytes ≡ byte value ++ rest)
+byte-taken [] value rest are_bytes read_is = absurd cc
+byte-taken (first ∷ tail) value rest are_bytes read_is =
+    let parts = some_pair_parts first value tail rest read_is in
+    let small : first < 256 = are_bytes 0 in
+    (rw (← parts.0) small, rw (← parts.0, ← parts.1) refl)
 
 pub byte_reader : IsReader IsByte byte byte_at
 byte_reader = record { again = byte-again; taken = byte-taken }
 
-time_is_long : (z : ℤ) → IsSigned z → IsLong (zigzag z)
-time_is_long (pos n) h = omega (arith, h)
-time_is_long (negsuc n) h = omega (arith, h)
+time_is_long : (value : ℤ) → IsSigned value → IsLong (zigzag value)
+time_is_long (pos size) fits = omega (arith, fits)
+time_is_long (negsuc size) fits = omega (arith, fits)
 
-long_is_time : (z : ℤ) → IsLong (zigzag z) → IsSigned z
-long_is_time (pos n) h = omega (arith, h)
-long_is_time (negsuc n) h = omega (arith, h)
+long_is_time : (value : ℤ) → IsLong (zigzag value) → IsSigned value
+long_is_time (pos size) fits = omega (arith, fits)
+long_is_time (negsuc size) fits = omega (arith, fits)
 
 pub signed_reader : IsReader IsSigned signed signed_at
 signed_reader =
-    let p = form_reader IsLong number number_at unzigzag zigzag zigzag-back zigzag-forth number_reader in
+    let reader = form_reader IsLong number number_at unzigzag zigzag zigzag-back zigzag-forth number_reader in
     record {
-      again = λ z rest h. p.again z rest (time_is_long z h);
-      taken = λ bytes z rest is e. let t = p.taken bytes z rest is e in (long_is_time z t.0, t.1);
+      again = λ value rest fits. reader.again value rest (time_is_long value fits);
+      taken =
+          λ bytes value rest are_bytes read_is.
+          let taken = reader.taken bytes value rest are_bytes read_is in (long_is_time value taken.0, taken.1);
     }
 
 -- ---- flags
 
-flag-again : (b : Bool) (rest : List ℕ) → IsAny b → flag_at (flag b ++ rest) ≡ Some (b, rest)
-flag-again true rest h = refl
-flag-again false rest h = refl
+flag-again : (flag_value : Bool) (rest : List ℕ) → IsAny flag_value → flag_at (flag flag_value ++ rest) ≡ Some (flag_value, rest)
+flag-again true rest fits = refl
+flag-again false rest fits = refl
 
-flag-taken : (bytes : List ℕ) (b : Bool) (rest : List ℕ) → IsBytes bytes → flag_at bytes ≡ Some (b, rest) → IsAny b × (bytes ≡ flag b ++ rest)
-flag-taken [] b rest is e = absurd cc
-flag-taken (zero ∷ tail) b rest is e = let p = some_pair_parts false b tail rest e in (tt, rw (← p.0, ← p.1) refl)
-flag-taken (suc zero ∷ tail) b rest is e = let p = some_pair_parts true b tail rest e in (tt, rw (← p.0, ← p.1) refl)
-flag-taken (suc (suc n) ∷ tail) b rest is e = absurd cc
+flag-taken : (bytes : List ℕ) (flag_value : Bool) (rest : List ℕ) → IsBytes bytes → flag_at bytes ≡ Some (flag_value, rest)
+    → IsAny flag_value × (bytes ≡ flag flag_value ++ rest)
+flag-taken [] flag_value rest are_bytes read_is = absurd cc
+flag-taken (zero ∷ tail) flag_value rest are_bytes read_is =
+    let parts = some_pair_parts false flag_value tail rest read_is in (tt, rw (← parts.0, ← parts.1) refl)
+flag-taken (suc zero ∷ tail) flag_value rest are_bytes read_is =
+    let parts = some_pair_parts true flag_value tail rest read_is in (tt, rw (← parts.0, ← parts.1) refl)
+flag-taken (suc (suc more) ∷ tail) flag_value rest are_bytes read_is = absurd cc
 
 pub flag_reader : IsReader IsAny flag flag_at
 flag_reader = record { again = flag-again; taken = flag-taken }
 
 -- ---- bytes and texts
 
-pub split-again : (t rest : List ℕ) → split_after (length t) (t ++ rest) ≡ Some (t, rest)
-split-again t rest =
-    let long : ltb (length (t ++ rest)) (length t) ≡ false = le-ltb _ _ (omega (arith, length-append t rest)) in
-    rw (long, take_at t rest (length t) refl, drop_at t rest (length t) refl) refl
+pub split-again : (text rest : List ℕ) → split_after (length text) (text ++ rest) ≡ Some (text, rest)
+split-again text rest =
+    let long : ltb (length (text ++ rest)) (length text) ≡ false = le-ltb _ _ (omega (arith, length-append text rest)) in
+    rw (long, take_at text rest (length text) refl, drop_at text rest (length text) refl) refl
 
 pub bytes_reader : IsReader IsBlock block bytes_at
 bytes_reader = record {
-  again = λ t rest h.
-      ap bytes_at (append_assoc (number (length t)) t rest) ∙ rw (number-again (length t) (t ++ rest) h.0) (split-again t rest);
-  taken = λ bytes t rest is e.
-      let a = bind_some (number_at bytes) (λ n. split_after n.0 n.1) (t, rest) e in
-      let first = number-taken bytes a.0.0 a.0.1 is a.1 in
-      let after : IsBytes a.0.1 = IsBytes-after bytes (number a.0.0) a.0.1 first.1 is in
-      let g = guarded (ltb (length a.0.1) a.0.0) (Some (take a.0.0 a.0.1, drop a.0.0 a.0.1)) (t, rest) a.2 in
-      let made : (List ℕ × List ℕ) = (take a.0.0 a.0.1, drop a.0.0 a.0.1) in
-      let long : a.0.0 ≤ length a.0.1 = ltb-false _ _ g.0 in
-      let size : length (take a.0.0 a.0.1) ≡ a.0.0 = omega (arith, length-take a.0.0 a.0.1) in
-      let short : length (take a.0.0 a.0.1) < 2 ^ 64 = rw size first.0 in
-      let body : bytes ≡ block (take a.0.0 a.0.1) ++ drop a.0.0 a.0.1 =
-      first.1 ∙ (ap (λ (x : List ℕ). number a.0.0 ++ x) (sym (take-append-drop a.0.0 a.0.1))
-      ∙ (sym (append_assoc (number a.0.0) (take a.0.0 a.0.1) (drop a.0.0 a.0.1))
-      ∙ ap (λ (k : ℕ). (number k ++ take a.0.0 a.0.1) ++ drop a.0.0 a.0.1) (sym size))) in
-      subst (λ (y : List ℕ × List ℕ). IsBlock y.0 × (bytes ≡ block y.0 ++ y.1)) (same_Some made (t, rest) g.1) ((short, IsBytes-take a.0.0 a.0.1 after), body);
+  again = λ text rest fits.
+      ap bytes_at (append_assoc (number (length text)) text rest)
+      ∙ rw (number-again (length text) (text ++ rest) fits.0) (split-again text rest);
+  taken = λ bytes text rest are_bytes read_is.
+      let counted = bind_some (number_at bytes) (λ count. split_after count.0 count.1) (text, rest) read_is in
+      let count = counted.got.0 in
+      let left = counted.got.1 in
+      let front = take count left in
+      let behind = drop count left in
+      let count_taken = number-taken bytes count left are_bytes counted.got_is in
+      let left_bytes : IsBytes left = IsBytes-after bytes (number count) left count_taken.1 are_bytes in
+      let tested = guarded (ltb (length left) count) (Some (front, behind)) (text, rest) counted.next_is in
+      let made : (List ℕ × List ℕ) = (front, behind) in
+      let long : count ≤ length left = ltb-false _ _ tested.0 in
+      let size : length front ≡ count = omega (arith, length-take count left) in
+      let short : length front < 2 ^ 64 = rw size count_taken.0 in
+      let body : bytes ≡ block front ++ behind =
+      count_taken.1
+      ∙ (ap (λ (any : List ℕ). number count ++ any) (sym (take-append-drop count left))
+      ∙ (sym (append_assoc (number count) front behind)
+      ∙ ap (λ (any : ℕ). (number any ++ front) ++ behind) (sym size))) in
+      subst (λ (any : List ℕ × List ℕ). IsBlock any.0 × (bytes ≡ block any.0 ++ any.1)) (same_Some made (text, rest) tested.1)
+      ((short, IsBytes-take count left left_bytes), body);
 }
 
 pub text_reader : IsReader IsText block text_at

@@ -12,102 +12,125 @@ use Rattle.puffin_data.specs.Forest.Spelling.{spelling, begin_bytes, end_bytes, 
 use Rattle.puffin_data.specs.Forest.Tour.{Event, Open, Close, tour}
 use Rattle.puffin_data.specs.Forest.Words.{word_size, num_begun, open_after, most_open, least_open, greatest_close}
 
-min_assoc : (x y z : ℤ) → int_min x (int_min y z) ≡ int_min (int_min x y) z
-min_assoc x y z = omega (arith, ints, clamps)
+min_assoc : (one other third : ℤ) → int_min one (int_min other third) ≡ int_min (int_min one other) third
+min_assoc one other third = omega (arith, ints, clamps)
 
-max_assoc : (x y z : ℤ) → int_max x (int_max y z) ≡ int_max (int_max x y) z
-max_assoc x y z = omega (arith, ints, clamps)
+max_assoc : (one other third : ℤ) → int_max one (int_max other third) ≡ int_max (int_max one other) third
+max_assoc one other third = omega (arith, ints, clamps)
 
-min_right : (x y m : ℤ) → y ≤ℤ m → int_min x y ≤ℤ m
-min_right x y m h = omega (arith, ints, clamps)
+min_right : (one other bound : ℤ) → other ≤ℤ bound → int_min one other ≤ℤ bound
+min_right one other bound within = omega (arith, ints, clamps)
 
-max_right : (x y m : ℤ) → m ≤ℤ y → m ≤ℤ int_max x y
-max_right x y m h = omega (arith, ints, clamps)
+max_right : (one other bound : ℤ) → bound ≤ℤ other → bound ≤ℤ int_max one other
+max_right one other bound within = omega (arith, ints, clamps)
 
-min_over : (y m : ℤ) → y ≤ℤ m → int_min m y ≡ y
-min_over y m h = omega (arith, ints, clamps)
+min_over : (time bound : ℤ) → time ≤ℤ bound → int_min bound time ≡ time
+min_over time bound within = omega (arith, ints, clamps)
 
-max_over : (y m : ℤ) → m ≤ℤ y → int_max m y ≡ y
-max_over y m h = omega (arith, ints, clamps)
+max_over : (time bound : ℤ) → bound ≤ℤ time → int_max bound time ≡ time
+max_over time bound within = omega (arith, ints, clamps)
 
-max_swap : (x y z : ℤ) → int_max x (int_max y z) ≡ int_max y (int_max x z)
-max_swap x y z = omega (arith, ints, clamps)
+max_swap : (one other third : ℤ) → int_max one (int_max other third) ≡ int_max other (int_max one third)
+max_swap one other third = omega (arith, ints, clamps)
 
-pub word_size-append : (form : Form) (u v : List Event) → word_size form (u ++ v) ≡ word_size form u + word_size form v
-word_size-append form [] v = omega arith
-word_size-append form (Open id text start ∷ u) v = omega (arith, word_size-append form u v)
-word_size-append form (Close stop ∷ u) v = omega (arith, word_size-append form u v)
+-- ---- words one after the other
 
-pub num_begun-append : (u v : List Event) → num_begun (u ++ v) ≡ num_begun u + num_begun v
-num_begun-append [] v = omega arith
-num_begun-append (Open id text start ∷ u) v = omega (arith, num_begun-append u v)
-num_begun-append (Close stop ∷ u) v = num_begun-append u v
+pub word_size-append : (form : Form) (first second : List Event)
+    → word_size form (first ++ second) ≡ word_size form first + word_size form second
+word_size-append form [] second = omega arith
+word_size-append form (Open id text start ∷ first) second = omega (arith, word_size-append form first second)
+word_size-append form (Close stop ∷ first) second = omega (arith, word_size-append form first second)
 
-pub open_after-append : (n : ℕ) (u v : List Event) → open_after n (u ++ v) ≡ open_after (open_after n u) v
-open_after-append n [] v = refl
-open_after-append n (Open id text start ∷ u) v = open_after-append (n + 1) u v
-open_after-append n (Close stop ∷ u) v = open_after-append (n - 1) u v
+pub num_begun-append : (first second : List Event) → num_begun (first ++ second) ≡ num_begun first + num_begun second
+num_begun-append [] second = omega arith
+num_begun-append (Open id text start ∷ first) second = omega (arith, num_begun-append first second)
+num_begun-append (Close stop ∷ first) second = num_begun-append first second
 
-most_from : (n : ℕ) (u : List Event) → n ≤ most_open n u
-most_from n [] = omega arith
-most_from n (Open id text start ∷ u) = omega arith
-most_from n (Close stop ∷ u) = omega arith
+pub open_after-append : (depth : ℕ) (first second : List Event)
+    → open_after depth (first ++ second) ≡ open_after (open_after depth first) second
+open_after-append depth [] second = refl
+open_after-append depth (Open id text start ∷ first) second = open_after-append (depth + 1) first second
+open_after-append depth (Close stop ∷ first) second = open_after-append (depth - 1) first second
 
-pub most_open-append : (n : ℕ) (u v : List Event) → most_open n (u ++ v) ≡ max (most_open n u) (most_open (open_after n u) v)
-most_open-append n [] v = omega (arith, most_from n v)
-most_open-append n (Open id text start ∷ u) v = omega (arith, most_open-append (n + 1) u v)
-most_open-append n (Close stop ∷ u) v = omega (arith, most_open-append (n - 1) u v)
+most_from : (depth : ℕ) (word : List Event) → depth ≤ most_open depth word
+most_from depth [] = omega arith
+most_from depth (Open id text start ∷ word) = omega arith
+most_from depth (Close stop ∷ word) = omega arith
 
-open_bound : (w : List Event) → least_open w ≤ℤ pos (2 ^ 63 - 1)
+pub most_open-append : (depth : ℕ) (first second : List Event)
+    → most_open depth (first ++ second) ≡ max (most_open depth first) (most_open (open_after depth first) second)
+most_open-append depth [] second = omega (arith, most_from depth second)
+most_open-append depth (Open id text start ∷ first) second = omega (arith, most_open-append (depth + 1) first second)
+most_open-append depth (Close stop ∷ first) second = omega (arith, most_open-append (depth - 1) first second)
+
+open_bound : (word : List Event) → least_open word ≤ℤ pos (2 ^ 63 - 1)
 open_bound [] = omega (arith, ints, clamps)
-open_bound (Open id text start ∷ w) = min_right start (least_open w) (pos (2 ^ 63 - 1)) (open_bound w)
-open_bound (Close stop ∷ w) = open_bound w
+open_bound (Open id text start ∷ word) = min_right start (least_open word) (pos (2 ^ 63 - 1)) (open_bound word)
+open_bound (Close stop ∷ word) = open_bound word
 
-close_bound : (w : List Event) → negsuc (2 ^ 63 - 1) ≤ℤ greatest_close w
+close_bound : (word : List Event) → negsuc (2 ^ 63 - 1) ≤ℤ greatest_close word
 close_bound [] = omega (arith, ints, clamps)
-close_bound (Open id text start ∷ w) = close_bound w
-close_bound (Close stop ∷ w) = max_right stop (greatest_close w) (negsuc (2 ^ 63 - 1)) (close_bound w)
+close_bound (Open id text start ∷ word) = close_bound word
+close_bound (Close stop ∷ word) = max_right stop (greatest_close word) (negsuc (2 ^ 63 - 1)) (close_bound word)
 
-pub least_open-append : (u v : List Event) → least_open (u ++ v) ≡ int_min (least_open u) (least_open v)
-least_open-append [] v = sym (min_over (least_open v) (pos (2 ^ 63 - 1)) (open_bound v))
-least_open-append (Open id text start ∷ u) v = ap (int_min start) (least_open-append u v) ∙ min_assoc start (least_open u) (least_open v)
-least_open-append (Close stop ∷ u) v = least_open-append u v
+pub least_open-append : (first second : List Event) → least_open (first ++ second) ≡ int_min (least_open first) (least_open second)
+least_open-append [] second = sym (min_over (least_open second) (pos (2 ^ 63 - 1)) (open_bound second))
+least_open-append (Open id text start ∷ first) second =
+    ap (int_min start) (least_open-append first second) ∙ min_assoc start (least_open first) (least_open second)
+least_open-append (Close stop ∷ first) second = least_open-append first second
 
-pub greatest_close-append : (u v : List Event) → greatest_close (u ++ v) ≡ int_max (greatest_close u) (greatest_close v)
-greatest_close-append [] v = sym (max_over (greatest_close v) (negsuc (2 ^ 63 - 1)) (close_bound v))
-greatest_close-append (Open id text start ∷ u) v = greatest_close-append u v
-greatest_close-append (Close stop ∷ u) v = ap (int_max stop) (greatest_close-append u v) ∙ max_assoc stop (greatest_close u) (greatest_close v)
+pub greatest_close-append : (first second : List Event)
+    → greatest_close (first ++ second) ≡ int_max (greatest_close first) (greatest_close second)
+greatest_close-append [] second = sym (max_over (greatest_close second) (negsuc (2 ^ 63 - 1)) (close_bound second))
+greatest_close-append (Open id text start ∷ first) second = greatest_close-append first second
+greatest_close-append (Close stop ∷ first) second =
+    ap (int_max stop) (greatest_close-append first second) ∙ max_assoc stop (greatest_close first) (greatest_close second)
 
-pub num_begun-tour : (f : Forest) → num_begun (tour f) ≡ scope_count f
+-- ---- tours
+
+pub num_begun-tour : (forest : Forest) → num_begun (tour forest) ≡ scope_count forest
 num_begun-tour empty = refl
-num_begun-tour (node s c o) = omega (arith, num_begun-append (tour c) (Close s.stop ∷ tour o), num_begun-tour c, num_begun-tour o)
+num_begun-tour (node span children others) =
+    omega (arith, num_begun-append (tour children) (Close span.stop ∷ tour others), num_begun-tour children, num_begun-tour others)
 
 -- a tour leaves as many scopes open as there were
-pub open_after-tour : (n : ℕ) (f : Forest) → open_after n (tour f) ≡ n
-open_after-tour n empty = refl
-open_after-tour n (node s c o) =
-    open_after-append (n + 1) (tour c) (Close s.stop ∷ tour o) ∙ ap (λ (k : ℕ). open_after (k - 1) (tour o)) (open_after-tour (n + 1) c) ∙ ap (λ (k : ℕ). open_after k (tour o)) (omega arith) ∙ open_after-tour n o
+pub open_after-tour : (depth : ℕ) (forest : Forest) → open_after depth (tour forest) ≡ depth
+open_after-tour depth empty = refl
+open_after-tour depth (node span children others) =
+    open_after-append (depth + 1) (tour children) (Close span.stop ∷ tour others)
+    ∙ ap (λ (any : ℕ). open_after (any - 1) (tour others)) (open_after-tour (depth + 1) children)
+    ∙ ap (λ (any : ℕ). open_after any (tour others)) (omega arith)
+    ∙ open_after-tour depth others
 
-pub most_open-tour : (n : ℕ) (f : Forest) → most_open n (tour f) ≡ n + height f
-most_open-tour n empty = omega arith
-most_open-tour n (node s c o) =
-    let inner = most_open-append (n + 1) (tour c) (Close s.stop ∷ tour o) in
-    let after : open_after (n + 1) (tour c) ≡ n + 1 = open_after-tour (n + 1) c in
-    let back : n + 1 - 1 ≡ n = omega arith in
-    let later : most_open (open_after (n + 1) (tour c) - 1) (tour o) ≡ n + height o = ap (λ (k : ℕ). most_open (k - 1) (tour o)) after ∙ ap (λ (k : ℕ). most_open k (tour o)) back ∙ most_open-tour n o in
-    omega (arith, inner, after, later, most_open-tour (n + 1) c)
+pub most_open-tour : (depth : ℕ) (forest : Forest) → most_open depth (tour forest) ≡ depth + height forest
+most_open-tour depth empty = omega arith
+most_open-tour depth (node span children others) =
+    let inner = most_open-append (depth + 1) (tour children) (Close span.stop ∷ tour others) in
+    let after : open_after (depth + 1) (tour children) ≡ depth + 1 = open_after-tour (depth + 1) children in
+    let back : depth + 1 - 1 ≡ depth = omega arith in
+    let later : most_open (open_after (depth + 1) (tour children) - 1) (tour others) ≡ depth + height others =
+    ap (λ (any : ℕ). most_open (any - 1) (tour others)) after
+    ∙ ap (λ (any : ℕ). most_open any (tour others)) back
+    ∙ most_open-tour depth others in
+    omega (arith, inner, after, later, most_open-tour (depth + 1) children)
 
-pub least_open-tour : (f : Forest) → least_open (tour f) ≡ least_start f
+pub least_open-tour : (forest : Forest) → least_open (tour forest) ≡ least_start forest
 least_open-tour empty = refl
-least_open-tour (node s c o) = ap (int_min s.start) (least_open-append (tour c) (Close s.stop ∷ tour o) ∙ ap (λ x. int_min x (least_open (tour o))) (least_open-tour c) ∙ ap (int_min (least_start c)) (least_open-tour o))
+least_open-tour (node span children others) =
+    ap (int_min span.start) (least_open-append (tour children) (Close span.stop ∷ tour others)
+    ∙ ap (λ any. int_min any (least_open (tour others))) (least_open-tour children)
+    ∙ ap (int_min (least_start children)) (least_open-tour others))
 
-pub greatest_close-tour : (f : Forest) → greatest_close (tour f) ≡ greatest_stop f
+pub greatest_close-tour : (forest : Forest) → greatest_close (tour forest) ≡ greatest_stop forest
 greatest_close-tour empty = refl
-greatest_close-tour (node s c o) =
-    greatest_close-append (tour c) (Close s.stop ∷ tour o) ∙ ap (λ x. int_max x (int_max s.stop (greatest_close (tour o)))) (greatest_close-tour c)
-    ∙ ap (λ x. int_max (greatest_stop c) (int_max s.stop x)) (greatest_close-tour o) ∙ max_swap (greatest_stop c) s.stop (greatest_stop o)
+greatest_close-tour (node span children others) =
+    greatest_close-append (tour children) (Close span.stop ∷ tour others)
+    ∙ ap (λ any. int_max any (int_max span.stop (greatest_close (tour others)))) (greatest_close-tour children)
+    ∙ ap (λ any. int_max (greatest_stop children) (int_max span.stop any)) (greatest_close-tour others)
+    ∙ max_swap (greatest_stop children) span.stop (greatest_stop others)
 
-pub length-begin : (form : Form) (id : ℕ) (start : ℤ) (text : List ℕ) (size : ℕ) → length (begin_bytes form id start text size) ≡ head_size form text
+pub length-begin : (form : Form) (id : ℕ) (start : ℤ) (text : List ℕ) (size : ℕ)
+    → length (begin_bytes form id start text size) ≡ head_size form text
 unfolding begin_bytes
 length-begin form id start text size =
     omega (
@@ -125,51 +148,60 @@ pub length-end : (stop : ℤ) → length (end_bytes stop) ≡ 9
 unfolding end_bytes
 length-end stop = omega (arith, length-bytes_low_first 0 8 (cast_unsigned w64 stop))
 
-pub word_size-tour : (form : Form) (f : Forest) → word_size form (tour f) ≡ length (spelling form f)
+pub word_size-tour : (form : Form) (forest : Forest) → word_size form (tour forest) ≡ length (spelling form forest)
 word_size-tour form empty = refl
-word_size-tour form (node s c o) =
+word_size-tour form (node span children others) =
     omega (
       arith,
-      word_size-append form (tour c) (Close s.stop ∷ tour o),
-      word_size-tour form c,
-      word_size-tour form o,
-      length-begin form s.id s.start s.text (length (spelling form c)),
-      length-end s.stop,
-      length-append (begin_bytes form s.id s.start s.text (length (spelling form c))) (spelling form c ++ (end_bytes s.stop ++ spelling form o)),
-      length-append (spelling form c) (end_bytes s.stop ++ spelling form o),
-      length-append (end_bytes s.stop) (spelling form o),
+      word_size-append form (tour children) (Close span.stop ∷ tour others),
+      word_size-tour form children,
+      word_size-tour form others,
+      length-begin form span.id span.start span.text (length (spelling form children)),
+      length-end span.stop,
+      length-append (begin_bytes form span.id span.start span.text (length (spelling form children)))
+          (spelling form children ++ (end_bytes span.stop ++ spelling form others)),
+      length-append (spelling form children) (end_bytes span.stop ++ spelling form others),
+      length-append (end_bytes span.stop) (spelling form others),
     )
 
-open_le_most : (n : ℕ) (w : List Event) → open_after n w ≤ most_open n w
-open_le_most n [] = omega arith
-open_le_most n (Open id text start ∷ w) = omega (arith, open_le_most (n + 1) w)
-open_le_most n (Close stop ∷ w) = omega (arith, open_le_most (n - 1) w)
+-- ---- one event more
 
-pub most_open-opened : (w : List Event) (id : ℕ) (text : List ℕ) (start : ℤ) → most_open 0 (w ++ (Open id text start ∷ [])) ≡ max (most_open 0 w) (open_after 0 w + 1)
-most_open-opened w id text start = omega (arith, most_open-append 0 w (Open id text start ∷ []), open_le_most 0 w)
+open_le_most : (depth : ℕ) (word : List Event) → open_after depth word ≤ most_open depth word
+open_le_most depth [] = omega arith
+open_le_most depth (Open id text start ∷ word) = omega (arith, open_le_most (depth + 1) word)
+open_le_most depth (Close stop ∷ word) = omega (arith, open_le_most (depth - 1) word)
 
-pub most_open-closed : (w : List Event) (stop : ℤ) → most_open 0 (w ++ (Close stop ∷ [])) ≡ most_open 0 w
-most_open-closed w stop = omega (arith, most_open-append 0 w (Close stop ∷ []), open_le_most 0 w)
+pub most_open-opened : (word : List Event) (id : ℕ) (text : List ℕ) (start : ℤ)
+    → most_open 0 (word ++ (Open id text start ∷ [])) ≡ max (most_open 0 word) (open_after 0 word + 1)
+most_open-opened word id text start = omega (arith, most_open-append 0 word (Open id text start ∷ []), open_le_most 0 word)
+
+pub most_open-closed : (word : List Event) (stop : ℤ) → most_open 0 (word ++ (Close stop ∷ [])) ≡ most_open 0 word
+most_open-closed word stop = omega (arith, most_open-append 0 word (Close stop ∷ []), open_le_most 0 word)
 
 -- a time in i64 is within the bounds of no scope
-min_last : (x : ℤ) → FitsSigned w64 x → int_min x (pos (2 ^ 63 - 1)) ≡ x
-min_last x fits = omega (arith, ints, clamps)
+min_last : (time : ℤ) → FitsSigned w64 time → int_min time (pos (2 ^ 63 - 1)) ≡ time
+min_last time fits = omega (arith, ints, clamps)
 
-max_last : (x : ℤ) → FitsSigned w64 x → int_max x (negsuc (2 ^ 63 - 1)) ≡ x
-max_last x fits = omega (arith, ints, clamps)
+max_last : (time : ℤ) → FitsSigned w64 time → int_max time (negsuc (2 ^ 63 - 1)) ≡ time
+max_last time fits = omega (arith, ints, clamps)
 
-pub least_open-opened : (w : List Event) (id : ℕ) (text : List ℕ) (start : ℤ) → FitsSigned w64 start → least_open (w ++ (Open id text start ∷ [])) ≡ int_min (least_open w) start
-least_open-opened w id text start fits = least_open-append w (Open id text start ∷ []) ∙ ap (int_min (least_open w)) (min_last start fits)
+pub least_open-opened : (word : List Event) (id : ℕ) (text : List ℕ) (start : ℤ) → FitsSigned w64 start
+    → least_open (word ++ (Open id text start ∷ [])) ≡ int_min (least_open word) start
+least_open-opened word id text start fits =
+    least_open-append word (Open id text start ∷ []) ∙ ap (int_min (least_open word)) (min_last start fits)
 
-pub greatest_close-closed : (w : List Event) (stop : ℤ) → FitsSigned w64 stop → greatest_close (w ++ (Close stop ∷ [])) ≡ int_max (greatest_close w) stop
-greatest_close-closed w stop fits = greatest_close-append w (Close stop ∷ []) ∙ ap (int_max (greatest_close w)) (max_last stop fits)
+pub greatest_close-closed : (word : List Event) (stop : ℤ) → FitsSigned w64 stop
+    → greatest_close (word ++ (Close stop ∷ [])) ≡ int_max (greatest_close word) stop
+greatest_close-closed word stop fits =
+    greatest_close-append word (Close stop ∷ []) ∙ ap (int_max (greatest_close word)) (max_last stop fits)
 
-pub least_open-kept : (w : List Event) (stop : ℤ) → least_open (w ++ (Close stop ∷ [])) ≡ least_open w
+pub least_open-kept : (word : List Event) (stop : ℤ) → least_open (word ++ (Close stop ∷ [])) ≡ least_open word
 least_open-kept [] stop = refl
-least_open-kept (Open id text start ∷ w) stop = ap (int_min start) (least_open-kept w stop)
-least_open-kept (Close other ∷ w) stop = least_open-kept w stop
+least_open-kept (Open id text start ∷ word) stop = ap (int_min start) (least_open-kept word stop)
+least_open-kept (Close other ∷ word) stop = least_open-kept word stop
 
-pub greatest_close-kept : (w : List Event) (id : ℕ) (text : List ℕ) (start : ℤ) → greatest_close (w ++ (Open id text start ∷ [])) ≡ greatest_close w
+pub greatest_close-kept : (word : List Event) (id : ℕ) (text : List ℕ) (start : ℤ)
+    → greatest_close (word ++ (Open id text start ∷ [])) ≡ greatest_close word
 greatest_close-kept [] id text start = refl
-greatest_close-kept (Open other bytes time ∷ w) id text start = greatest_close-kept w id text start
-greatest_close-kept (Close stop ∷ w) id text start = ap (int_max stop) (greatest_close-kept w id text start)
+greatest_close-kept (Open other bytes time ∷ word) id text start = greatest_close-kept word id text start
+greatest_close-kept (Close stop ∷ word) id text start = ap (int_max stop) (greatest_close-kept word id text start)

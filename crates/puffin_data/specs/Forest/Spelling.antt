@@ -18,11 +18,12 @@ end_mark = 41
 abbrev pub front_size : ℕ
 front_size = 13
 
--- the number of a scope's bytes before the size of its children, and the number up to and including that size
-abbrev pub size_offset : Form → List ℕ → ℕ
+-- the number of a scope's bytes before the size of its children
+abbrev pub size_offset : Form → (text : List ℕ) → ℕ
 size_offset form text = front_size + text_room form text
 
-abbrev pub head_size : Form → List ℕ → ℕ
+-- the number of a scope's bytes before its children
+abbrev pub head_size : Form → (text : List ℕ) → ℕ
 head_size form text = 8 + size_offset form text
 
 -- the number of bytes of a scope's end
@@ -30,8 +31,8 @@ abbrev pub end_size : ℕ
 end_size = 9
 
 -- a time in eight bytes, as two's complement
-abbrev pub time_bytes : ℤ → List ℕ
-time_bytes t = little_bytes 8 (cast_unsigned w64 t)
+abbrev pub time_bytes : (time : ℤ) → List ℕ
+time_bytes time = little_bytes 8 (cast_unsigned w64 time)
 
 -- the bytes before a scope's children: `(`, id, start, text, and the size of the children
 unfoldable pub begin_bytes : (form : Form) → (id : ℕ) → (start : ℤ) → (text : List ℕ) → (size : ℕ) →
@@ -44,13 +45,14 @@ begin_bytes form id start text size =
 unfoldable pub end_bytes : (stop : ℤ) → List ℕ
 end_bytes stop = end_mark ∷ time_bytes stop
 
+-- the bytes of a forest: each scope's beginning, its children and its end
 abbrev pub spelling : Form → Forest → List ℕ
 spelling form empty = []
-spelling form (node s children others) =
-    begin_bytes form s.id s.start s.text (length (spelling form children))
-    ++ (spelling form children ++ (end_bytes s.stop ++ spelling form others))
+spelling form (node first children others) =
+    begin_bytes form first.id first.start first.text (length (spelling form children))
+    ++ (spelling form children ++ (end_bytes first.stop ++ spelling form others))
 
--- the bytes spell the forest
-pub record Spells (form : Form) (bytes : List ℕ) (f : Forest) : Type 0 where
-  pub whole : bytes ≡ spelling form f
-  pub fits : IsForest form f
+-- the bytes spell the forest, which can be written in this form
+pub record Spells (form : Form) (bytes : List ℕ) (forest : Forest) : Type 0 where
+  pub whole : bytes ≡ spelling form forest
+  pub fits : IsForest form forest

@@ -10,9 +10,9 @@ pub data Event : Type 0 where
 -- the events of a forest, in order
 abbrev pub tour : Forest → List Event
 tour empty = []
-tour (node s children others) =
-    Open s.id s.text s.start ∷ (tour children ++ (Close s.stop ∷ tour others))
+tour (node first children others) =
+    Open first.id first.text first.start ∷ (tour children ++ (Close first.stop ∷ tour others))
 
 -- each scope that opens also closes, inner scopes before outer ones: the word is a forest's tour
 abbrev pub IsBalanced : List Event → Type 0
-IsBalanced word = (f : Forest) × (word ≡ tour f)
+IsBalanced word = (forest : Forest) × (word ≡ tour forest)

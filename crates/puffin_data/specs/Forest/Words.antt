@@ -17,17 +17,17 @@ num_begun [] = 0
 num_begun (Open id text start ∷ word) = 1 + num_begun word
 num_begun (Close stop ∷ word) = num_begun word
 
--- the number of open scopes after the word, if n are open before
-abbrev pub open_after : ℕ → List Event → ℕ
-open_after n [] = n
-open_after n (Open id text start ∷ word) = open_after (n + 1) word
-open_after n (Close stop ∷ word) = open_after (n - 1) word
+-- the number of open scopes after the word, if this many are open before it
+abbrev pub open_after : (depth : ℕ) → List Event → ℕ
+open_after depth [] = depth
+open_after depth (Open id text start ∷ word) = open_after (depth + 1) word
+open_after depth (Close stop ∷ word) = open_after (depth - 1) word
 
--- the greatest number of scopes open at once, if n are open before
-abbrev pub most_open : ℕ → List Event → ℕ
-most_open n [] = n
-most_open n (Open id text start ∷ word) = max n (most_open (n + 1) word)
-most_open n (Close stop ∷ word) = max n (most_open (n - 1) word)
+-- the greatest number of scopes open at once, if this many are open before the word
+abbrev pub most_open : (depth : ℕ) → List Event → ℕ
+most_open depth [] = depth
+most_open depth (Open id text start ∷ word) = max depth (most_open (depth + 1) word)
+most_open depth (Close stop ∷ word) = max depth (most_open (depth - 1) word)
 
 -- the least start of all scopes that open, or i64's greatest number if there are none
 abbrev pub least_open : List Event → ℤ

@@ -5,33 +5,38 @@ use Rattle.puffin_data.specs.declared.error.Error.TheVariants.{PrematureEnd, Inv
 use Rattle.puffin_data.specs.declared.data.form.Form.{Form}
 use Rattle.puffin_data.specs.declared.data.form.Form.TheVariants.{Short, Long}
 
--- the greatest lengths that one group of 7 bits and two groups encode
+-- the greatest length that one group of 7 bits encodes
 abbrev pub one_group_limit : ℕ
 one_group_limit = 127
 
+-- the greatest length that two groups encode
 abbrev pub two_groups_limit : ℕ
 two_groups_limit = 16383
 
--- the maximum number of bytes of a stored text that is read, and of a text that is written
+-- the maximum number of bytes of a stored text that is read
 abbrev pub stored_limit : Form → ℕ
 stored_limit Short = 255
 stored_limit Long = two_groups_limit
 
+-- the maximum number of bytes of a text that is written
 abbrev pub text_limit : Form → ℕ
 text_limit Short = one_group_limit
 text_limit Long = two_groups_limit
 
--- One byte; or 7 bits in each byte, the lowest first, with 128 added to a byte that is followed by another.
-unfoldable pub length_layout : Form → ℕ → List ℕ
-length_layout Short n = n ∷ []
-length_layout Long n = if nat_lt n 128 then n ∷ [] else (128 + n % 128) ∷ (n / 128) ∷ []
+-- The length of a text as bytes: one byte; or 7 bits in each byte, the lowest first, with 128 added to a byte that is followed by
+-- another.
+unfoldable pub length_layout : Form → (size : ℕ) → List ℕ
+length_layout Short size = size ∷ []
+length_layout Long size =
+    if nat_lt size 128 then size ∷ [] else (128 + size % 128) ∷ (size / 128) ∷ []
 
 -- a text's length, and the text
 abbrev pub text_layout : Form → List ℕ → List ℕ
 text_layout form text = length_layout form (length text) ++ text
 
--- a length with its second byte, which must not be 0 or indicate that a third follows
-abbrev pub with_second_group : ℕ → List ℕ → Result (ℕ × ℕ) Error
+-- A length whose first byte holds the 7 bits `low`, and whose second is first in these bytes. The second must not be 0 or indicate
+-- that a third follows.
+abbrev pub with_second_group : (low : ℕ) → List ℕ → Result (ℕ × ℕ) Error
 with_second_group low [] = Err PrematureEnd
 with_second_group low (high ∷ rest) =
     if (high == 0) || nat_le 128 high then Err InvalidStream else Ok (low + 128 * high, 2)
@@ -39,8 +44,9 @@ with_second_group low (high ∷ rest) =
 -- the length at the front of a region, with the number of bytes that it takes; or the fault
 unfoldable pub length_at : Form → List ℕ → Result (ℕ × ℕ) Error
 length_at form [] = Err PrematureEnd
-length_at Short (b ∷ rest) = Ok (b, 1)
-length_at Long (b ∷ rest) = if nat_lt b 128 then Ok (b, 1) else with_second_group (b - 128) rest
+length_at Short (low ∷ rest) = Ok (low, 1)
+length_at Long (low ∷ rest) =
+    if nat_lt low 128 then Ok (low, 1) else with_second_group (low - 128) rest
 
 -- the length and the number of bytes that it takes, or (0, 1) for a fault
 abbrev pub length_or_none : Result (ℕ × ℕ) Error → ℕ × ℕ

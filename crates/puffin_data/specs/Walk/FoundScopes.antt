@@ -2,10 +2,11 @@
 use Rattle.puffin_data.specs.declared.data.scope.RawScope.{RawScope}
 use Rattle.puffin_data.specs.Walk.Reading.{FoundScope}
 
+-- a scope that was read, as contracts see it
 abbrev pub found_of : RawScope → FoundScope
-found_of s = record {
-  span = record { id = s.id; start = s.start; stop = s.stop; text = s.text.now };
-  child_begin = s.child_begin;
-  child_end = s.child_end;
-  next_sibling = s.next_sibling;
+found_of scope = record {
+  span = record { id = scope.id; start = scope.start; stop = scope.stop; text = scope.text.now };
+  child_begin = scope.child_begin;
+  child_end = scope.child_end;
+  next_sibling = scope.next_sibling;
 }

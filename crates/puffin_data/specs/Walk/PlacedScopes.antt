@@ -13,30 +13,35 @@ pub record ScopeInContext : Type 0 where
 -- The scopes of a forest that is nested in others, in the order of a walk: each scope, its children, its next sibling.
 abbrev pub nested_in : List Span → Forest → List ScopeInContext
 nested_in around empty = []
-nested_in around (node s children others) =
-    record { around = around; span = s }
-    ∷ (nested_in (around ++ (s ∷ [])) children ++ nested_in around others)
+nested_in around (node first children others) =
+    record { around = around; span = first }
+    ∷ (nested_in (around ++ (first ∷ [])) children ++ nested_in around others)
 
 -- a scope and its place
 pub record PlacedScope : Type 0 where
   pub place : ℕ
   pub scope : ScopeInContext
 
--- The sound scopes of a region that is nested in others, from p on: if one is at p, then that one, those of its children, and those from its next sibling on.
-pub data Sees (form : Form) (bytes : List ℕ) : List Span → ℕ → ℕ → List PlacedScope → Type 0 where
-  no_scope : {around : List Span} {p e : ℕ} → ((s : FoundScope) → IsSoundAt form bytes p e s → ⊥) →
-      Sees form bytes around p e []
-  one_scope : {around : List Span} {p e : ℕ} {s : FoundScope} {inner later : List PlacedScope} →
-      IsSoundAt form bytes p e s →
-      Sees form bytes (around ++ (s.span ∷ [])) (p + s.child_begin) (p + s.child_end) inner →
-      Sees form bytes around (p + s.next_sibling) e later →
-      Sees form bytes around p e (
-      record { place = p; scope = record { around = around; span = s.span } }
+-- The sound scopes from `place` up to `end`, a region that is nested in the scopes `around`: if one is at the place, then that one,
+-- those of its children, and those from its next sibling on.
+pub data Sees (form : Form) (bytes : List ℕ) :
+    (around : List Span) → (place : ℕ) → (end : ℕ) → (placed : List PlacedScope) → Type 0 where
+  no_scope : {around : List Span} {place end : ℕ} →
+      ((found : FoundScope) → IsSoundAt form bytes place end found → ⊥) →
+      Sees form bytes around place end []
+  one_scope : {around : List Span} {place end : ℕ} {found : FoundScope}
+      {inner later : List PlacedScope} → IsSoundAt form bytes place end found →
+      Sees form bytes (around ++ (found.span ∷ []))
+      (place + found.child_begin) (place + found.child_end) inner →
+      Sees form bytes around (place + found.next_sibling) end later →
+      Sees form bytes around place end (
+      record { place = place; scope = record { around = around; span = found.span } }
       ∷ (inner ++ later))
 
+-- the scopes without their places
 abbrev pub scopes_of : List PlacedScope → List ScopeInContext
-scopes_of placed = map (λ s. s.scope) placed
+scopes_of placed = map (λ one. one.scope) placed
 
 -- the scopes before a place
-abbrev pub before : ℕ → List PlacedScope → List PlacedScope
-before place placed = filter (λ s. nat_lt s.place place) placed
+abbrev pub before : (place : ℕ) → List PlacedScope → List PlacedScope
+before place placed = filter (λ one. nat_lt one.place place) placed

@@ -7,21 +7,28 @@ use Rattle.puffin_data.specs.Forest.Spelling.{begin_mark, Spells}
 use Rattle.puffin_data.specs.Walk.{Reaches, IsFaultAt, IsFirstFault}
 use Rattle.puffin_data.specs.Walk.PlacedScopes.{ScopeInContext, nested_in, PlacedScope, Sees, scopes_of, before}
 
+-- `V` is the type of the visitor's states, and `W` that of the values that it keeps for open scopes. `stands_for` says for which scopes
+-- a value stands, the outermost first.
+
 -- ---- one scope
 
--- A visitor that keeps w for the parent takes a scope, and keeps x for it.
-abbrev pub Entering : {V W : Type 0} → (V → List ScopeInContext → V → Type 0) →
-    (V → W → List Span → Type 0) → V → W → Span → W → V → Type 0
-Entering takes stands_for v w span x u =
-    (around : List Span) → stands_for v w around →
-    takes v (record { around = around; span = span } ∷ []) u
-    × stands_for u x (around ++ (span ∷ []))
+-- From state `old`, with the value `within` for the scopes around, the visitor takes a scope: it is then in state `new`, and `inner`
+-- stands for the same scopes and this one.
+abbrev pub Entering : {V W : Type 0} → (takes : V → List ScopeInContext → V → Type 0) →
+    (stands_for : V → W → List Span → Type 0) → (old : V) → (within : W) → Span → (inner : W) →
+    (new : V) → Type 0
+Entering takes stands_for old within span inner new =
+    (around : List Span) → stands_for old within around →
+    takes old (record { around = around; span = span } ∷ []) new
+    × stands_for new inner (around ++ (span ∷ []))
 
-abbrev pub Refusing : {V W : Type 0} → (V → ScopeInContext → Error → Type 0) →
-    (V → W → List Span → Type 0) → V → W → Span → Error → Type 0
-Refusing refuses stands_for v w span cause =
-    (around : List Span) → stands_for v w around →
-    refuses v (record { around = around; span = span }) cause
+-- in this state, with the value `within` for the scopes around, the visitor may refuse a scope with this cause
+abbrev pub Refusing : {V W : Type 0} → (refuses : V → ScopeInContext → Error → Type 0) →
+    (stands_for : V → W → List Span → Type 0) → (state : V) → (within : W) → Span →
+    (cause : Error) → Type 0
+Refusing refuses stands_for state within span cause =
+    (around : List Span) → stands_for state within around →
+    refuses state (record { around = around; span = span }) cause
 
 -- ---- all of the bytes
 
@@ -57,12 +64,15 @@ pub record StopsAtRefusal (form : Form) {V : Type 0} (takes : V → List ScopeIn
   pub to : V
   pub taken : takes from (scopes_of earlier) to
   pub refused : refuses to met.scope cause
-  pub first : (p e : ℕ) (fault : Error) → Reaches form bytes 0 (length bytes) p e →
-      IsFaultAt form bytes p e fault → met.place ≤ p
+  pub first : (place end : ℕ) (fault : Error) → Reaches form bytes 0 (length bytes) place end →
+      IsFaultAt form bytes place end fault → met.place ≤ place
   pub tries : tried ≡ length earlier + 1
 
-abbrev pub StopsEarly : (form : Form) → {V : Type 0} → (V → List ScopeInContext → V → Type 0) →
-    (V → ScopeInContext → Error → Type 0) → V → V → List ℕ → ℕ → Error → Type 0
-StopsEarly form takes refuses from to bytes tries cause =
-    StopsAtFault form takes from to bytes tries cause
-    ⊎ StopsAtRefusal form takes refuses from bytes tries cause
+-- the walk stopped with this cause, at the first fault or at a scope that the visitor refused
+abbrev pub StopsEarly : (form : Form) → {V : Type 0} →
+    (takes : V → List ScopeInContext → V → Type 0) →
+    (refuses : V → ScopeInContext → Error → Type 0) →
+    (from : V) → (to : V) → (bytes : List ℕ) → (tried : ℕ) → (cause : Error) → Type 0
+StopsEarly form takes refuses from to bytes tried cause =
+    StopsAtFault form takes from to bytes tried cause
+    ⊎ StopsAtRefusal form takes refuses from bytes tried cause

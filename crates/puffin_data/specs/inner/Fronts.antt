@@ -1,16 +1,18 @@
 -- What a call that reads a value at the front of bytes returns, with the bytes after it.
 use Rattle.std.specs.Prelude.{◌≡◌, ℕ, List, ◌++◌, Option, Some, None}
 
--- either `old` is the layout of the value, seen by view, followed by the rest; or no value was read, and no layout is a prefix of `old`
-abbrev pub ReadsWithRest : {X A : Type 0} → (X → A × List ℕ) → (A → Type 0) → (A → List ℕ) →
-    List ℕ → Option X → Type 0
-ReadsWithRest view fits layout old (Some x) =
-    fits (view x).0 × (old ≡ layout (view x).0 ++ (view x).1)
-ReadsWithRest {A = A} view fits layout old None =
-    (a : A) (rest : List ℕ) → fits a → old ≡ layout a ++ rest → ⊥
+-- `old` is the bytes, and `result` what the call returned, the value and the bytes after it. `view` gives both as contracts see them.
 
--- a call returned, seen by view, what a reading gives: the value and the rest
-abbrev pub GivesWithRest : {X A : Type 0} → (X → A × List ℕ) → Option X → Option (A × List ℕ) →
-    Type 0
-GivesWithRest view (Some x) read = read ≡ Some (view x)
+-- either `old` is the layout of the value followed by the rest; or no value was read, and no layout is a prefix of `old`
+abbrev pub ReadsWithRest : {X A : Type 0} → (view : X → A × List ℕ) → (fits : A → Type 0) →
+    (layout : A → List ℕ) → (old : List ℕ) → (result : Option X) → Type 0
+ReadsWithRest view fits layout old (Some read) =
+    fits (view read).0 × (old ≡ layout (view read).0 ++ (view read).1)
+ReadsWithRest {A = A} view fits layout old None =
+    (value : A) (rest : List ℕ) → fits value → old ≡ layout value ++ rest → ⊥
+
+-- the call returned what a reading gives on the same bytes: the value and the rest, or nothing
+abbrev pub GivesWithRest : {X A : Type 0} → (view : X → A × List ℕ) → (result : Option X) →
+    (read : Option (A × List ℕ)) → Type 0
+GivesWithRest view (Some value) read = read ≡ Some (view value)
 GivesWithRest view None read = read ≡ None

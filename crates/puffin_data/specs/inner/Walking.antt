@@ -19,8 +19,8 @@ tries_in part = if slice_index part 0 == begin_mark then 1 else 0
 -- the code's reading of a scope, as contracts see it
 abbrev pub reading_of : Result (Option RawScope) Error → Result (Option FoundScope) Error
 reading_of (Ok None) = Ok None
-reading_of (Ok (Some s)) = Ok (Some (found_of s))
-reading_of (Err e) = Err e
+reading_of (Ok (Some scope)) = Ok (Some (found_of scope))
+reading_of (Err fault) = Err fault
 
 -- the counts of a walk without scopes
 abbrev pub no_scope_counted : Walk
@@ -28,11 +28,11 @@ no_scope_counted =
     record { num_scopes = 0; depth = 0; range_ns = (pos (2 ^ 63 - 1), negsuc (2 ^ 63 - 1)) }
 
 -- the counts of a walk after one more scope, at this depth
-abbrev pub with_scope : Walk → ℕ → Span → Walk
-with_scope w depth s = record {
-  num_scopes = w.num_scopes + 1;
-  depth = max w.depth depth;
-  range_ns = (int_min w.range_ns.0 s.start, int_max w.range_ns.1 s.stop);
+abbrev pub with_scope : Walk → (depth : ℕ) → Span → Walk
+with_scope walk depth span = record {
+  num_scopes = walk.num_scopes + 1;
+  depth = max walk.depth depth;
+  range_ns = (int_min walk.range_ns.0 span.start, int_max walk.range_ns.1 span.stop);
 }
 
 -- where and why a walk stopped, and its number of tries
@@ -41,35 +41,45 @@ pub record Stop : Type 0 where
   pub fault : Error
   pub tries : ℕ
 
--- A walk with the counts w so far, at place p in a region that ends at e and is nested in `level` open scopes, has this result.
-pub data WalksTo (form : Form) (bytes : List ℕ) : ℕ → Walk → ℕ → ℕ → Result Walk Stop → Type 0 where
-  ends : {level : ℕ} {w : Walk} {p : ℕ} → WalksTo form bytes level w p p (Ok w)
-  stops : {level : ℕ} {w : Walk} {p e : ℕ} {fault : Error} → IsFaultAt form bytes p e fault →
-      WalksTo form bytes level w p e (
+-- A walk with the counts `walk` so far, at a place in a region that ends at `end` and is nested in `level` open scopes, comes to this
+-- result: the counts at the region's end, or where it stopped.
+pub data WalksTo (form : Form) (bytes : List ℕ) :
+    (level : ℕ) → (walk : Walk) → (place : ℕ) → (end : ℕ) → (result : Result Walk Stop) →
+    Type 0 where
+  -- the walk is at the region's end
+  ends : {level : ℕ} {walk : Walk} {place : ℕ} → WalksTo form bytes level walk place place (Ok walk)
+  -- a fault is at the place
+  stops : {level : ℕ} {walk : Walk} {place end : ℕ} {fault : Error} →
+      IsFaultAt form bytes place end fault →
+      WalksTo form bytes level walk place end (
       Err (
       record {
-        place = p;
+        place = place;
         fault = fault;
-        tries = w.num_scopes + tries_in (region bytes p e);
+        tries = walk.num_scopes + tries_in (region bytes place end);
       }))
-  stops_within : {level : ℕ} {w : Walk} {p e : ℕ} {s : FoundScope} {stop : Stop} →
-      IsSoundAt form bytes p e s →
-      WalksTo form bytes (suc level) (with_scope w (suc level) s.span) (p + s.child_begin)
-      (p + s.child_end) (Err stop) →
-      WalksTo form bytes level w p e (Err stop)
-  goes_on : {level : ℕ} {w v : Walk} {p e : ℕ} {s : FoundScope} {out : Result Walk Stop} →
-      IsSoundAt form bytes p e s →
-      WalksTo form bytes (suc level) (with_scope w (suc level) s.span) (p + s.child_begin)
-      (p + s.child_end) (Ok v) →
-      WalksTo form bytes level v (p + s.next_sibling) e out → WalksTo form bytes level w p e out
+  -- a sound scope is at the place, and the walk stops among its children
+  stops_within : {level : ℕ} {walk : Walk} {place end : ℕ} {found : FoundScope} {stop : Stop} →
+      IsSoundAt form bytes place end found →
+      WalksTo form bytes (suc level) (with_scope walk (suc level) found.span)
+      (place + found.child_begin) (place + found.child_end) (Err stop) →
+      WalksTo form bytes level walk place end (Err stop)
+  -- a sound scope is at the place; the walk goes over its children, and on from its next sibling
+  goes_on : {level : ℕ} {walk inner : Walk} {place end : ℕ} {found : FoundScope}
+      {result : Result Walk Stop} → IsSoundAt form bytes place end found →
+      WalksTo form bytes (suc level) (with_scope walk (suc level) found.span)
+      (place + found.child_begin) (place + found.child_end) (Ok inner) →
+      WalksTo form bytes level inner (place + found.next_sibling) end result →
+      WalksTo form bytes level walk place end result
 
--- a walk of all bytes ended, or stopped at a fault or because memory ran out
-abbrev pub Walked : (form : Form) → List ℕ → ℕ → Walk → Type 0
-Walked form bytes tries w =
-    WalksTo form bytes 0 no_scope_counted 0 (length bytes) (Ok w) × (tries ≡ w.num_scopes)
+-- a walk of all bytes came to their end with these counts
+abbrev pub WalksAll : (form : Form) → (bytes : List ℕ) → (tries : ℕ) → Walk → Type 0
+WalksAll form bytes tries walk =
+    WalksTo form bytes 0 no_scope_counted 0 (length bytes) (Ok walk) × (tries ≡ walk.num_scopes)
 
-abbrev pub Stopped : (form : Form) → List ℕ → ℕ → Error → Type 0
-Stopped form bytes tries fault =
+-- a walk of all bytes stopped at a fault, or because memory ran out
+abbrev pub StopsShort : (form : Form) → (bytes : List ℕ) → (tries : ℕ) → Error → Type 0
+StopsShort form bytes tries fault =
     (fault ≡ Memory)
     ⊎ ((place : ℕ)
     × WalksTo form bytes 0 no_scope_counted 0 (length bytes) (

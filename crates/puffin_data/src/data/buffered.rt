@@ -3,6 +3,7 @@
 ghost use Rattle.std.specs.Prelude.{◌≡◌, ◌++◌, ◌<◌, ◌≤◌, ℕ, List, None, Err, IsSome, IfOk, IfErr, OnOk, length};
 ghost use Rattle.std.specs.Io.KnownBytes.{Consumes, IsAtEnd};
 ghost use Rattle.puffin_data.specs.Device.{IsOutside};
+ghost use Rattle.puffin_data.specs.inner.Appending.{AppendsTaken};
 
 use crate::data::device::Source;
 use crate::file_error::FileError;
@@ -17,12 +18,9 @@ fn append_lent<B: BufRead>(
     most: usize,
     last: &mut Option<io::Error>,
 ) -> Result<usize, FileError>
-    ensures grown { IfOk result (λ n.
-        (taken : List ℕ)
-        × (bytes.new.items ≡ bytes.old.items ++ taken)
-        × Consumes (B.remaining reader.old) (B.remaining reader.new) taken
-        × (length taken ≡ n)) }
-    ensures most { IfOk result (λ n. n ≤ most) }
+    ensures grown { IfOk result (AppendsTaken bytes.old.items bytes.new.items
+        (B.remaining reader.old) (B.remaining reader.new)) }
+    ensures most { IfOk result (λ count. count ≤ most) }
     ensures outside { IfErr result IsOutside }
     ensures told { (result ≡ Err FileError.Io) → IsSome last.new }
 {
@@ -46,13 +44,10 @@ fn append_byte<R: Read>(
     bytes: &mut Vec<u8>,
     last: &mut Option<io::Error>,
 ) -> Result<usize, FileError>
-    ensures grown { IfOk result (λ n.
-        (taken : List ℕ)
-        × (bytes.new.items ≡ bytes.old.items ++ taken)
-        × Consumes (R.remaining reader.old) (R.remaining reader.new) taken
-        × (length taken ≡ n)) }
-    ensures most { IfOk result (λ n. n ≤ 1) }
-    ensures end { IfOk result (λ n. n ≡ 0 → IsAtEnd (R.remaining reader.new)) }
+    ensures grown { IfOk result (AppendsTaken bytes.old.items bytes.new.items
+        (R.remaining reader.old) (R.remaining reader.new)) }
+    ensures most { IfOk result (λ count. count ≤ 1) }
+    ensures end { IfOk result (λ count. count ≡ 0 → IsAtEnd (R.remaining reader.new)) }
     ensures outside { IfErr result IsOutside }
     ensures told { (result ≡ Err FileError.Io) → IsSome last.new }
 {
@@ -137,10 +132,11 @@ impl<B> Buffered<B> {
 }
 
 impl<B: BufRead> Source for Buffered<B> {
-    ghost remaining = { λ s. B.remaining s.reader };
+    ghost remaining = { λ buffered. B.remaining buffered.reader };
 
-    ghost failures = { λ s. s.faults };
+    ghost failures = { λ buffered. buffered.faults };
 
+    /// Reads from the reader. Counts an error, and keeps it as the last one.
     fn read(&mut self, buf: &mut [u8]) -> io::Result<usize> {
         let result = self.reader.read(buf);
         if let Err(e) = &result {
@@ -150,6 +146,7 @@ impl<B: BufRead> Source for Buffered<B> {
         result
     }
 
+    /// Appends from the reader's buffer, without zeros first. Counts an `Io`, and keeps its error as the last one.
     fn read_to_len(&mut self, bytes: &mut Vec<u8>, len: usize) -> Result<(), FileError> {
         let mut last = None;
         let result = append_to_len(&mut self.reader, bytes, len, &mut last);

@@ -42,6 +42,7 @@ pub trait Source {
         ensures counted { failures self.new ≡ failures_after (failures self.old) result }
     {
         let mut end = bytes.len();
+        // A read needs initialized memory. Zeros that no read overwrites are taken away at the end.
         bytes.resize(len, 0)?;
         'reads: while end < bytes.len() {
             match self.read(&mut bytes[end..]) {
@@ -49,7 +50,7 @@ pub trait Source {
                     bytes.truncate(end);
                     return Ok(());
                 }
-                Ok(n) => end += n,
+                Ok(count) => end += count,
                 Err(_) => return Err(FileError::Io),
             }
         }
@@ -78,7 +79,7 @@ pub trait Drain {
         requires { CanFail failures self.old }
         ensures bound { WritesAtMost result buf.now }
         ensures bytes { WriteAppends (contents self.old) (contents self.new) result buf.now }
-        ensures took { IfOk result (λ n. takes self.old buf.now n self.new) }
+        ensures took { IfOk result (λ count. takes self.old buf.now count self.new) }
         ensures failed { failures self.new
             ≡ (if is_err result then failures self.old + 1 else failures self.old) };
 
@@ -135,10 +136,11 @@ impl<D> Counted<D> {
 }
 
 impl<R: Read> Source for Counted<R> {
-    ghost remaining = { λ s. R.remaining s.device };
+    ghost remaining = { λ counted. R.remaining counted.device };
 
-    ghost failures = { λ s. s.faults };
+    ghost failures = { λ counted. counted.faults };
 
+    /// Reads from the reader. Counts an error, and keeps it as the last one.
     fn read(&mut self, buf: &mut [u8]) -> io::Result<usize> {
         let result = self.device.read(buf);
         if let Err(e) = &result {
@@ -154,10 +156,11 @@ impl<R: Read> Source for Counted<R> {
 }
 
 impl<W: Write> Drain for Counted<W> {
-    ghost contents = { λ s. W.contents s.device };
+    ghost contents = { λ counted. W.contents counted.device };
 
-    ghost failures = { λ s. s.faults };
+    ghost failures = { λ counted. counted.faults };
 
+    /// Writes to the writer. Counts an error, and keeps it as the last one.
     fn write(&mut self, buf: &[u8]) -> io::Result<usize> {
         let result = self.device.write(buf);
         if let Err(e) = &result {

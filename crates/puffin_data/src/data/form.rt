@@ -48,7 +48,7 @@ impl Form {
         self.cut_off(text)
     }
 
-    /// Cuts a text that is longer than the limit.
+    /// Like [`Form::cut`], for a text that is longer than the limit. It is out of line, as such texts are rare.
     #[cold]
     #[inline(never)]
     fn cut_off(self, text: &str) -> &str
@@ -94,15 +94,15 @@ impl Form {
         ensures { result ≡ head_size self (cut_text self text.now) }
     {
         let stored = self.cut(text);
-        let (_, second) = groups(self, stored.len());
+        let (_, second) = length_groups(self, stored.len());
         FRONT_SIZE + 1 + usize::from(second.is_some()) + stored.len() + SIZE_FIELD
     }
 }
 
-/// Encodes the length of a text: the first byte, and the second if there is one.
+/// Encodes the length of a text in groups of 7 bits: the first byte, and the second if there is one.
 #[inline]
 #[tactic(auto, unfolding(crate::specs::Text::Lengths::length_layout))]
-pub(crate) fn groups(form: Form, text_size: usize) -> (u8, Option<u8>)
+pub(crate) fn length_groups(form: Form, text_size: usize) -> (u8, Option<u8>)
     requires { text_size ≤ text_limit form }
     ensures { length_layout form text_size ≡ result.0 ∷ second_byte result.1 }
 {

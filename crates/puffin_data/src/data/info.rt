@@ -84,12 +84,12 @@ impl StreamInfo {
     /// [`Reader::walk`](crate::data::Reader::walk) does, and then drops the stream.
     pub fn parse(alloc: Global, stream: Stream) -> Result<StreamInfo>
         ensures same { IfOk result (λ info. info.stream ≡ stream) }
-        ensures honest { IfOk result (λ info. (f : Forest) × IsHonest info f) }
+        ensures honest { IfOk result (λ info. (forest : Forest) × IsHonest info forest) }
         // Every forest is counted, unless memory runs out.
-        ensures only { (f : Forest) → Spells stream.form stream.bytes f →
-            MatchResult result (λ info. IsHonest info f) (λ e. e ≡ Error.Memory) }
-        ensures fault { IfErr result (λ e.
-            (e ≡ Error.Memory) ⊎ IsFault stream.form stream.bytes e) }
+        ensures only { (forest : Forest) → Spells stream.form stream.bytes forest →
+            MatchResult result (λ info. IsHonest info forest) (λ cause. cause ≡ Error.Memory) }
+        ensures fault { IfErr result (λ cause.
+            (cause ≡ Error.Memory) ⊎ IsFault stream.form stream.bytes cause) }
     {
         let mut tries = 0;
         let walk = Reader::walk(alloc, &stream, &mut tries)?;
@@ -143,8 +143,8 @@ impl StreamInfo {
             facts_of self.new ≡ joined_facts (facts_of self.old) (facts_of_ref other.now)) }
         // An honest info extended by an honest info is honest.
         ensures honest { OnOk result (
-            (f g : Forest) → IsHonest self.old f → IsHonestRef other.now g →
-            IsHonest self.new (append f g)) }
+            (first second : Forest) → IsHonest self.old first → IsHonestRef other.now second →
+            IsHonest self.new (append first second)) }
 
         // When it is refused, and that a refusal changes nothing but the room.
         ensures unlike { (result ≡ Err Error.UnlikeForms)
@@ -153,8 +153,8 @@ impl StreamInfo {
             ↔ ((¬ AreUnlike (facts_of self.old) (facts_of_ref other.now))
             × (2 ^ 64 ≤ self.old.num_scopes + other.now.num_scopes)) }
         ensures err { OnErr result (facts_of self.new ≡ facts_of self.old) }
-        ensures cause { IfErr result (λ e.
-            (e ≡ Error.UnlikeForms) ⊎ (e ≡ Error.TooLarge) ⊎ (e ≡ Error.Memory)) }
+        ensures cause { IfErr result (λ cause.
+            (cause ≡ Error.UnlikeForms) ⊎ (cause ≡ Error.TooLarge) ⊎ (cause ≡ Error.Memory)) }
 
         // Bytes that fit the room are appended without an allocation.
         ensures succeeds { ¬ AreUnlike (facts_of self.old) (facts_of_ref other.now) →
@@ -165,6 +165,7 @@ impl StreamInfo {
         if self.is_unlike(other) {
             return Err(Error::UnlikeForms);
         }
+        // What can be refused comes first, so that a refusal leaves the fields as they are.
         let form = self.form_with(other);
         let Some(num_scopes) = self.num_scopes.checked_add(other.num_scopes) else {
             return Err(Error::TooLarge);

@@ -11,15 +11,15 @@ use crate::file_error::FileError;
 use byteorder::{ByteOrder, LittleEndian};
 use std::alloc::Global;
 
-/// Reads once into `buf`, after its first `at` bytes. Fails only with `Io`.
+/// Reads once into `buf`, after its first `at` bytes, which stay, and returns the number of bytes read. Fails only with `Io`.
 fn read_behind<S: Source>(source: &mut S, buf: &mut [u8], at: usize) -> Result<usize, FileError>
     requires failures { CanFail S.failures source.old }
     requires at { at < length buf.old }
     ensures front { take at buf.new ≡ take at buf.old }
-    ensures fits { IfOk result (λ n. at + n ≤ length buf.new) }
-    ensures took { IfOk result (λ n.
-        Consumes (S.remaining source.old) (S.remaining source.new) (take n (drop at buf.new))) }
-    ensures end { IfOk result (λ n. n ≡ 0 → IsAtEnd (S.remaining source.new)) }
+    ensures fits { IfOk result (λ count. at + count ≤ length buf.new) }
+    ensures took { IfOk result (λ count.
+        Consumes (S.remaining source.old) (S.remaining source.new) (take count (drop at buf.new))) }
+    ensures end { IfOk result (λ count. count ≡ 0 → IsAtEnd (S.remaining source.new)) }
     ensures io { IsOkUnless result FileError.Io }
     ensures failures { S.failures source.new ≡ failures_after (S.failures source.old) result }
 {
@@ -31,20 +31,20 @@ fn read_behind<S: Source>(source: &mut S, buf: &mut [u8], at: usize) -> Result<u
 pub fn read_up_to<S: Source>(source: &mut S, buf: &mut [u8]) -> Result<usize, FileError>
     requires { CanFail S.failures source.old }
     ensures size { length buf.new ≡ length buf.old }
-    ensures took { IfOk result (λ n.
-        (n ≤ length buf.old)
+    ensures took { IfOk result (λ count.
+        (count ≤ length buf.old)
         × TookUpTo (S.remaining source.old) (S.remaining source.new) (length buf.old)
-        (take n buf.new)) }
+        (take count buf.new)) }
     ensures io { IsOkUnless result FileError.Io }
     ensures failures { S.failures source.new ≡ failures_after (S.failures source.old) result }
 {
     let mut end = 0;
     'reads: while end < buf.len() {
-        let n = read_behind(source, buf, end)?;
-        if n == 0 {
+        let count = read_behind(source, buf, end)?;
+        if count == 0 {
             return Ok(end);
         }
-        end += n;
+        end += count;
     }
     Ok(end)
 }
@@ -52,9 +52,10 @@ pub fn read_up_to<S: Source>(source: &mut S, buf: &mut [u8]) -> Result<usize, Fi
 /// Reads one byte. Fails with `Truncated` at the reader's end, and with `Io` if a read fails.
 pub fn read_byte<S: Source>(source: &mut S) -> Result<u8, FileError>
     requires { CanFail S.failures source.old }
-    ensures part { FromDevice (λ b. b) (S.remaining source.old) (S.remaining source.new) result
-        first_at }
-    ensures causes { IfErr result (λ e. (e ≡ FileError.Io) ⊎ (e ≡ FileError.Truncated)) }
+    ensures part { FromDevice (λ byte. byte) (S.remaining source.old) (S.remaining source.new)
+        result first_at }
+    ensures causes { IfErr result (λ cause.
+        (cause ≡ FileError.Io) ⊎ (cause ≡ FileError.Truncated)) }
     ensures failures { S.failures source.new ≡ failures_after (S.failures source.old) result }
 {
     let mut byte = [0];
@@ -68,10 +69,11 @@ pub fn read_byte<S: Source>(source: &mut S) -> Result<u8, FileError>
 /// fails.
 pub fn read_length<S: Source>(source: &mut S) -> Result<usize, FileError>
     requires { CanFail S.failures source.old }
-    ensures part { FromDevice (λ n. n) (S.remaining source.old) (S.remaining source.new) result
-        part_length_at }
-    ensures bound { IfOk result (λ n. n < 2 ^ 32) }
-    ensures causes { IfErr result (λ e. (e ≡ FileError.Io) ⊎ (e ≡ FileError.Truncated)) }
+    ensures part { FromDevice (λ len. len) (S.remaining source.old) (S.remaining source.new)
+        result part_length_at }
+    ensures bound { IfOk result (λ len. len < 2 ^ 32) }
+    ensures causes { IfErr result (λ cause.
+        (cause ≡ FileError.Io) ⊎ (cause ≡ FileError.Truncated)) }
     ensures failures { S.failures source.new ≡ failures_after (S.failures source.old) result }
 {
     let mut four = [0; 4];
@@ -86,9 +88,9 @@ pub fn read_length<S: Source>(source: &mut S) -> Result<usize, FileError>
 /// Fails with `Io` if a read fails, with `Truncated` if the reader ends too early, or with `Memory`.
 pub fn read_part<S: Source>(alloc: Global, source: &mut S, len: usize) -> Result<Vec<u8>, FileError>
     requires { CanFail S.failures source.old }
-    ensures part { FromDevice (λ v. v.items) (S.remaining source.old) (S.remaining source.new)
-        result (part_of len) }
-    ensures len { IfOk result (λ v. length v.items ≡ len) }
+    ensures part { FromDevice (λ bytes. bytes.items) (S.remaining source.old)
+        (S.remaining source.new) result (part_of len) }
+    ensures len { IfOk result (λ bytes. length bytes.items ≡ len) }
     ensures failures { S.failures source.new ≡ failures_after (S.failures source.old) result }
 {
     let mut bytes = Vec::new(alloc);
@@ -105,8 +107,8 @@ pub fn read_part<S: Source>(alloc: Global, source: &mut S, len: usize) -> Result
 /// Reads a length as [`read_length`] does, and then that many bytes. Fails as [`read_part`] does.
 pub fn read_counted_part<S: Source>(alloc: Global, source: &mut S) -> Result<Vec<u8>, FileError>
     requires { CanFail S.failures source.old }
-    ensures part { FromDevice (λ v. v.items) (S.remaining source.old) (S.remaining source.new)
-        result counted_part_at }
+    ensures part { FromDevice (λ bytes. bytes.items) (S.remaining source.old)
+        (S.remaining source.new) result counted_part_at }
     ensures failures { S.failures source.new ≡ failures_after (S.failures source.old) result }
 {
     let len = read_length(source)?;

@@ -31,7 +31,8 @@ pub fn text_of(stored: &[u8]) -> &str
     }
 }
 
-/// Converts a scope found at offset `at` into a `Scope`, whose positions are offsets into the stream.
+/// Converts a scope found at offset `at` into a `Scope`, whose positions are offsets into the stream. The scope must have an id,
+/// and its duration must fit `i64`.
 fn to_scope<'s>(at: usize, found: &RawScope<'s>) -> Scope<'s>
     requires id { 0 < found.now.id }
     requires fits { FitsSigned w64 (found.now.stop -ℤ found.now.start) }
@@ -84,9 +85,10 @@ pub struct Reader<'s> {
 impl<'s> Model for Reader<'s> {
     ghost Value = { ReaderState };
 
-    ghost view = { λ r. record { form = r.form; bytes = r.bytes.now; at = r.at } };
+    ghost view = { λ reader.
+        record { form = reader.form; bytes = reader.bytes.now; at = reader.at } };
 
-    ghost invariant = { λ r. r.at ≤ length r.bytes.now };
+    ghost invariant = { λ reader. reader.at ≤ length reader.bytes.now };
 }
 
 impl<'s> Reader<'s> {
@@ -104,8 +106,8 @@ impl<'s> Reader<'s> {
 
     /// Makes a reader at an offset. Fails with `InvalidOffset` if the offset is greater than the stream's length.
     pub fn with_offset(stream: &'s Stream, offset: u64) -> Result<Reader<'s>>
-        ensures ok { IfOk result (λ r.
-            r ≡ record { form = stream.now.form; bytes = stream.now.bytes; at = offset }) }
+        ensures ok { IfOk result (λ reader.
+            reader ≡ record { form = stream.now.form; bytes = stream.now.bytes; at = offset }) }
         ensures refused { IsErr result ↔ (length stream.now.bytes < offset) }
         ensures err { IsOkUnless result Error.InvalidOffset }
     {
@@ -132,7 +134,8 @@ impl<'s> Reader<'s> {
     /// Collects all scopes that the reader returns. Fails with the reader's fault, or with `Memory` if the vector can't grow.
     pub fn read_top_scopes(self, alloc: Global) -> Result<Vec<Scope<'s>>>
         ensures ok { IfOk result (λ scopes. ReadsScopes self.entry scopes.items) }
-        ensures err { IfErr result (λ e. (e ≡ Error.Memory) ⊎ ReadsFault self.entry e) }
+        ensures err { IfErr result (λ cause.
+            (cause ≡ Error.Memory) ⊎ ReadsFault self.entry cause) }
     {
         let mut reader = self;
         let mut scopes = Vec::new(alloc);
@@ -162,16 +165,18 @@ impl<'s> Reader<'s> {
     /// ```
     pub fn walk(alloc: Global, stream: &Stream, tries: &mut u64) -> Result<Walk>
         // Only a forest is accepted, and the counts are its measures.
-        ensures forest { IfOk result (λ w.
-            (f : Forest) × Spells stream.now.form stream.now.bytes f × Counts w f) }
+        ensures forest { IfOk result (λ walk.
+            (forest : Forest) × Spells stream.now.form stream.now.bytes forest
+            × Counts walk forest) }
         // Every forest is accepted, unless memory runs out.
-        ensures only { (f : Forest) → Spells stream.now.form stream.now.bytes f →
-            MatchResult result (λ w. Counts w f) (λ e. e ≡ Error.Memory) }
+        ensures only { (forest : Forest) → Spells stream.now.form stream.now.bytes forest →
+            MatchResult result (λ walk. Counts walk forest) (λ cause. cause ≡ Error.Memory) }
 
         // All other bytes are refused with their first fault.
-        ensures fault { IfErr result (λ e.
-            (e ≡ Error.Memory) ⊎ Refuses stream.now.form stream.now.bytes e tries.new) }
-        ensures tries { IfOk result (λ w. tries.new ≡ w.num_scopes) }
+        ensures fault { IfErr result (λ cause.
+            (cause ≡ Error.Memory)
+            ⊎ Refuses stream.now.form stream.now.bytes cause tries.new) }
+        ensures tries { IfOk result (λ walk. tries.new ≡ walk.num_scopes) }
         ensures few { tries.new ≤ most_tries_in stream.now.bytes }
     {
         // A local count stays in a register during the walk.
@@ -184,13 +189,14 @@ impl<'s> Reader<'s> {
     /// Returns the number of scopes and the greatest nesting depth of a stream, which has to be a forest of scopes. Fails as
     /// [`Reader::walk`] does.
     pub fn count_scope_and_depth(alloc: Global, stream: &Stream) -> Result<(usize, usize)>
-        ensures forest { IfOk result (λ n.
-            (f : Forest) × Spells stream.now.form stream.now.bytes f
-            × (n ≡ (scope_count f, height f))) }
-        ensures only { (f : Forest) → Spells stream.now.form stream.now.bytes f →
-            MatchResult result (λ n. n ≡ (scope_count f, height f)) (λ e. e ≡ Error.Memory) }
-        ensures fault { IfErr result (λ e.
-            (e ≡ Error.Memory) ⊎ IsFault stream.now.form stream.now.bytes e) }
+        ensures forest { IfOk result (λ counts.
+            (forest : Forest) × Spells stream.now.form stream.now.bytes forest
+            × (counts ≡ (scope_count forest, height forest))) }
+        ensures only { (forest : Forest) → Spells stream.now.form stream.now.bytes forest →
+            MatchResult result (λ counts. counts ≡ (scope_count forest, height forest)) (λ cause.
+            cause ≡ Error.Memory) }
+        ensures fault { IfErr result (λ cause.
+            (cause ≡ Error.Memory) ⊎ IsFault stream.now.form stream.now.bytes cause) }
     {
         let mut tries = 0;
         let walk = Reader::walk(alloc, stream, &mut tries)?;
@@ -203,8 +209,9 @@ impl<'s> Iterator for Reader<'s> {
 
     ghost next_gives = { IsNextRead };
 
-    ghost remaining = { λ r. at_most (length r.bytes - r.at) };
+    ghost remaining = { λ reader. at_most (length reader.bytes - reader.at) };
 
+    /// Reads the scope at the reader's position, and moves to its next sibling, or after a fault to the end.
     fn next(&mut self) -> Option<Result<Scope<'s>>> {
         match read_at(self.form, self.bytes, self.at, self.bytes.len()) {
             Ok(None) => None,

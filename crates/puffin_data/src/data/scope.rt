@@ -69,10 +69,11 @@ pub(crate) fn size_at(region: &[u8], place: usize) -> u64
     LittleEndian::read_u64(&region[place..])
 }
 
-/// Reads the scope at the front of a region. The scope's text must be at these offsets.
+/// Reads the scope at the front of a region, once its id and its text's length are known to be sound. The text must be at these
+/// offsets. Fails with the first fault of the size, the children's end and the times.
 #[inline(always)]
 #[tactic(auto, unfolding(crate::specs::Walk::Reading::sized_reading, crate::specs::Walk::Reading::found_in, crate::specs::Walk::Reading::size_in))]
-fn scope_around(
+fn scope_with_text(
     form: Form,
     region: &[u8],
     text_begin: usize,
@@ -89,6 +90,7 @@ fn scope_around(
         return Err(Error::PrematureEnd);
     }
     let size = size_at(region, text_end);
+    // The children's end isn't computed until it is known to be within the region: the sum could overflow.
     if size >= (region.len() - child_begin) as u64 {
         return Err(if size == u64::MAX {
             Error::ScopeNeverEnded
@@ -103,6 +105,7 @@ fn scope_around(
     if region.len() - child_end < END_SIZE {
         return Err(Error::PrematureEnd);
     }
+    // The start is behind the first byte and the id's four.
     let start = time_at(region, 5);
     let stop = time_at(region, child_end + 1);
     if !is_valid_range((start, stop)) {
@@ -119,20 +122,21 @@ fn scope_around(
     }))
 }
 
-/// Reads the scope at the front of a region, which must contain at least the scope's id, its start and the first byte of its
-/// text's length.
+/// Reads the scope at the front of a region, once its id is known to be sound. The region must contain at least the id, the
+/// start and the first byte of the text's length. Fails with a fault of that length, and as [`scope_with_text`] does.
 #[inline(always)]
-fn scope_after(form: Form, region: &[u8]) -> Result<Option<RawScope<'_>>>
+fn scope_with_id(form: Form, region: &[u8]) -> Result<Option<RawScope<'_>>>
     requires { FRONT_SIZE + 1 ≤ length region.now }
     ensures { reading_of result
         ≡ unless_fault (text_length_in form region.now) (sized_reading form region.now) }
 {
     let (text_size, used) = length_in(form, &region[FRONT_SIZE..])?;
     let text_begin = FRONT_SIZE + used;
-    scope_around(form, region, text_begin, text_begin + text_size)
+    scope_with_text(form, region, text_begin, text_begin + text_size)
 }
 
-/// Reads the scope at the front of a region. Returns `None` if the region is empty or begins with a byte other than `(`.
+/// Reads the scope at the front of a region. Returns `None` if the region is empty or begins with a byte other than `(`. Fails
+/// with the scope's fault: `PrematureEnd`, `InvalidStream` or `ScopeNeverEnded`.
 #[inline(always)]
 #[tactic(auto, unfolding(crate::specs::Walk::Reading::reading))]
 pub(crate) fn scope_in(form: Form, region: &[u8]) -> Result<Option<RawScope<'_>>>
@@ -146,7 +150,7 @@ pub(crate) fn scope_in(form: Form, region: &[u8]) -> Result<Option<RawScope<'_>>
     }
     // A branch for each form, so that the offsets of the short form are constants.
     match form {
-        Form::Short => scope_after(Form::Short, region),
-        Form::Long => scope_after(Form::Long, region),
+        Form::Short => scope_with_id(Form::Short, region),
+        Form::Long => scope_with_id(Form::Long, region),
     }
 }

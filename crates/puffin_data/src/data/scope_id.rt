@@ -15,7 +15,7 @@ impl Model for ScopeId {
 
     ghost invariant = { λ id. (0 < id.number) × (id.number < 2 ^ 32) };
 
-    ghost inverse = { λ n. record { number = n } };
+    ghost inverse = { λ number. record { number = number } };
 }
 
 impl ScopeId {

@@ -16,6 +16,7 @@ pub(crate) fn front(id: u32, start: NanoSecond, group: u8) -> [u8; 16]
         ≡ begin_mark ∷ (little_bytes 4 id ++ (time_bytes start ++ (group ∷ []))) }
 {
     let time = start.cast_unsigned();
+    // The first word holds `(`, the id and the lowest three bytes of the start, the second the other five and the group.
     let low = SCOPE_BEGIN as u64 + u64::from(id) * 0x100 + time % 0x100_0000 * 0x100_0000_0000;
     let high = time / 0x100_0000 + u64::from(group) * 0x100_0000_0000;
     let mut front = [0; 16];

@@ -31,14 +31,14 @@ pub struct Stream {
 impl Model for Stream {
     ghost Value = { StreamState };
 
-    ghost view = { λ s.
+    ghost view = { λ stream.
         record {
-          form = s.form;
-          bytes = take s.len s.block.items;
-          room = length s.block.items - s.len;
+          form = stream.form;
+          bytes = take stream.len stream.block.items;
+          room = length stream.block.items - stream.len;
         } };
 
-    ghost invariant = { λ s. s.len ≤ length s.block.items };
+    ghost invariant = { λ stream. stream.len ≤ length stream.block.items };
 }
 
 impl Stream {
@@ -159,7 +159,8 @@ impl Stream {
         self.grow(bytes - room)
     }
 
-    /// Makes the room larger by at least this many bytes. Fails only with `Memory`.
+    /// Makes the room larger by at least this many bytes. Fails only with `Memory`. It is out of line, as it is rare that room is
+    /// missing.
     #[cold]
     #[inline(never)]
     fn grow(&mut self, more: usize) -> Result<()>
@@ -176,6 +177,7 @@ impl Stream {
             return Err(Error::Memory);
         }
         self.block.reserve(more)?;
+        // All of the memory that was given becomes room, up to the limit.
         let whole = self.block.capacity().min(self.max_bytes);
         self.block.resize(whole, 0)?;
         Ok(())
@@ -213,7 +215,7 @@ impl Stream {
         self.lengthen(bytes)
     }
 
-    /// Appends bytes that don't fit the room, and leaves no room after them.
+    /// Appends bytes that don't fit the room, and leaves no room after them. Fails only with `Memory`, and then appends nothing.
     #[inline]
     fn lengthen(&mut self, bytes: &[u8]) -> Result<()>
         requires { self.old.room < length bytes.now }
@@ -225,6 +227,7 @@ impl Stream {
         if self.max_bytes.saturating_sub(self.len) < bytes.len() {
             return Err(Error::Memory);
         }
+        // The bytes take the place of the room.
         self.block.truncate(self.len);
         self.block.extend_from_slice(bytes)?;
         self.len = self.block.len();

@@ -25,6 +25,7 @@ pub fn read_to_end<S: Source>(alloc: Global, source: &mut S) -> Result<Vec<u8>, 
         let wanted = bytes.len() + PIECE_SIZE;
         source.read_to_len(&mut bytes, wanted)?;
         if bytes.len() < wanted {
+            // Fewer bytes than wanted: the reader is at its end.
             return Ok(bytes);
         }
     }
@@ -37,18 +38,18 @@ pub fn write_all<D: Drain>(drain: &mut D, bytes: &[u8]) -> Result<(), FileError>
     ensures ok { OnOk result (Appends (D.contents drain.old) (D.contents drain.new) bytes.now) }
     ensures err { OnErr result (
         WritesBeginning (D.contents drain.old) (D.contents drain.new) bytes.now) }
-    ensures io { IfErr result (λ e.
-        (e ≡ FileError.Io)
+    ensures io { IfErr result (λ cause.
+        (cause ≡ FileError.Io)
         × ((D.failures drain.new ≡ D.failures drain.old + 1) ⊎ TookNothing D.takes drain.new)) }
     ensures failures { OnOk result (D.failures drain.new ≡ D.failures drain.old) }
 {
     let mut at = 0;
     'pieces: while at < bytes.len() {
-        let n = drain.write(&bytes[at..])?;
-        if n == 0 {
+        let count = drain.write(&bytes[at..])?;
+        if count == 0 {
             return Err(FileError::Io);
         }
-        at += n;
+        at += count;
     }
     Ok(())
 }

@@ -37,25 +37,25 @@ pub trait Visitor<'s> {
         ensures ok { IfOk result (λ inner.
             Entering takes stands_for self.old within (found_of scope.now).span inner
             self.new) }
-        ensures err { IfErr result (λ e.
-            (e ≡ Error.Memory)
-            ⊎ Refusing refuses stands_for self.old within (found_of scope.now).span e) };
+        ensures err { IfErr result (λ cause.
+            (cause ≡ Error.Memory)
+            ⊎ Refusing refuses stands_for self.old within (found_of scope.now).span cause) };
 
     /// Taking no scope changes nothing.
-    ghost takes_none: { (v : Self) → takes v [] v };
+    ghost takes_none: { (state : Self) → takes state [] state };
 
     /// Taking one list of scopes and then another counts as taking both, joined.
-    ghost takes_more: { (u v w : Self) (xs ys : List ScopeInContext) → takes u xs v → takes v ys w →
-        takes u (xs ++ ys) w };
+    ghost takes_more: { (old mid new : Self) (first second : List ScopeInContext) →
+        takes old first mid → takes mid second new → takes old (first ++ second) new };
 
     /// A kept value still stands for the same scopes after more were taken.
-    ghost still_stands: { (u v : Self) (xs : List ScopeInContext) (w : Self.Within)
+    ghost still_stands: { (old new : Self) (scopes : List ScopeInContext) (within : Self.Within)
         (around : List Span) →
-        takes u xs v → stands_for u w around → stands_for v w around };
+        takes old scopes new → stands_for old within around → stands_for new within around };
 }
 
-/// A region that is being read, or is waiting while a region within it is read: its end, and the visitor's value for the scope
-/// whose children it contains.
+/// A region that is being read, or is waiting while a region within it is read: where it ends, and the visitor's value for the
+/// scope whose children it contains.
 #[derive(Clone, Copy)]
 struct Region<W> {
     end: usize,
@@ -84,9 +84,10 @@ pub fn walk_with<'s, V: Visitor<'s>>(
     requires { V.stands_for visitor.old outside [] }
     ensures ok { IfOk result (λ _.
         TakesAll form V.takes visitor.old visitor.new bytes.now tries.new) }
-    ensures err { IfErr result (λ e.
-        (e ≡ Error.Memory)
-        ⊎ StopsEarly form V.takes V.refuses visitor.old visitor.new bytes.now tries.new e) }
+    ensures err { IfErr result (λ cause.
+        (cause ≡ Error.Memory)
+        ⊎ StopsEarly form V.takes V.refuses visitor.old visitor.new bytes.now tries.new cause) }
+    // A scope takes at least 31 bytes.
     ensures few { 31 * tries.new ≤ length bytes.now + 31 }
 {
     let mut outers: Vec<Region<V::Within>> = Vec::new(alloc);
@@ -98,6 +99,7 @@ pub fn walk_with<'s, V: Visitor<'s>>(
     *tries = 0;
     'scopes: loop {
         if at < region.end {
+            // Goes on at the scope's first child.
             let scope = next_scope(form, &bytes[at..region.end], tries)?;
             let within = visitor.enter(region.within, &scope)?;
             outers.push(region)?;
@@ -107,6 +109,7 @@ pub fn walk_with<'s, V: Visitor<'s>>(
             };
             at += scope.child_begin;
         } else {
+            // The region is read: goes on behind the scope whose children it contains.
             match outers.pop() {
                 None => return Ok(()),
                 Some(outer) => {

@@ -8,7 +8,7 @@ ghost use Rattle.puffin_data.specs.Honesty.{Counts};
 ghost use Rattle.puffin_data.specs.Walk.{most_tries_in, Refuses};
 ghost use Rattle.puffin_data.specs.Walk.Reading.{reading, IsFaultIn};
 ghost use Rattle.puffin_data.specs.Walk.FoundScopes.{found_of};
-ghost use Rattle.puffin_data.specs.inner.Walking.{no_scope_counted, with_scope, Walked, Stopped};
+ghost use Rattle.puffin_data.specs.inner.Walking.{no_scope_counted, with_scope, WalksAll, StopsShort};
 
 use crate::data::form::Form;
 use crate::data::scope::{END_SIZE, RawScope, SCOPE_BEGIN, scope_in};
@@ -38,8 +38,8 @@ impl Walk {
         }
     }
 
-    /// Counts one more scope, at this depth.
-    fn counted(self, depth: usize, scope: &RawScope) -> Walk
+    /// Returns these counts with one more scope, at this depth.
+    fn with_scope(self, depth: usize, scope: &RawScope) -> Walk
         requires { self.num_scopes + 1 < 2 ^ 64 }
         ensures { result ≡ with_scope self depth (found_of scope.now).span }
     {
@@ -58,7 +58,8 @@ impl Walk {
 pub(crate) fn next_scope<'s>(form: Form, region: &'s [u8], tries: &mut u64) -> Result<RawScope<'s>>
     requires not_empty { 0 < length region.now }
     requires few { tries.old + 1 < 2 ^ 64 }
-    ensures sound { IfOk result (λ s. reading form region.now ≡ Ok (Some (found_of s))) }
+    ensures sound { IfOk result (λ scope.
+        reading form region.now ≡ Ok (Some (found_of scope))) }
     ensures fault { IfErr result (IsFaultIn form region.now) }
     ensures tried { tries.new
         ≡ tries.old + (if slice_index region.now 0 == begin_mark then 1 else 0) }
@@ -83,11 +84,13 @@ pub(crate) fn next_scope<'s>(form: Form, region: &'s [u8], tries: &mut u64) -> R
 /// let walk = walk_forest(alloc, Form::Short, bytes, &mut tries)?;
 /// ```
 pub fn walk_forest(alloc: Global, form: Form, bytes: &[u8], tries: &mut u64) -> Result<Walk>
-    ensures forest { IfOk result (λ w. (f : Forest) × Spells form bytes.now f × Counts w f) }
-    ensures only { (f : Forest) → Spells form bytes.now f →
-        MatchResult result (λ w. Counts w f) (λ e. e ≡ Error.Memory) }
-    ensures fault { IfErr result (λ e. (e ≡ Error.Memory) ⊎ Refuses form bytes.now e tries.new) }
-    ensures tries { IfOk result (λ w. tries.new ≡ w.num_scopes) }
+    ensures forest { IfOk result (λ walk.
+        (forest : Forest) × Spells form bytes.now forest × Counts walk forest) }
+    ensures only { (forest : Forest) → Spells form bytes.now forest →
+        MatchResult result (λ walk. Counts walk forest) (λ cause. cause ≡ Error.Memory) }
+    ensures fault { IfErr result (λ cause.
+        (cause ≡ Error.Memory) ⊎ Refuses form bytes.now cause tries.new) }
+    ensures tries { IfOk result (λ walk. tries.new ≡ walk.num_scopes) }
     ensures few { tries.new ≤ most_tries_in bytes.now }
 {
     // A loop for each form: the short one is then as fast as if there were no other.
@@ -97,13 +100,17 @@ pub fn walk_forest(alloc: Global, form: Form, bytes: &[u8], tries: &mut u64) -> 
     }
 }
 
-/// Walks all of the bytes, with the ends of the open regions in a vector.
+/// Walks all of the bytes as [`walk_forest`] does. `end` is the end of the region that is being read, and `ends` has those of the
+/// regions around it, the innermost last.
 #[inline(always)]
 pub(crate) fn walk_bytes(alloc: Global, form: Form, bytes: &[u8], tries: &mut u64) -> Result<Walk>
-    ensures walked { MatchResult result (Walked form bytes.now tries.new)
-        (Stopped form bytes.now tries.new) }
+    ensures walked { MatchResult result (WalksAll form bytes.now tries.new)
+        (StopsShort form bytes.now tries.new) }
+    // A scope takes at least 31 bytes.
     ensures few { 31 * tries.new ≤ length bytes.now + 31 }
-    ensures bytes { (i : ℕ) → slice_index bytes.now i < 256 }
+
+    // What holds of all bytes, for proofs about the calls.
+    ensures bytes { (index : ℕ) → slice_index bytes.now index < 256 }
     ensures small { length bytes.now < 2 ^ 64 }
 {
     let mut walk = Walk::empty();
@@ -113,12 +120,14 @@ pub(crate) fn walk_bytes(alloc: Global, form: Form, bytes: &[u8], tries: &mut u6
     *tries = 0;
     'scopes: loop {
         if at < end {
+            // Goes on at the scope's first child.
             let scope = next_scope(form, &bytes[at..end], tries)?;
             ends.push(end)?;
-            walk = walk.counted(ends.len(), &scope);
+            walk = walk.with_scope(ends.len(), &scope);
             end = at + scope.child_end;
             at += scope.child_begin;
         } else {
+            // The region is read: goes on behind the scope whose children it contains.
             match ends.pop() {
                 None => return Ok(walk),
                 Some(outer) => {

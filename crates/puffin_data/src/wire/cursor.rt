@@ -24,7 +24,7 @@ pub struct Cursor<'s> {
 impl<'s> Model for Cursor<'s> {
     ghost Value = { List ℕ };
 
-    ghost view = { λ c. c.bytes.now };
+    ghost view = { λ cursor. cursor.bytes.now };
 }
 
 impl<'s> Cursor<'s> {
@@ -44,8 +44,8 @@ impl<'s> Cursor<'s> {
 
     /// Reads one byte.
     pub fn u8(&mut self) -> Option<u8>
-        ensures reads { Reads (λ x. x) IsByte byte self.old result self.new }
-        ensures exact { Gives (λ x. x) self.old result self.new (byte_at self.old) }
+        ensures reads { Reads (λ value. value) IsByte byte self.old result self.new }
+        ensures exact { Gives (λ value. value) self.old result self.new (byte_at self.old) }
     {
         let (value, rest) = byte_in(self.bytes)?;
         self.bytes = rest;
@@ -54,8 +54,8 @@ impl<'s> Cursor<'s> {
 
     /// Reads a number of 64 bits.
     pub fn u64(&mut self) -> Option<u64>
-        ensures reads { Reads (λ x. x) IsLong number self.old result self.new }
-        ensures exact { Gives (λ x. x) self.old result self.new (number_at self.old) }
+        ensures reads { Reads (λ value. value) IsLong number self.old result self.new }
+        ensures exact { Gives (λ value. value) self.old result self.new (number_at self.old) }
     {
         let (value, rest) = number_in(self.bytes)?;
         self.bytes = rest;
@@ -64,8 +64,8 @@ impl<'s> Cursor<'s> {
 
     /// Reads a number of 32 bits.
     pub fn u32(&mut self) -> Option<u32>
-        ensures reads { Reads (λ x. x) IsU32 number self.old result self.new }
-        ensures exact { Gives (λ x. x) self.old result self.new (u32_at self.old) }
+        ensures reads { Reads (λ value. value) IsU32 number self.old result self.new }
+        ensures exact { Gives (λ value. value) self.old result self.new (u32_at self.old) }
     {
         let (value, rest) = u32_in(self.bytes)?;
         self.bytes = rest;
@@ -74,8 +74,8 @@ impl<'s> Cursor<'s> {
 
     /// Reads a signed number of 64 bits.
     pub fn i64(&mut self) -> Option<i64>
-        ensures reads { Reads (λ x. x) IsSigned signed self.old result self.new }
-        ensures exact { Gives (λ x. x) self.old result self.new (signed_at self.old) }
+        ensures reads { Reads (λ value. value) IsSigned signed self.old result self.new }
+        ensures exact { Gives (λ value. value) self.old result self.new (signed_at self.old) }
     {
         let (value, rest) = signed_in(self.bytes)?;
         self.bytes = rest;
@@ -84,8 +84,8 @@ impl<'s> Cursor<'s> {
 
     /// Reads a length and that many bytes.
     pub fn bytes(&mut self) -> Option<&'s [u8]>
-        ensures reads { Reads (λ x. x.now) IsBlock block self.old result self.new }
-        ensures exact { Gives (λ x. x.now) self.old result self.new (bytes_at self.old) }
+        ensures reads { Reads (λ value. value.now) IsBlock block self.old result self.new }
+        ensures exact { Gives (λ value. value.now) self.old result self.new (bytes_at self.old) }
     {
         let (value, rest) = bytes_in(self.bytes)?;
         self.bytes = rest;
@@ -94,8 +94,8 @@ impl<'s> Cursor<'s> {
 
     /// Reads the length of a text in bytes, and then the text, which must be UTF-8.
     pub fn text(&mut self) -> Option<&'s str>
-        ensures reads { Reads (λ x. x.now) IsText block self.old result self.new }
-        ensures exact { Gives (λ x. x.now) self.old result self.new (text_at self.old) }
+        ensures reads { Reads (λ value. value.now) IsText block self.old result self.new }
+        ensures exact { Gives (λ value. value.now) self.old result self.new (text_at self.old) }
     {
         let (value, rest) = text_in(self.bytes)?;
         self.bytes = rest;
@@ -104,8 +104,8 @@ impl<'s> Cursor<'s> {
 
     /// Reads a flag, 0 or 1. As the first byte of an option, it shows whether a value follows.
     pub fn flag(&mut self) -> Option<bool>
-        ensures reads { Reads (λ x. x) IsAny flag self.old result self.new }
-        ensures exact { Gives (λ x. x) self.old result self.new (flag_at self.old) }
+        ensures reads { Reads (λ value. value) IsAny flag self.old result self.new }
+        ensures exact { Gives (λ value. value) self.old result self.new (flag_at self.old) }
     {
         let (value, rest) = flag_in(self.bytes)?;
         self.bytes = rest;

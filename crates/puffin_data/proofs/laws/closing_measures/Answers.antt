@@ -1,3 +1,4 @@
+-- Each measure of a word with one event more is that of the word and that of the event, put together.
 use Rattle.std.proofs.Common.{◌∷◌, [], arith}
 use Rattle.puffin_data.specs.Forest.Tour.{Close}
 use Rattle.puffin_data.proofs.lemmas.WordMeasures.{word_size-append, num_begun-append, open_after-append, most_open-closed, least_open-kept, greatest_close-closed}

@@ -1,3 +1,4 @@
+-- Each test of a reading that fails gives one of the three faults.
 use Rattle.puffin_data.proofs.Causes.{three_faults}
 use Rattle.puffin_data.proofs.laws.faults_of_a_walk.Goals as goal
 

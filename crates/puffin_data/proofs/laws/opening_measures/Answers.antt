@@ -1,3 +1,4 @@
+-- Each measure of a word with one event more is that of the word and that of the event, put together.
 use Rattle.std.proofs.Common.{◌∷◌, [], arith}
 use Rattle.puffin_data.specs.Forest.Tour.{Open}
 use Rattle.puffin_data.proofs.lemmas.WordMeasures.{word_size-append, num_begun-append, open_after-append, most_open-opened, least_open-opened, greatest_close-kept}

@@ -10,7 +10,7 @@ ghost use Rattle.puffin_data.specs.Text.Lengths.{text_limit, length_layout};
 ghost use Rattle.puffin_data.specs.inner.Groups.{second_byte};
 ghost use Rattle.puffin_data.specs.inner.Beginnings.{Begins};
 
-use crate::data::form::{ONE_GROUP, groups};
+use crate::data::form::{ONE_GROUP, length_groups};
 use crate::data::scope::{END_SIZE, FRONT_SIZE, size_at};
 use crate::data::scope_id::ScopeId;
 use crate::data::spelling::{back, copy_text, front, size_word};
@@ -33,7 +33,7 @@ impl Stream {
     ) -> Result<(usize, NanoSecond)>
         requires { F.IsAlwaysCallable now_ns }
         ensures begun { BeginsScope self.old self.new id text.now result }
-        ensures clock { IfOk result (λ at. F.post now_ns at.1) }
+        ensures clock { IfOk result (λ begun. F.post now_ns begun.1) }
     {
         let mut now_ns = now_ns;
         self.begin_scope_by(&mut now_ns, id, text)
@@ -50,7 +50,7 @@ impl Stream {
     ) -> Result<(usize, NanoSecond)>
         requires { F.IsAlwaysCallable now_ns.old }
         ensures begun { BeginsScope self.old self.new id text.now result }
-        ensures clock { IfOk result (λ at. F.step now_ns.old at.1 now_ns.new) }
+        ensures clock { IfOk result (λ begun. F.step now_ns.old begun.1 now_ns.new) }
         ensures unasked { OnErr result (now_ns.new ≡ now_ns.old) }
     {
         let size = self.form().begin_size(text);
@@ -101,22 +101,29 @@ impl Stream {
         if text.len() <= ONE_GROUP {
             return self.write_begin(start, id, text, size, text.len() as u8, None);
         }
-        self.longer_within(start, id, text, size)
+        self.begin_longer_within(start, id, text, size)
     }
 
-    /// Appends the beginning of a scope with a text that may have to be cut and whose length may take two bytes. It is out of
-    /// line, so that a scope with a short text needs few registers.
+    /// Like [`Stream::begin_within`], for a text that may have to be cut and whose length may take two bytes. It is out of line,
+    /// so that a scope with a short text needs few registers.
     #[inline(never)]
-    fn longer_within(&mut self, start: NanoSecond, id: ScopeId, text: &str, size: u64) -> usize
+    fn begin_longer_within(
+        &mut self,
+        start: NanoSecond,
+        id: ScopeId,
+        text: &str,
+        size: u64,
+    ) -> usize
         requires { head_size self.old.form (cut_text self.old.form text.now) ≤ self.old.room }
         ensures { Begins self.old self.new id start (cut_text self.old.form text.now) size result }
     {
         let kept = self.form().cut(text);
-        let (group, second) = groups(self.form(), kept.len());
+        let (group, second) = length_groups(self.form(), kept.len());
         self.write_begin(start, id, kept, size, group, second)
     }
 
-    /// Appends the beginning of a scope with a text that isn't cut. `group` and `second` must encode the text's length.
+    /// Appends the beginning of a scope, which must fit the room, with all of this text. `group` and `second` must encode the
+    /// text's length. Returns the offset of the placeholder.
     #[inline(always)]
     fn write_begin(
         &mut self,
@@ -136,6 +143,7 @@ impl Stream {
         let len = self.len;
         let text = text.as_bytes();
         let room = &mut self.block[len..];
+        // The front takes 14 bytes: the last two of the 16 are overwritten by what follows.
         room[..16].copy_from_slice(&front(id.get(), start, group));
         let mut place = FRONT_SIZE + 1;
         if let Some(byte) = second {
@@ -185,6 +193,7 @@ impl Stream {
     {
         let len = self.len;
         let block = &mut self.block[..];
+        // The placeholder is read before it is overwritten.
         let size = size_at(block, offset);
         block[offset..offset + 8].copy_from_slice(&size_word((len - (offset + 8)) as u64));
         block[len..len + END_SIZE].copy_from_slice(&back(stop_ns));

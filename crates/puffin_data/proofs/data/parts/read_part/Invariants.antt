@@ -1,3 +1,4 @@
+-- The bytes so far were taken from the reader.
 use Rattle.std.proofs.Common.{◌≡◌, ◌-◌, ◌≤◌, length, vec_len}
 use Rattle.std.specs.Io.KnownBytes.{Consumes}
 use Rattle.puffin_data.specs.Value.Layout.{IsBytes}

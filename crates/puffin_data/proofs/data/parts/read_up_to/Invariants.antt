@@ -1,3 +1,4 @@
+-- The buffer's front, up to `end`, is what was taken from the reader.
 use Rattle.std.proofs.Common.{◌≡◌, ◌-◌, ◌≤◌, length, take}
 use Rattle.std.specs.Io.KnownBytes.{Consumes}
 use Rattle.puffin_data.specs.Value.Layout.{IsBytes}

@@ -1,3 +1,4 @@
+-- The bytes so far were taken from the reader.
 use Rattle.std.proofs.Common.{◌≡◌, ◌-◌, ◌^◌, vec_len}
 use Rattle.std.specs.Io.KnownBytes.{Consumes}
 use Rattle.puffin_data.proofs.data.transfer.read_to_end.Given as goal

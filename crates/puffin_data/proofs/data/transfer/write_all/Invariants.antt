@@ -1,3 +1,4 @@
+-- The bytes up to `at` were appended to the writer.
 use Rattle.std.proofs.Common.{◌≡◌, ◌-◌, ◌≤◌, length, take}
 use Rattle.std.specs.Io.KnownBytes.{Appends}
 use Rattle.puffin_data.proofs.data.transfer.write_all.Given as goal

@@ -14,7 +14,11 @@ invariant-scopes g l = record {
   stands : (around : List Span) × g.V.Visitor.stands_for l.visitor l.region.within around;
   outers_stand : All (λ r. (around : List Span) × g.V.Visitor.stands_for l.visitor r.within around) l.outers.items;
   -- whatever the walk comes to from here, it comes to from the beginning
-  resumes : (out : End _) → Resumes l.form (Entering g.V.Visitor.takes g.V.Visitor.stands_for) (Refusing g.V.Visitor.refuses g.V.Visitor.stands_for) l.bytes (reverse l.outers.items) l.region.within l.visitor l.tries l.at l.region.end out → Resumes l.form (Entering g.V.Visitor.takes g.V.Visitor.stands_for) (Refusing g.V.Visitor.refuses g.V.Visitor.stands_for) l.bytes [] l.fn.outside l.fn.visitor 0 0 (length l.bytes) out;
+  resumes : (out : End _)
+      → Resumes l.form (Entering g.V.Visitor.takes g.V.Visitor.stands_for) (Refusing g.V.Visitor.refuses g.V.Visitor.stands_for) l.bytes
+      (reverse l.outers.items) l.region.within l.visitor l.tries l.at l.region.end out
+      → Resumes l.form (Entering g.V.Visitor.takes g.V.Visitor.stands_for) (Refusing g.V.Visitor.refuses g.V.Visitor.stands_for) l.bytes
+      [] l.fn.outside l.fn.visitor 0 0 (length l.bytes) out;
 }
 
 abbrev pub decreases-scopes : goal.decreases-scopes

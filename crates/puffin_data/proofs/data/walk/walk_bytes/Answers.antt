@@ -9,73 +9,112 @@ use Rattle.puffin_data.specs.Walk.FoundScopes.{found_of}
 use Rattle.puffin_data.proofs.Resuming.{nested_low, nested_push, nested_pop, found_places, enters, exits, done, stops_at, whole, IsNested}
 use Rattle.puffin_data.proofs.data.walk.walk_bytes.Goals as goal
 
+-- The loop's invariant says that whatever the walk comes to from here, it comes to from the beginning. So each answer says how the
+-- walk goes on from here: it enters a scope, leaves a region, or ends.
+
+-- a scope lies within its region, so no sum overflows and the walk goes forward
 pub overflow_add-end : goal.overflow_add-end
 overflow_add-end c =
-    let at = found_places c.args.form c.args.bytes.now c.scopes.at c.scopes.end (found_of c.in_ok-scope.scope) c.in_ok-scope.ensures.sound c.scopes.invariant.within (omega arith) in
-    omega (arith, at)
+    let places =
+    found_places c.args.form c.args.bytes.now c.scopes.at c.scopes.end (found_of c.in_ok-scope.scope) c.in_ok-scope.ensures.sound
+    c.scopes.invariant.within (omega arith) in
+    omega (arith, places)
 
 pub overflow_add-at : goal.overflow_add-at
 overflow_add-at c =
-    let at = found_places c.args.form c.args.bytes.now c.scopes.at c.scopes.end (found_of c.in_ok-scope.scope) c.in_ok-scope.ensures.sound c.scopes.invariant.within (omega arith) in
-    omega (arith, at)
+    let places =
+    found_places c.args.form c.args.bytes.now c.scopes.at c.scopes.end (found_of c.in_ok-scope.scope) c.in_ok-scope.ensures.sound
+    c.scopes.invariant.within (omega arith) in
+    omega (arith, places)
 
 pub scopes-smaller-then-at-end : goal.scopes-smaller-then-at-end
 scopes-smaller-then-at-end c =
-    let at = found_places c.args.form c.args.bytes.now c.scopes.at c.scopes.end (found_of c.in_ok-scope.scope) c.in_ok-scope.ensures.sound c.scopes.invariant.within (omega arith) in
-    omega (arith, at)
+    let places =
+    found_places c.args.form c.args.bytes.now c.scopes.at c.scopes.end (found_of c.in_ok-scope.scope) c.in_ok-scope.ensures.sound
+    c.scopes.invariant.within (omega arith) in
+    omega (arith, places)
 
+-- the walk enters a scope
 pub scopes-preserved-then-at-end : goal.scopes-preserved-then-at-end
 scopes-preserved-then-at-end c =
+    let form = c.args.form in
     let bytes = c.args.bytes.now in
-    let s = found_of c.in_ok-scope.scope in
+    let now = c.scopes in
+    let part = region bytes now.at now.end in
+    let pushed = c.in_ok-push.ensures in
+    let counted = c.with_scope-walk in
+    let found = found_of c.in_ok-scope.scope in
     let sound = c.in_ok-scope.ensures.sound in
-    let at = found_places c.args.form bytes c.scopes.at c.scopes.end s sound c.scopes.invariant.within (omega arith) in
-    let grown : length c.push.new.self.items ≡ length c.scopes.ends.items + 1 = ap length c.in_ok-push.ensures.items ∙ length_push c.scopes.ends.items c.scopes.end in
-    let deep : c.len.result ≡ length c.push.new.self.items = omega (arith, grown, c.len.ensures, c.in_ok-push.ensures.len) in
-    let one_more : c.counted-walk.result.num_scopes ≡ c.scopes.walk.num_scopes + 1 = ap (λ (w : Walk). w.num_scopes) c.counted-walk.ensures in
-    let begins : get_or (region bytes c.scopes.at c.scopes.end) 0 0 ≡ 40 = (passes c.args.form (region bytes c.scopes.at c.scopes.end) s sound).begins in
-    let tried : c.next_scope.new.tries ≡ c.scopes.tries + tries_in (region bytes c.scopes.at c.scopes.end) = c.next_scope.ensures.tried in
-    let one_try : tries_in (region bytes c.scopes.at c.scopes.end) ≡ 1 = ap (λ (b : ℕ). cond (eqb b 40) 1 0) begins in
+    let places = found_places form bytes now.at now.end found sound now.invariant.within (omega arith) in
+    let grown : length c.push.new.self.items ≡ length now.ends.items + 1 = ap length pushed.items ∙ length_push now.ends.items now.end in
+    let deep : c.len.result ≡ length c.push.new.self.items = omega (arith, grown, c.len.ensures, pushed.len) in
+    let one_more : counted.result.num_scopes ≡ now.walk.num_scopes + 1 = ap (λ (walk : Walk). walk.num_scopes) counted.ensures in
+    let begins : get_or part 0 0 ≡ 40 = (passes form part found sound).begins in
+    let tried : c.next_scope.new.tries ≡ now.tries + tries_in part = c.next_scope.ensures.tried in
+    let one_try : tries_in part ≡ 1 = ap (λ (byte : ℕ). cond (eqb byte 40) 1 0) begins in
     record {
-      within = omega (arith, at);
-      nested = nested_push c.scopes.ends.items c.push.new.self.items c.scopes.end (c.scopes.at + c.in_ok-scope.scope.child_end) (length bytes) c.in_ok-push.ensures.items c.scopes.invariant.nested (omega (arith, at));
-      inside = omega (arith, at, c.in_ok-push.ensures.len);
+      within = omega (arith, places);
+      nested =
+          nested_push now.ends.items c.push.new.self.items now.end (now.at + c.in_ok-scope.scope.child_end) (length bytes)
+          pushed.items now.invariant.nested (omega (arith, places));
+      inside = omega (arith, places, pushed.len);
       tried = omega (arith, tried, one_try, one_more);
-      few = omega (arith, at, one_more, grown);
-      resumes = λ out r. c.scopes.invariant.resumes out (enters c.args.form bytes c.scopes.ends.items c.push.new.self.items c.scopes.walk c.counted-walk.result c.len.result c.scopes.at c.scopes.end s out sound at.next c.in_ok-push.ensures.items deep c.counted-walk.ensures r);
+      few = omega (arith, places, one_more, grown);
+      resumes = λ result rest. now.invariant.resumes result (
+          enters form bytes now.ends.items c.push.new.self.items now.walk counted.result c.len.result now.at now.end found result
+          sound places.next pushed.items deep counted.ensures rest);
     }
 
+-- the walk leaves a region
 pub scopes-smaller : goal.scopes-smaller
 scopes-smaller c =
-    let out = nested_pop c.pop.new.self.items c.scopes.ends.items c.scopes.end c.in-Some.outer (length c.args.bytes.now) c.in-Some.ensures.items c.scopes.invariant.nested in
-    let low = nested_low c.pop.new.self.items c.in-Some.outer (length c.args.bytes.now) out.1 in
-    omega (arith, out.0, low)
+    let now = c.scopes in
+    let size = length c.args.bytes.now in
+    let outer = c.in-Some.outer in
+    let left = nested_pop c.pop.new.self.items now.ends.items now.end outer size c.in-Some.ensures.items now.invariant.nested in
+    omega (arith, left.0, nested_low c.pop.new.self.items outer size left.1)
 
 pub scopes-preserved : goal.scopes-preserved
 scopes-preserved c =
+    let form = c.args.form in
     let bytes = c.args.bytes.now in
-    let out = nested_pop c.pop.new.self.items c.scopes.ends.items c.scopes.end c.in-Some.outer (length bytes) c.in-Some.ensures.items c.scopes.invariant.nested in
-    let shrunk : length c.scopes.ends.items ≡ length c.pop.new.self.items + 1 = ap length c.in-Some.ensures.items ∙ length_push c.pop.new.self.items c.in-Some.outer in
+    let now = c.scopes in
+    let outer = c.in-Some.outer in
+    let popped = c.in-Some.ensures.items in
+    let left = nested_pop c.pop.new.self.items now.ends.items now.end outer (length bytes) popped now.invariant.nested in
+    let shrunk : length now.ends.items ≡ length c.pop.new.self.items + 1 =
+    ap length popped ∙ length_push c.pop.new.self.items outer in
     record {
-      within = omega (arith, out.0);
-      nested = out.1;
-      inside = nested_low c.pop.new.self.items c.in-Some.outer (length bytes) out.1;
-      tried = c.scopes.invariant.tried;
+      within = omega (arith, left.0);
+      nested = left.1;
+      inside = nested_low c.pop.new.self.items outer (length bytes) left.1;
+      tried = now.invariant.tried;
       few = omega (arith, shrunk);
-      resumes = λ end r. c.scopes.invariant.resumes end (exits c.args.form bytes c.pop.new.self.items c.scopes.ends.items c.scopes.walk c.scopes.at c.scopes.end c.in-Some.outer end c.in-Some.ensures.items (omega arith) r);
+      resumes = λ result rest. now.invariant.resumes result (
+          exits form bytes c.pop.new.self.items now.ends.items now.walk now.at now.end outer result popped (omega arith) rest);
     }
 
+-- a fault ends the walk
 pub returns-in_err-scope-clause-walked : goal.returns-in_err-scope-clause-walked
 returns-in_err-scope-clause-walked c =
+    let form = c.args.form in
     let bytes = c.args.bytes.now in
-    let p = err_from_is_err_and c.from_residual.result c.from_residual.ensures.1 in
-    let tried : c.next_scope.new.tries ≡ c.scopes.tries + tries_in (region bytes c.scopes.at c.scopes.end) = c.next_scope.ensures.tried in
-    let told = stops_at c.args.form bytes c.scopes.ends.items c.scopes.walk c.scopes.at c.scopes.end c.next_scope.new.tries c.in_err-scope.field-0.0 c.in_err-scope.ensures.fault (omega (arith, tried)) c.scopes.invariant.resumes in
-    rw (p.1, p.2) told
+    let now = c.scopes in
+    let returned = err_from_is_err_and c.from_residual.result c.from_residual.ensures.1 in
+    let tried : c.next_scope.new.tries ≡ now.tries + tries_in (region bytes now.at now.end) = c.next_scope.ensures.tried in
+    let told =
+    stops_at form bytes now.ends.items now.walk now.at now.end c.next_scope.new.tries c.in_err-scope.field-0.0
+    c.in_err-scope.ensures.fault (omega (arith, tried)) now.invariant.resumes in
+    rw (returned.1, returned.2) told
 
+-- the walk is at the end of all bytes
 pub returns-in-None-clause-walked : goal.returns-in-None-clause-walked
 returns-in-None-clause-walked c =
+    let form = c.args.form in
     let bytes = c.args.bytes.now in
-    let nothing : c.scopes.ends.items ≡ [] = nil_from_length c.scopes.ends.items (omega (arith, c.in-None.ensures.cases)) in
-    let ended : c.scopes.end ≡ length bytes = subst (λ (xs : List ℕ). IsNested c.scopes.end (reverse xs) (length bytes)) nothing c.scopes.invariant.nested in
-    (whole c.args.form bytes no_scope_counted 0 (length bytes) _ (c.scopes.invariant.resumes _ (done c.args.form bytes c.scopes.ends.items c.scopes.walk c.scopes.at c.scopes.end nothing (omega arith))), c.scopes.invariant.tried)
+    let now = c.scopes in
+    let nothing : now.ends.items ≡ [] = nil_from_length now.ends.items (omega (arith, c.in-None.ensures.cases)) in
+    let ended : now.end ≡ length bytes =
+    subst (λ (any : List ℕ). IsNested now.end (reverse any) (length bytes)) nothing now.invariant.nested in
+    let from_here = done form bytes now.ends.items now.walk now.at now.end nothing (omega arith) in
+    (whole form bytes no_scope_counted 0 (length bytes) _ (now.invariant.resumes _ from_here), now.invariant.tried)

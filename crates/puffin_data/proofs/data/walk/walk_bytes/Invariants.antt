@@ -12,7 +12,8 @@ invariant-scopes l = record {
   tried : l.tries ≡ l.walk.num_scopes;
   few : 31 * l.walk.num_scopes ≤ l.at + 9 * length l.ends.items;
   -- whatever the walk comes to from here, it comes to from the beginning
-  resumes : (out : Result Walk Stop) → Resumes l.form l.bytes (reverse l.ends.items) l.walk l.at l.end out → Resumes l.form l.bytes [] no_scope_counted 0 (length l.bytes) out;
+  resumes : (out : Result Walk Stop) → Resumes l.form l.bytes (reverse l.ends.items) l.walk l.at l.end out
+      → Resumes l.form l.bytes [] no_scope_counted 0 (length l.bytes) out;
 }
 
 abbrev pub decreases-scopes : goal.decreases-scopes

@@ -6,7 +6,7 @@ use Rattle.puffin_data.proofs.lemmas.Readers.{none_begins}
 use Rattle.puffin_data.proofs.lemmas.ValueReaders.{word_reader}
 use Rattle.puffin_data.proofs.wire.front.u32_in.Goals as goal
 
-pub returns-else-n-lt4294967296-clause-reads : goal.returns-else-n-lt4294967296-clause-reads
-returns-else-n-lt4294967296-clause-reads c =
+pub returns-else-number-lt4294967296-clause-reads : goal.returns-else-number-lt4294967296-clause-reads
+returns-else-number-lt4294967296-clause-reads c =
     let none : u32_at c.args.bytes.now ≡ None = search rules in
     none_begins IsU32 number u32_at word_reader c.args.bytes.now none

@@ -16,7 +16,7 @@ whole Long text small =
     rw within refl
 
 size_of_whole : (form : Form) (text : List ℕ) → length text ≤ 127 → 14 + length text + 8 ≡ head_size form text
-size_of_whole form text small = omega (arith, ap (λ (group : List ℕ). length group) (one_group form (length text) small))
+size_of_whole form text small = omega (arith, ap (λ (any : List ℕ). length any) (one_group form (length text) small))
 
 pub returns-then-text-le-ONE_GROUP : goal.returns-then-text-le-ONE_GROUP
 returns-then-text-le-ONE_GROUP c =

@@ -8,4 +8,7 @@ returns-clause-cut c =
     let text = c.args.text.now in
     let found = c.floor_char_boundary-size in
     let from_start : found.result - 0 ≡ found.result = omega arith in
-    c.range.ensures.value ∙ ap (λ (n : ℕ). take n text) from_start ∙ cut_text-found c.args.self text found.result c.text_limit.result c.text_limit.ensures found.ensures.bound found.ensures.boundary found.ensures.nearest
+    c.range.ensures.value
+    ∙ ap (λ (any : ℕ). take any text) from_start
+    ∙ cut_text-found c.args.self text found.result c.text_limit.result c.text_limit.ensures found.ensures.bound found.ensures.boundary
+    found.ensures.nearest

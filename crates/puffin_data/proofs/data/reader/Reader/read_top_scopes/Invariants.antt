@@ -1,3 +1,4 @@
+-- The scopes so far are those that the reader gave.
 use Rattle.puffin_data.proofs.AllRead.{HasRead}
 use Rattle.puffin_data.proofs.data.reader.Reader.read_top_scopes.Given as goal
 

@@ -9,16 +9,19 @@ use Rattle.puffin_data.proofs.data.stream.Stream.end_within.Goals as goal
 
 pub returns-clause-size : goal.returns-clause-size
 returns-clause-size c =
-    let s = c.self.inside in
-    c.size_at-size.ensures ∙ ap (λ (xs : List ℕ). little_number 8 (drop c.args.offset xs)) c.deref_mut.ensures.value
-    ∙ sym (number_before s.block.items c.args.offset s.len (search rules) (search rules)) ∙ ap (λ (h : StreamState). little_number 8 (drop c.args.offset h.bytes)) c.self.view_is
+    let stream = c.self.inside in
+    c.size_at-size.ensures ∙ ap (λ (any : List ℕ). little_number 8 (drop c.args.offset any)) c.deref_mut.ensures.value
+    ∙ sym (number_before stream.block.items c.args.offset stream.len (search rules) (search rules))
+    ∙ ap (λ (state : StreamState). little_number 8 (drop c.args.offset state.bytes)) c.self.view_is
 
 pub returns-clause-ended : goal.returns-clause-ended
 unfolding end_bytes
 returns-clause-ended c =
-    let s = c.self.inside in
+    let stream = c.self.inside in
     let word = c.copy_from_slice.ensures.after ∙ c.size_word.ensures in
     let back = c.copy_from_slice-2.ensures.after ∙ c.back.ensures in
-    let stop = ap (λ (t : ℤ). 41 ∷ time_bytes t) (to_z-of_z w64 c.args.stop_ns c.ranges.stop_ns) in
-    ended s.block.items c.deref_mut.result.now c.copy_from_slice.new.self c.copy_from_slice-2.new.self _ c.args.self.now.bytes c.args.offset s.len s.block.len c.args.stop_ns
-    c.deref_mut.ensures.value word (back ∙ stop) (ap length back) (search rules) (search rules) (search rules) (sym (ap (λ (h : StreamState). h.bytes) c.self.view_is))
+    let stop = ap (λ (any : ℤ). 41 ∷ time_bytes any) (to_z-of_z w64 c.args.stop_ns c.ranges.stop_ns) in
+    ended stream.block.items c.deref_mut.result.now c.copy_from_slice.new.self c.copy_from_slice-2.new.self _ c.args.self.now.bytes
+    c.args.offset stream.len stream.block.len c.args.stop_ns
+    c.deref_mut.ensures.value word (back ∙ stop) (ap length back) (search rules) (search rules) (search rules)
+    (sym (ap (λ (state : StreamState). state.bytes) c.self.view_is))
