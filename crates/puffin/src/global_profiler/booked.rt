@@ -1,4 +1,6 @@
 //! The value that a shared profiler's lock protects.
+//!
+//! The clause `requires boxed_sinks { ⊤ }` asks nothing; the head of the module above says why it is there.
 ghost use Rattle.std.specs.Prelude.{◌≡◌, ◌+◌, ◌≤◌, ◌↔◌, [], vec_len, Some, OnOk, OnErr, IfOk, IfErr, IsTrue, IsFalse, ⊤};
 ghost use Rattle.std.specs.FinMap as map;
 ghost use Rattle.std.specs.Arc.{arc_value};

@@ -1,4 +1,6 @@
 //! A view of a shared profiler's frames.
+//!
+//! The clause `requires boxed_sinks { ⊤ }` asks nothing; the head of the module above says why it is there.
 ghost use Rattle.std.specs.Prelude.{◌≡◌, IfErr, ⊤};
 ghost use Rattle.puffin.specs.Reporters.{sink_id_of};
 ghost use Rattle.puffin.specs.SharedCauses.{IsSinkCause};

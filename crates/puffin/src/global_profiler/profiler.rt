@@ -1,4 +1,6 @@
 //! A profiler that threads report to.
+//!
+//! The clause `requires boxed_sinks { ⊤ }` asks nothing; the head of the module above says why it is there.
 ghost use Rattle.std.specs.Prelude.{◌≡◌, ◌↔◌, [], OnOk, OnErr, IfErr, ⊤, IsTrue};
 ghost use Rattle.std.specs.List.{list_any};
 ghost use Rattle.std.specs.Arc.{arc_value};

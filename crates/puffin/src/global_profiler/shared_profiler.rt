@@ -1,4 +1,6 @@
 //! A profiler that several threads share.
+//!
+//! The clause `requires boxed_sinks { ⊤ }` asks nothing; the head of the module above says why it is there.
 ghost use Rattle.std.specs.Prelude.{◌≡◌, ◌+◌, ◌<◌, ◌≤◌, ◌^◌, ◌↔◌, length, vec_len, All, OnOk, OnErr, IfOk, IfErr, ⊤, IsOkUnless, IsTrue};
 ghost use Rattle.std.specs.FinMap as map;
 ghost use Rattle.std.specs.List.{list_any};

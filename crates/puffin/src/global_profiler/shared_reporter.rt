@@ -1,4 +1,6 @@
 //! A thread's reporter to a shared profiler.
+//!
+//! The clause `requires boxed_sinks { ⊤ }` asks nothing; the head of the module above says why it is there.
 ghost use Rattle.std.specs.Prelude.{◌≡◌, ◌+◌, ◌≤◌, ℤ, pos, ◌≤ℤ◌, OnErr, IfOk, ⊤};
 ghost use Rattle.puffin_data.specs.declared.error.Error.{Error};
 ghost use Rattle.puffin_threads.specs.Thread.Closing.{EndsInnermost, Closes, Reports};
