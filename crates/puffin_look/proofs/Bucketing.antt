@@ -1,4 +1,7 @@
 -- Buckets of durations: what they contain, and how wide they are.
+--
+-- `bucket_in n` and `last_in n` halve a duration, or a bucket, at most `n` times. With as many steps as the number itself there are always
+-- enough of them, so the number of steps doesn't matter (`steady`, `last_steady`), and each fact goes by the halvings.
 use Rattle.std.proofs.Common.{◌≡◌, ℕ, zero, suc, ◌+◌, ◌-◌, ◌*◌, ◌/◌, ◌^◌, ◌<◌, ◌≤◌, inl, inr, refl, sym, ap, ◌∙◌, arith}
 use Rattle.std.specs.Prelude.{nat_lt}
 use Rattle.std.proofs.lemmas.Bool.{cases_lt, lt-ltb, le-ltb, cond-true, cond-false}
@@ -7,13 +10,16 @@ use Rattle.puffin_look.specs.Buckets.{bucket_in, bucket_of, last_in, last_of}
 
 -- ---- how often it is halved
 
+-- a short duration is its own bucket
 small_in : (n time : ℕ) → time < 256 → bucket_in n time ≡ time
 small_in zero time h = refl
 small_in (suc n) time h = cond-true (nat_lt time 256) time (128 + bucket_in n (time / 2)) (lt-ltb time 256 h)
 
+-- a longer one is in a bucket 128 above that of its half
 halved_in : (n time : ℕ) → 256 ≤ time → bucket_in (suc n) time ≡ 128 + bucket_in n (time / 2)
 halved_in n time h = cond-false (nat_lt time 256) time (128 + bucket_in n (time / 2)) (le-ltb time 256 h)
 
+-- more steps than the duration change nothing
 steady : (n m time : ℕ) → time ≤ n → time ≤ m → bucket_in n time ≡ bucket_in m time
 steady zero m time a b = sym (small_in m time (omega arith))
 steady (suc n) zero time a b = small_in (suc n) time (omega arith)
@@ -23,6 +29,7 @@ steady (suc n) (suc m) time a b = elim (cases_lt time 256) [
       ∙ sym (halved_in m time large)
 ]
 
+-- the same of `bucket_of`, which takes enough steps
 pub bucket_small : (time : ℕ) → time < 256 → bucket_of time ≡ time
 bucket_small time h = small_in time time h
 
@@ -35,13 +42,16 @@ bucket_halved (suc n) h = halved_by n (suc n) refl h
 
 -- ---- the last of a bucket
 
+-- a low bucket has one duration
 last_small_in : (n bucket : ℕ) → bucket < 256 → last_in n bucket ≡ bucket
 last_small_in zero bucket h = refl
 last_small_in (suc n) bucket h = cond-true (nat_lt bucket 256) bucket (cut (cut (last_in n (bucket - 128) * 2) + 1)) (lt-ltb bucket 256 h)
 
+-- the last duration of a higher one is twice that of the bucket 128 below, and one more
 doubled_in : (n bucket : ℕ) → 256 ≤ bucket → last_in (suc n) bucket ≡ cut (cut (last_in n (bucket - 128) * 2) + 1)
 doubled_in n bucket h = cond-false (nat_lt bucket 256) bucket (cut (cut (last_in n (bucket - 128) * 2) + 1)) (le-ltb bucket 256 h)
 
+-- more steps than the bucket change nothing
 last_steady : (n m bucket : ℕ) → bucket ≤ n → bucket ≤ m → last_in n bucket ≡ last_in m bucket
 last_steady zero m bucket a b = sym (last_small_in m bucket (omega arith))
 last_steady (suc n) zero bucket a b = last_small_in (suc n) bucket (omega arith)
@@ -52,6 +62,7 @@ last_steady (suc n) (suc m) bucket a b = elim (cases_lt bucket 256) [
       ∙ sym (doubled_in m bucket large)
 ]
 
+-- the same of `last_of`, which takes enough steps
 pub last_small : (bucket : ℕ) → bucket < 256 → last_of bucket ≡ bucket
 last_small bucket h = last_small_in bucket bucket h
 
@@ -74,6 +85,7 @@ below_in (suc n) time = elim (cases_lt time 256) [
 pub bucket_below : (time : ℕ) → bucket_of time ≤ time
 bucket_below time = below_in time time
 
+-- a duration from 128 on is in no lower bucket
 not_low_in : (n time : ℕ) → 128 ≤ time → 128 ≤ bucket_in n time
 not_low_in zero time h = h
 not_low_in (suc n) time h = elim (cases_lt time 256) [
@@ -81,6 +93,7 @@ not_low_in (suc n) time h = elim (cases_lt time 256) [
   | inr large ↦ omega (arith, halved_in n time large)
 ]
 
+-- in as many steps
 rises_in : (n s t : ℕ) → t ≤ n → s ≤ t → bucket_in n s ≤ bucket_in n t
 rises_in zero s t a b = b
 rises_in (suc n) s t a b = elim (cases_lt t 256) [
@@ -97,19 +110,19 @@ bucket_rises s t h = omega (arith, steady s t s (omega arith) h, rises_in t s t 
 
 -- ---- how far the last of a bucket is from a duration in it
 
--- ---- how far the last of a bucket is from a duration in it
-
 -- the last of a bucket is not before a duration in it, and less than a 128th behind it
 pub record IsNear (time last : ℕ) : Type 0 where
   pub reached : time ≤ last
   pub near : 128 ≤ time → (last - time + 1) * 128 ≤ time
   pub exact : time < 256 → last ≡ time
 
+-- a low bucket has one duration
 near_small : (time : ℕ) → time < 256 → IsNear time (last_of (bucket_of time))
 near_small time small =
     let same : last_of (bucket_of time) ≡ time = ap last_of (bucket_small time small) ∙ last_small time small in
     record { reached = omega (arith, same); near = λ h. omega (arith, same); exact = λ h. same }
 
+-- what holds of the half holds of the whole
 stepped : (time half last double : ℕ) → half ≡ time / 2 → 256 ≤ time → time < 2 ^ 64 → IsNear half last
     → double ≡ cut (cut (last * 2) + 1) → IsNear time double
 stepped time half last double is large fits h same =
@@ -117,6 +130,7 @@ stepped time half last double is large fits h same =
     let on : half ≤ last = h.reached in
     record { reached = omega arith; near = λ g. omega arith; exact = λ g. absurd (omega arith) }
 
+-- one halving less
 near_step : (time : ℕ) → 256 ≤ time → time < 2 ^ 64 → IsNear (time / 2) (last_of (bucket_of (time / 2)))
     → IsNear time (last_of (bucket_of time))
 near_step time large fits h =
@@ -132,5 +146,6 @@ near_in (suc n) time a fits = elim (cases_lt time 256) [
   | inr large ↦ near_step time large fits (near_in n (time / 2) (omega arith) (omega arith))
 ]
 
+-- each duration fits 64 bits
 pub last_is_near : (time : ℕ) → time < 2 ^ 64 → IsNear time (last_of (bucket_of time))
 last_is_near time fits = near_in time time (omega arith) fits

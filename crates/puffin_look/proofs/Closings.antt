@@ -1,4 +1,7 @@
 -- What is written of a list that has an end of its own.
+--
+-- Behind the text of the frames, `text old ++ more`, the end is written, `finish`: also where a fault stops the list, but not if the
+-- reader, the writer or memory failed before. So what was written is all of it, or a prefix. `mid` is what the writer has before the end.
 use Rattle.std.proofs.Common.{◌≡◌, ◌⊎◌, ℕ, ◌+◌, true, false, List, [], ◌++◌, Option, Result, Ok, Err, inl, inr, refl, ap, subst, sym, ◌∙◌, append_assoc, append-nil}
 use Rattle.std.specs.Prelude.{OnOk, OnErr, IfErr}
 use Rattle.std.specs.Io.KnownBytes.{Appends}
@@ -44,18 +47,21 @@ module _ (IsText : List OpenFrame → List ℕ → Type 0) (Refuses : List OpenF
     outcome = inr (inr ((fails, refl), Appends-nil before));
   }
 
+-- a prefix of a text is one of a longer text
 begins_longer : (before after : Option (List ℕ)) (t more : List ℕ) → WritesBeginning before after t
     → WritesBeginning before after (t ++ more)
-begins_longer before after t more h = (h.0, h.1 ++ more, ap (λ (x : List ℕ). x ++ more) h.2 ∙ append_assoc h.0 h.1 more, h.3)
+begins_longer before after t more (front, rest, is, written) =
+    (front, rest ++ more, ap (λ (x : List ℕ). x ++ more) is ∙ append_assoc front rest more, written)
 
+-- all of a text and a prefix of the next are a prefix of both
 begins_behind : (before mid after : Option (List ℕ)) (t more : List ℕ) → Appends before mid t → WritesBeginning mid after more
     → WritesBeginning before after (t ++ more)
-begins_behind before mid after t more first part = (
-  t ++ part.0,
-  part.1,
-  ap (λ (x : List ℕ). t ++ x) part.2
-      ∙ sym (append_assoc t part.0 part.1),
-  Appends-trans before mid after t part.0 first part.3,
+begins_behind before mid after t more first (front, rest, is, written) = (
+  t ++ front,
+  rest,
+  ap (λ (x : List ℕ). t ++ x) is
+      ∙ sym (append_assoc t front rest),
+  Appends-trans before mid after t front first written,
 )
 
 module _ {L : Type 0} (text : L → List ℕ) (takes : L → List OpenFrame → List ℕ → L → Type 0)
@@ -67,6 +73,7 @@ module _ {L : Type 0} (text : L → List ℕ) (takes : L → List OpenFrame → 
     → takes old (frames_within indices frames) more v → is_within indices frame.meta.frame_index ≡ true
     → refuses v frame cause → Refuses frames frame cause)
     (unread left before mid after : Option (List ℕ)) where
+  -- all frames were listed, and the end was written
   pub list_printed : ListsAll text takes indices old new unread left before mid → Appends mid after finish
       → IsPrinted IsText unread left before after
   list_printed h app = record {
@@ -93,12 +100,14 @@ module _ {L : Type 0} (text : L → List ℕ) (takes : L → List OpenFrame → 
   }
 
   module _ (e : FileError) (h : StopsBehind text takes refuses indices old new unread left before mid e) where
+    -- what was written before the end
     told : (IsOutside e × WritesBeginning before mid (text old ++ h.more))
         ⊎ (Appends before mid (text old ++ h.more) × HasFaultBehind Refuses unread left h.stored h.listed.frames e)
     told =
         told_behind text takes indices refuses
         (λ frames t. IsText frames (t ++ finish)) Refuses old new unread left before mid e closed refused h
 
+    -- what was written with the end, or with a prefix of it
     stopped_by : (fault : FileError)
         → ((IsOutside fault × WritesBeginning before after ((text old ++ h.more) ++ finish))
         ⊎ (Appends before after ((text old ++ h.more) ++ finish)
@@ -120,35 +129,39 @@ module _ {L : Type 0} (text : L → List ℕ) (takes : L → List OpenFrame → 
     -- the reader, the writer or memory failed, and no end was written
     pub list_open : mid ≡ after → fails_outside {X = Unit {0}} (Err e) ≡ true → IsStopped IsText Refuses unread left before after e
     list_open still loud = stopped_by e (elim told [
-      | inl outside ↦ inl (
-        outside.0,
+      | inl (outside, part) ↦ inl (
+        outside,
         subst (λ (d : Option (List ℕ)). WritesBeginning before d ((text old ++ h.more) ++ finish)) still
-            (begins_longer before mid (text old ++ h.more) finish outside.1),
+            (begins_longer before mid (text old ++ h.more) finish part),
       )
-      | inr behind ↦ inl (
+      | inr (written, fault) ↦ inl (
         outside_of e loud,
         subst (λ (d : Option (List ℕ)). WritesBeginning before d ((text old ++ h.more) ++ finish)) still
             (begins_longer before mid (text old ++ h.more) finish
-            (text old ++ h.more, [], sym (append-nil (text old ++ h.more)), behind.0)),
+            (text old ++ h.more, [], sym (append-nil (text old ++ h.more)), written)),
       )
     ])
 
     module _ (quiet : fails_outside {X = Unit {0}} (Err e) ≡ false) where
+      -- all frames before the fault were written
       behind_frames : Appends before mid (text old ++ h.more) × HasFaultBehind Refuses unread left h.stored h.listed.frames e
       behind_frames = elim told [
-        | inl outside ↦ absurd (not_outside e quiet outside.0)
+        | inl (outside, part) ↦ absurd (not_outside e quiet outside)
         | inr behind ↦ behind
       ]
 
       -- the fault is behind the frames, and the end was written
       pub list_closed : Appends mid after finish → IsStopped IsText Refuses unread left before after e
-      list_closed app = stopped_by e (inr (Appends-trans before mid after (text old ++ h.more) finish behind_frames.0 app, behind_frames.1))
+      list_closed app =
+          let (written, has_fault) = behind_frames in
+          stopped_by e (inr (Appends-trans before mid after (text old ++ h.more) finish written app, has_fault))
 
       -- and the end was cut off
       pub fault_cut : (fault : FileError) → fault ≡ file.Io → WritesBeginning mid after finish
           → IsStopped IsText Refuses unread left before after fault
       fault_cut fault io part =
-          stopped_by fault (inl (inl io, begins_behind before mid after (text old ++ h.more) finish behind_frames.0 part))
+          let (written, has_fault) = behind_frames in
+          stopped_by fault (inl (inl io, begins_behind before mid after (text old ++ h.more) finish written part))
 
   -- what a listing of frames ends with
   abbrev pub Ends : Result (Unit {0}) FileError → Type 0
@@ -156,31 +169,35 @@ module _ {L : Type 0} (text : L → List ℕ) (takes : L → List OpenFrame → 
       OnOk r (ListsAll text takes indices old new unread left before mid) × IfErr r
       (StopsBehind text takes refuses indices old new unread left before mid)
 
+  -- no end was written
   pub told_open : (r : Result (Unit {0}) FileError) → mid ≡ after → fails_outside r ≡ true → Ends r
       → IfErr r (IsStopped IsText Refuses unread left before after)
-  told_open (Ok x) still loud s = tt
-  told_open (Err e) still loud s = list_open e s.1 still loud
+  told_open (Ok x) still loud ending = tt
+  told_open (Err e) still loud (lists, stops) = list_open e stops still loud
 
+  -- the end was written behind the frames before a fault
   pub told_closed : (r : Result (Unit {0}) FileError) → fails_outside r ≡ false → Ends r → Appends mid after finish
       → IfErr r (IsStopped IsText Refuses unread left before after)
-  told_closed (Ok x) quiet s app = tt
-  told_closed (Err e) quiet s app = list_closed e s.1 quiet app
+  told_closed (Ok x) quiet ending app = tt
+  told_closed (Err e) quiet (lists, stops) app = list_closed e stops quiet app
 
+  -- or behind all frames
   pub told_printed : (r : Result (Unit {0}) FileError) → Ends r → Appends mid after finish
       → OnOk r (IsPrinted IsText unread left before after)
-  told_printed (Ok x) s app = list_printed s.0 app
-  told_printed (Err e) s app = tt
+  told_printed (Ok x) (lists, stops) app = list_printed lists app
+  told_printed (Err e) ending app = tt
 
+  -- writing the end failed
   pub end_cut : (r : Result (Unit {0}) FileError) (fault : FileError) → fails_outside r ≡ false → Ends r → fault ≡ file.Io
       → WritesBeginning mid after finish → IsStopped IsText Refuses unread left before after fault
-  end_cut (Ok x) fault quiet s io part = all_cut fault s.0 io part
-  end_cut (Err e) fault quiet s io part = fault_cut e s.1 quiet fault io part
+  end_cut (Ok x) fault quiet (lists, stops) io part = all_cut fault lists io part
+  end_cut (Err e) fault quiet (lists, stops) io part = fault_cut e stops quiet fault io part
 
 -- what a write that failed leaves
 pub cut_told : {T W : Type 0} (X Q : FileError → Type 0) (r : Result T FileError) → ((e : FileError) → e ≡ file.Io → W → Q e)
     → OnErr r W → IfErr r (λ e. (e ≡ file.Io) × X e) → IfErr r Q
 cut_told X Q (Ok x) step part io = tt
-cut_told X Q (Err e) step part io = step e io.0 part
+cut_told X Q (Err e) step part (is_io, why) = step e is_io part
 
 -- The write of the end failed, and no read or write did before it.
 pub end_failed : {Read Nothing : Type 0} (r : Result (Unit {0}) FileError) (before mid after : ℕ) → fails_outside r ≡ false

@@ -24,13 +24,16 @@ overview_more old new frame stored fresh is step =
     step ∙ (λ i. with_fields (is i) (said_fresh frame fresh i)) ∙ sym (fold-append with_stored no_overview stored (stored_of frame ∷ []))
 
 module _ (unread left : Option (List ℕ)) (o : Overview) where
+  -- the file doesn't begin with its letters, so no frame was read
   pub not_begun : (e : FileError) → o ≡ no_overview → FailsToRead file_at unread left e → IsOverview unread left o
   not_begun e none fails = record { stored = []; begins = inl refl; end = inr (inr (e, (fails, refl))); sums_up = none }
 
   module _ (now : Option (List ℕ)) (stored : List Stored) (given : HasGiven unread now stored) (is : o ≡ overview_of stored) where
+    -- the next frame can't be read
     pub stops_at : (e : FileError) → FailsAt e now left frame_at → IsOverview unread left o
     stops_at e fails = record { stored = stored; begins = inr (now, given); end = inr (inl (e, (now, given, inl fails))); sums_up = is }
 
+    -- there are too many frames
     pub too_many : 2 ^ 64 - 1 ≤ length stored → IsOverview unread left o
     too_many full =
         record {

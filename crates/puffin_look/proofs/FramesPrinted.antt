@@ -13,6 +13,7 @@ use Rattle.std.specs.Prelude.{false}
 abbrev pub text_in : FrameList → List ℕ
 text_in v = v.lines.text.items
 
+-- the text of the frames and the end are the list
 pub closed : (form : Form) (indices : Option Indices) (old : FrameList) (finish : List ℕ) → finish ≡ closing form
     → IsEmptyList form old → (frames : List OpenFrame) (more : List ℕ) (v : FrameList)
     → TakesFrames old (frames_within indices frames) more v → IsFrameList form indices frames ((text_in old ++ more) ++ finish)

@@ -1,4 +1,7 @@
 -- The steps of the heaviest path, one after the other.
+--
+-- `step_lines` goes down by at most `n` steps, so as many as there are paths. The code goes by levels: its invariant says that the lines
+-- so far and those of the steps that are left give the lines of all steps (`so_far`).
 use Rattle.std.proofs.Common.{◌≡◌, ℕ, zero, suc, Bool, true, false, List, [], ◌∷◌, ◌++◌, length, codes, Option, Some, None, refl, sym, ap, subst, ◌∙◌}
 use Rattle.std.specs.Prelude.{fold, if◌then◌else◌}
 use Rattle.puffin_look.specs.Heavy.{Row, Step, heavier, heaviest, is_followed, step_line, lines_with, step_lines}
@@ -9,6 +12,7 @@ use Rattle.puffin_look.specs.inner.Stacks.{Held, row_of, rows_in}
 use Rattle.puffin_look.proofs.Lined.{Lists, lists_more, lists_done}
 
 module _ (form : Form) (rows : List Row) (level : ℕ) (front : List ℕ) (outer : ℕ) where
+  -- the lines of a step, and of at most `n` below it
   abbrev follow : ℕ → Step → List (List ℕ)
   follow n step = step_line form level (length front) step outer ∷ step_lines form n rows (suc level) (step.0 ++ codes ";") step.1
 
@@ -20,15 +24,17 @@ module _ (form : Form) (rows : List Row) (level : ℕ) (front : List ℕ) (outer
   -- nothing below takes half of it
   pub steps_end : (n : ℕ) (step : Step) → heaviest front rows ≡ Some step → is_followed level step.1 outer ≡ false
       → step_lines form n rows level front outer ≡ []
-  steps_end zero step is not = refl
-  steps_end (suc n) step is not = ap (lines_with (follow n) level outer) is ∙ ap (λ (b : Bool). if b then follow n step else []) not
+  steps_end zero step is less = refl
+  steps_end (suc n) step is less = ap (lines_with (follow n) level outer) is ∙ ap (λ (b : Bool). if b then follow n step else []) less
 
+  -- the next step takes half of it, or is the first
   steps_more : (n : ℕ) (step : Step) → heaviest front rows ≡ Some step → is_followed level step.1 outer ≡ true
       → step_lines form (suc n) rows level front outer ≡ follow n step
   steps_more n step is half = ap (lines_with (follow n) level outer) is ∙ ap (λ (b : Bool). if b then follow n step else []) half
 
 -- ---- the best of the paths so far
 
+-- one path more
 pub best_more : (front : List ℕ) (best new : Option Step) (e : Held) (rest it : List Held) (total : Option Step) → it ≡ e ∷ rest
     → new ≡ heavier front best (row_of e) → fold (heavier front) best (rows_in it) ≡ total
     → fold (heavier front) new (rows_in rest) ≡ total
@@ -36,6 +42,7 @@ best_more front best new e rest it total left is so_far =
     ap (λ (b : Option Step). fold (heavier front) b (rows_in rest)) is
     ∙ ap (λ (es : List Held). fold (heavier front) best (rows_in es)) (sym left) ∙ so_far
 
+-- no path is left
 pub best_done : (front : List ℕ) (best : Option Step) (it : List Held) (total : Option Step) → it ≡ []
     → fold (heavier front) best (rows_in it) ≡ total → best ≡ total
 best_done front best it total none so_far = ap (λ (es : List Held). fold (heavier front) best (rows_in es)) (sym none) ∙ so_far
@@ -44,6 +51,7 @@ best_done front best it total none so_far = ap (λ (es : List Held). fold (heavi
 
 module _ (form : Form) (rows : List Row) (level : ℕ) (front : List ℕ) (outer n : ℕ) (before : Lines) (total : List ℕ)
     (so_far : Lists before (step_lines form n rows level front outer) total) where
+  -- the next step was added
   pub step_taken : (m inner : ℕ) (step : Step) (after : Lines) (new : List ℕ) → n ≡ suc m → inner ≡ suc level
       → heaviest front rows ≡ Some step → is_followed level step.1 outer ≡ true
       → Adds before after (step_line form level (length front) step outer) → new ≡ step.0 ++ codes ";"

@@ -1,10 +1,15 @@
 -- What is written of numbers are numbers of JSON.
+--
+-- JSON's `after_number` takes a text part by part: a minus, the whole part, the fraction behind the point, and the exponent. A decimal
+-- number begins with no needless zero, so `after_whole` takes exactly its digits. The digits behind the point are the last bytes of
+-- the text, so nothing is left.
 use Rattle.std.proofs.Common.{◌≡◌, ℕ, zero, suc, ◌+◌, ◌/◌, ◌%◌, ℤ, pos, negsuc, Bool, subst, ◌^◌, ◌<◌, ◌≤◌, true, false, cond, ◌==◌, List, [], ◌∷◌, ◌++◌, length, drop, get_or, Some, option_and_then, None, decimal, refl, ap, ap₂, sym, ◌∙◌, arith}
 use Rattle.std.proofs.lemmas.Bool.{ne_eqb, le-leb, and_from}
 use Rattle.std.proofs.lemmas.Fmt.{decimal_is_IsNumeral, decimal_digit, first_decimal}
 use Rattle.std.proofs.lemmas.Str.Parse.{digit_at}
 use Rattle.std.specs.List.{prefix_len}
 use Rattle.std.specs.Char.{is_ascii_digit}
+use Rattle.json.specs.Ascii as ascii
 use Rattle.json.specs.Word.{head, after_digits, after_whole, after_fraction, after_exponent, after_number}
 use Rattle.json.specs.Print.{IsNumber}
 use Rattle.puffin_look.specs.Objects.{minus, tenths, hundredths}
@@ -12,88 +17,121 @@ use Rattle.json.proofs.Printed.Decimals.{IsNumber-decimal, IsNumber-signed_decim
 use Rattle.std.specs.Prelude.{unsigned_abs}
 use Rattle.std.specs.Fmt.{signed_decimal}
 
-is_digit : (x : ℕ) → 48 ≤ x → x ≤ 57 → is_ascii_digit x ≡ true
-is_digit x l h = and_from _ _ (le-leb 48 x l) (le-leb x 57 h)
+-- the byte of the digit 9, the last one
+abbrev nine : ℕ
+nine = 57
 
-digits_before : (ds rest : List ℕ) → ((i : ℕ) → i < length ds → (48 ≤ get_or ds i 0) × (get_or ds i 0 ≤ 57))
-    → prefix_len is_ascii_digit rest ≡ 0 → prefix_len is_ascii_digit (ds ++ rest) ≡ length ds
-digits_before [] rest h none = none
-digits_before (d ∷ ds) rest h none =
-    let first = h 0 (omega arith) in
-    let more = digits_before ds rest (λ i l. h (suc i) (omega arith)) none in
-    ap (λ b. cond b (1 + prefix_len is_ascii_digit (ds ++ rest)) 0) (is_digit d first.0 first.1) ∙ omega arith
+-- a byte from `0` to `9` is a digit
+is_digit : (byte : ℕ) → ascii.zero ≤ byte → byte ≤ nine → is_ascii_digit byte ≡ true
+is_digit byte from to = and_from _ _ (le-leb ascii.zero byte from) (le-leb byte nine to)
 
-drop_front : (ds rest : List ℕ) → drop (length ds) (ds ++ rest) ≡ rest
+-- digits are all that a text begins with, if what follows them begins with no digit
+digits_before : (digits rest : List ℕ)
+    → ((i : ℕ) → i < length digits → (ascii.zero ≤ get_or digits i 0) × (get_or digits i 0 ≤ nine))
+    → prefix_len is_ascii_digit rest ≡ 0 → prefix_len is_ascii_digit (digits ++ rest) ≡ length digits
+digits_before [] rest bounds none = none
+digits_before (first ∷ digits) rest bounds none =
+    let (from, to) = bounds 0 (omega arith) in
+    let more = digits_before digits rest (λ i within. bounds (suc i) (omega arith)) none in
+    ap (λ is. cond is (1 + prefix_len is_ascii_digit (digits ++ rest)) 0) (is_digit first from to) ∙ omega arith
+
+-- what is behind digits is left when as many bytes are dropped
+drop_front : (digits rest : List ℕ) → drop (length digits) (digits ++ rest) ≡ rest
 drop_front [] rest = refl
-drop_front (d ∷ ds) rest = drop_front ds rest
+drop_front (first ∷ digits) rest = drop_front digits rest
 
-whole_before : (ds rest : List ℕ) → 48 < get_or ds 0 0 → prefix_len is_ascii_digit (ds ++ rest) ≡ length ds
-    → (after_whole (ds ++ rest) ≡ Some rest) × ((head (ds ++ rest) == 45) ≡ false)
-whole_before [] rest first all = absurd (omega arith)
-whole_before (d ∷ ds) rest first all = (
-  rw (ne_eqb d 48 (λ e. omega arith), all, ne_eqb (suc (length ds)) 0 (λ e. omega arith)) (ap Some (drop_front ds rest)),
-  ne_eqb d 45 (λ e. omega arith),
-)
+-- digits without a zero in front are a whole part
+whole_before : (digits rest : List ℕ) → ascii.zero < get_or digits 0 0
+    → prefix_len is_ascii_digit (digits ++ rest) ≡ length digits → after_whole (digits ++ rest) ≡ Some rest
+whole_before [] rest above all = absurd (omega arith)
+whole_before (first ∷ digits) rest above all =
+    rw (ne_eqb first ascii.zero (λ e. omega arith), all, ne_eqb (suc (length digits)) 0 (λ e. omega arith))
+    (ap Some (drop_front digits rest))
 
-decimal_before : (n : ℕ) (rest : List ℕ) → n < 2 ^ 64 → prefix_len is_ascii_digit rest ≡ 0
-    → (after_whole (decimal n ++ rest) ≡ Some rest) × ((head (decimal n ++ rest) == 45) ≡ false)
-decimal_before zero rest h none =
-    let e = decimal_digit 0 (omega arith) in (ap (λ l. after_whole (l ++ rest)) e, ap (λ l. head (l ++ rest) == 45) e)
-decimal_before (suc n) rest h none =
-    let numeral = (decimal_is_IsNumeral (suc n) h).0 in
-    whole_before (decimal (suc n)) rest (first_decimal (suc n) (omega arith) h)
-    (digits_before _ rest (λ i l. digit_at _ i numeral.1 l) none)
+-- digits don't begin with a minus
+no_minus_before : (digits rest : List ℕ) → ascii.zero < get_or digits 0 0 → (head (digits ++ rest) == ascii.minus) ≡ false
+no_minus_before [] rest above = absurd (omega arith)
+no_minus_before (first ∷ digits) rest above = ne_eqb first ascii.minus (λ e. omega arith)
+
+-- a decimal number is a whole part
+decimal_whole : (n : ℕ) (rest : List ℕ) → n < 2 ^ 64 → prefix_len is_ascii_digit rest ≡ 0
+    → after_whole (decimal n ++ rest) ≡ Some rest
+decimal_whole zero rest small none = ap (λ digits. after_whole (digits ++ rest)) (decimal_digit 0 (omega arith))
+decimal_whole (suc n) rest small none =
+    let ((not_empty, are_digits), value) = decimal_is_IsNumeral (suc n) small in
+    whole_before (decimal (suc n)) rest (first_decimal (suc n) (omega arith) small)
+    (digits_before _ rest (λ i within. digit_at _ i are_digits within) none)
+
+-- a decimal number begins with no minus
+decimal_no_minus : (n : ℕ) (rest : List ℕ) → n < 2 ^ 64 → (head (decimal n ++ rest) == ascii.minus) ≡ false
+decimal_no_minus zero rest small = ap (λ digits. head (digits ++ rest) == ascii.minus) (decimal_digit 0 (omega arith))
+decimal_no_minus (suc n) rest small = no_minus_before (decimal (suc n)) rest (first_decimal (suc n) (omega arith) small)
 
 -- a byte of a digit
 abbrev digit : ℕ → ℕ
-digit n = 48 + n
+digit n = ascii.zero + n
 
+-- it is found to be one
 digit_is : (n : ℕ) → n < 10 → is_ascii_digit (digit n) ≡ true
-digit_is n h = is_digit (digit n) (omega arith) (omega arith)
+digit_is n small = is_digit (digit n) (omega arith) (omega arith)
 
-after_one : (x : ℕ) → is_ascii_digit x ≡ true → after_digits (x ∷ []) ≡ Some []
-after_one x h = ap (λ b. cond (cond b (1 + 0) 0 == 0) None (Some (drop (cond b (1 + 0) 0) (x ∷ [])))) h
+-- one digit at the end of a text leaves nothing
+after_one : (byte : ℕ) → is_ascii_digit byte ≡ true → after_digits (byte ∷ []) ≡ Some []
+after_one byte byte_is = ap (λ b. cond (cond b (1 + 0) 0 == 0) None (Some (drop (cond b (1 + 0) 0) (byte ∷ [])))) byte_is
 
-after_two : (x y : ℕ) → is_ascii_digit x ≡ true → is_ascii_digit y ≡ true → after_digits (x ∷ y ∷ []) ≡ Some []
-after_two x y h k =
-    ap₂ (λ b c. cond (cond b (1 + cond c (1 + 0) 0) 0 == 0) None (Some (drop (cond b (1 + cond c (1 + 0) 0) 0) (x ∷ y ∷ [])))) h k
+-- nor do two
+after_two : (first second : ℕ) → is_ascii_digit first ≡ true → is_ascii_digit second ≡ true
+    → after_digits (first ∷ second ∷ []) ≡ Some []
+after_two first second first_is second_is =
+    ap₂ (λ b c. cond (cond b (1 + cond c (1 + 0) 0) 0 == 0) None
+    (Some (drop (cond b (1 + cond c (1 + 0) 0) 0) (first ∷ second ∷ [])))) first_is second_is
 
-fraction_number : (n : ℕ) (ds : List ℕ) → n < 2 ^ 64 → after_digits ds ≡ Some [] → IsNumber (decimal n ++ 46 ∷ ds)
+-- a decimal number, a point and digits are a number
+fraction_number : (n : ℕ) (digits : List ℕ) → n < 2 ^ 64 → after_digits digits ≡ Some []
+    → IsNumber (decimal n ++ ascii.dot ∷ digits)
 unfolding after_number
-fraction_number n ds h all =
-    let w = decimal_before n (46 ∷ ds) h refl in
-    ap (λ o. option_and_then after_exponent (option_and_then after_fraction o))
-    (ap (λ b. after_whole (cond b (drop 1 (decimal n ++ 46 ∷ ds)) (decimal n ++ 46 ∷ ds))) w.1 ∙ w.0)
-    ∙ ap (option_and_then after_exponent) all
+fraction_number n digits small last =
+    let text : List ℕ = decimal n ++ ascii.dot ∷ digits in
+    ap (λ left. option_and_then after_exponent (option_and_then after_fraction left))
+    (ap (λ is_minus. after_whole (cond is_minus (drop 1 text) text)) (decimal_no_minus n (ascii.dot ∷ digits) small)
+    ∙ decimal_whole n (ascii.dot ∷ digits) small refl)
+    ∙ ap (option_and_then after_exponent) last
 
-negative_number : (n : ℕ) (ds : List ℕ) → n < 2 ^ 64 → after_digits ds ≡ Some [] → IsNumber (45 ∷ (decimal n ++ 46 ∷ ds))
+-- and so they are behind a minus
+negative_number : (n : ℕ) (digits : List ℕ) → n < 2 ^ 64 → after_digits digits ≡ Some []
+    → IsNumber (ascii.minus ∷ (decimal n ++ ascii.dot ∷ digits))
 unfolding after_number
-negative_number n ds h all =
-    ap (λ o. option_and_then after_exponent (option_and_then after_fraction o)) (decimal_before n (46 ∷ ds) h refl).0
-    ∙ ap (option_and_then after_exponent) all
+negative_number n digits small last =
+    ap (λ left. option_and_then after_exponent (option_and_then after_fraction left))
+    (decimal_whole n (ascii.dot ∷ digits) small refl)
+    ∙ ap (option_and_then after_exponent) last
 
 -- ---- what is written
 
+-- tenths, with or without a minus
 pub tenths_number : (negative : Bool) (n : ℕ) → n / 10 ≤ 2 ^ 53 → IsNumber (minus negative ++ tenths n)
-tenths_number negative n h =
+tenths_number negative n exact =
     let small : n % 10 < 10 = omega arith in
     let last = decimal_digit (n % 10) small in
-    let all = after_one (digit (n % 10)) (digit_is (n % 10) small) in
-    subst (λ (ds : List ℕ). IsNumber (minus negative ++ (decimal (n / 10) ++ 46 ∷ ds))) (sym last)
-    (elim negative as (λ b. IsNumber (minus b ++ (decimal (n / 10) ++ 46 ∷ digit (n % 10) ∷ []))) [
-      | true ↦ negative_number (n / 10) (digit (n % 10) ∷ []) (omega arith) all
-      | false ↦ fraction_number (n / 10) (digit (n % 10) ∷ []) (omega arith) all
+    let none_left = after_one (digit (n % 10)) (digit_is (n % 10) small) in
+    subst (λ (digits : List ℕ). IsNumber (minus negative ++ (decimal (n / 10) ++ ascii.dot ∷ digits))) (sym last)
+    (elim negative as (λ b. IsNumber (minus b ++ (decimal (n / 10) ++ ascii.dot ∷ digit (n % 10) ∷ []))) [
+      | true ↦ negative_number (n / 10) (digit (n % 10) ∷ []) (omega arith) none_left
+      | false ↦ fraction_number (n / 10) (digit (n % 10) ∷ []) (omega arith) none_left
     ])
 
+-- hundredths
 pub hundredths_number : (n : ℕ) → n / 100 ≤ 2 ^ 53 → IsNumber (hundredths n)
-hundredths_number n h =
+hundredths_number n exact =
     let first_small : n / 10 % 10 < 10 = omega arith in
     let last_small : n % 10 < 10 = omega arith in
-    let all = after_two (digit (n / 10 % 10)) (digit (n % 10)) (digit_is (n / 10 % 10) first_small) (digit_is (n % 10) last_small) in
-    subst (λ (ds : List ℕ). IsNumber (decimal (n / 100) ++ 46 ∷ ds))
+    let none_left = after_two (digit (n / 10 % 10)) (digit (n % 10))
+    (digit_is (n / 10 % 10) first_small) (digit_is (n % 10) last_small) in
+    subst (λ (digits : List ℕ). IsNumber (decimal (n / 100) ++ ascii.dot ∷ digits))
     (sym (λ i. decimal_digit (n / 10 % 10) first_small i ++ decimal_digit (n % 10) last_small i))
-    (fraction_number (n / 100) (digit (n / 10 % 10) ∷ digit (n % 10) ∷ []) (omega arith) all)
+    (fraction_number (n / 100) (digit (n / 10 % 10) ∷ digit (n % 10) ∷ []) (omega arith) none_left)
 
+-- integers
 pub integer_number : (z : ℤ) → unsigned_abs z ≤ 2 ^ 53 → IsNumber (signed_decimal z)
-integer_number (pos n) h = IsNumber-decimal n (omega arith)
-integer_number (negsuc n) h = IsNumber-signed_decimal (negsuc n) (omega arith)
+integer_number (pos n) exact = IsNumber-decimal n (omega arith)
+integer_number (negsuc n) exact = IsNumber-signed_decimal (negsuc n) (omega arith)

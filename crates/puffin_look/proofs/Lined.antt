@@ -12,10 +12,12 @@ use Rattle.puffin_look.specs.inner.Lining.{Adds}
 pub record Lists (lines : Lines) (left : List (List ℕ)) (total : List ℕ) : Type 0 where
   pub so_far : lines.text.items ++ joined lines.separator.now lines.has_any left ≡ total
 
+-- no line was added yet
 pub lists_begun : (form : Form) (head : List ℕ) (lines : Lines) (all : List (List ℕ)) → lines.text.items ≡ opening form head
     → lines.separator.now ≡ separator form → lines.has_any ≡ false → Lists lines all (opening form head ++ lines_text form all)
 lists_begun form head lines all text between none = record { so_far = λ i. text i ++ joined (between i) (none i) all }
 
+-- the next line was added
 pub lists_more : (old new : Lines) (line : List ℕ) (left : List (List ℕ)) (total : List ℕ) → Adds old new line
     → Lists old (line ∷ left) total → Lists new left total
 lists_more old new line left total added l =
@@ -28,6 +30,7 @@ lists_more old new line left total added l =
           ∙ l.so_far;
     }
 
+-- no line is left
 pub lists_done : (lines : Lines) (left : List (List ℕ)) (total : List ℕ) → left ≡ [] → Lists lines left total → lines.text.items ≡ total
 lists_done lines left total none l =
     sym (append-nil lines.text.items)
@@ -43,6 +46,7 @@ list_closed form head all lines text made is =
 -- ---- rows of a slice
 
 module _ {X : Type 0} (line : X → List ℕ) (xs ys : List X) (same : ys ≡ xs) where
+  -- the line of the next row was added
   pub row_more : (old new : Lines) (i : ℕ) (x d : X) (total : List ℕ) → i < length ys → x ≡ get_or ys i d → Adds old new (line x)
       → Lists old (map line (drop i xs)) total → Lists new (map line (drop (i + 1) xs)) total
   row_more old new i x d total within is added so_far =

@@ -1,4 +1,7 @@
 -- Frames that were listed, one after the other.
+--
+-- `IsListing` holds between two frames: these were given and taken, and all of their text was written. `listing_begun` and `goes_on`
+-- keep it; each other lemma on listings says where and why one stops. `stopped` forgets the listing: it says what was printed.
 use Rattle.std.proofs.Common.{◌≡◌, ℕ, ◌-◌, ◌^◌, ◌≤◌, true, false, List, [], ◌∷◌, ◌++◌, length, Option, Some, None, ◌⊎◌, Result, Ok, Err, inl, inr, refl, sym, ap, subst, ◌∙◌, append_assoc, true≢false}
 use Rattle.std.specs.Prelude.{IfErr, Bool, if◌then◌else◌}
 use Rattle.std.specs.Io.KnownBytes.{Appends}
@@ -24,35 +27,42 @@ use Rattle.puffin_look.specs.declared.wanted.Indices.{Indices}
 use Rattle.puffin_look.specs.Printed.{IsRefused, HasFaultBehind, IsStopped}
 use Rattle.puffin_look.specs.inner.Listings.{AddsFrame, FailsToAdd, HasListed, StopsBehind, StopsListing}
 
+-- what an error shows, weakened
 pub if_err_so : {T E : Type 0} {P Q : E → Type 0} (r : Result T E) → ((e : E) → P e → Q e) → IfErr r P → IfErr r Q
 if_err_so (Ok x) step h = tt
 if_err_so (Err e) step h = step e h
 
 -- ---- a frame that was read
 
-pub opened_so : (c : PacketFields) (u : UnpackedFrameData) → streams_in_fields c ≡ Ok (streams_held u) → u.meta ≡ c.meta
-    → opened_fields c ≡ Ok (open_of u)
-opened_so c u is meta = ap (opened_with c) is ∙ ap (λ (m : FrameMeta). Ok (record { meta = m; streams = streams_held u })) (sym meta)
+-- a frame with these fields is opened as the one that it was unpacked to
+pub opened_so : (fields : PacketFields) (frame : UnpackedFrameData) → streams_in_fields fields ≡ Ok (streams_held frame)
+    → frame.meta ≡ fields.meta → opened_fields fields ≡ Ok (open_of frame)
+opened_so fields frame unpacked same =
+    ap (opened_with fields) unpacked
+    ∙ ap (λ (meta : FrameMeta). Ok (record { meta = meta; streams = streams_held frame })) (sym same)
 
--- what it is opened as
+-- a frame that was just read is opened as it is stored
 pub opened_fresh : (frame : FrameData) → IsFresh frame → opened_fields (packet_fields frame) ≡ opened (stored_of frame)
 opened_fresh frame fresh = ap opened_fields (said_fresh frame fresh)
 
 -- ---- one frame more
 
-opened_more : (ss : List Stored) (os : List OpenFrame) (s : Stored) (o : OpenFrame) → AreOpened ss os → opened s ≡ Ok o
-    → AreOpened (ss ++ s ∷ []) (os ++ o ∷ [])
-opened_more [] [] s o h is = (is, tt)
-opened_more [] (x ∷ os) s o h is = absurd h
-opened_more (t ∷ ss) [] s o h is = absurd h
-opened_more (t ∷ ss) (x ∷ os) s o h is = (h.0, opened_more ss os s o h.1 is)
+-- its frame is opened as this one
+opened_more : (stored : List Stored) (frames : List OpenFrame) (next : Stored) (frame : OpenFrame) → AreOpened stored frames
+    → opened next ≡ Ok frame → AreOpened (stored ++ next ∷ []) (frames ++ frame ∷ [])
+opened_more [] [] next frame are_open is = (is, tt)
+opened_more [] (first ∷ frames) next frame are_open is = absurd are_open
+opened_more (first ∷ stored) [] next frame are_open is = absurd are_open
+opened_more (first ∷ stored) (f ∷ frames) next frame (first_is, others) is = (first_is, opened_more stored frames next frame others is)
 
 -- ---- the frames with some indices
 
+-- none of no frames
 pub none_within : (i : Option Indices) → [] ≡ frames_within i []
 none_within None = refl
 none_within (Some i) = refl
 
+-- those of some frames and of others
 within_more : (i : Option Indices) (xs ys : List OpenFrame) → frames_within i (xs ++ ys) ≡ frames_within i xs ++ frames_within i ys
 within_more None xs ys = refl
 within_more (Some i) xs ys = filter-append (λ f. is_within (Some i) f.meta.frame_index) xs ys
@@ -62,23 +72,28 @@ pub none_left_in : (i : Option Indices) (f : OpenFrame) → is_within i f.meta.f
 none_left_in None f other = absurd (true≢false other)
 none_left_in (Some i) f other = sym (ap (λ (b : Bool). if b then f ∷ [] else []) other)
 
+-- one that has one of them
 pub one_left_in : (i : Option Indices) (f : OpenFrame) → is_within i f.meta.frame_index ≡ true → f ∷ [] ≡ frames_within i (f ∷ [])
 one_left_in None f there = refl
 one_left_in (Some i) f there = sym (ap (λ (b : Bool). if b then f ∷ [] else []) there)
 
 -- ---- what is written
 
-pub written_more : (a b c : Option (List ℕ)) (p s t : List ℕ) → Appends a b (p ++ s) → Appends b c t → Appends a c (p ++ (s ++ t))
-written_more a b c p s t first second = subst (Appends a c) (append_assoc p s t) (Appends-trans a b c (p ++ s) t first second)
+-- the next text was written behind what was pending and the text so far
+pub written_more : (before mid after : Option (List ℕ)) (pending text next : List ℕ) → Appends before mid (pending ++ text)
+    → Appends mid after next → Appends before after (pending ++ (text ++ next))
+written_more before mid after pending text next first second =
+    subst (Appends before after) (append_assoc pending text next) (Appends-trans before mid after (pending ++ text) next first second)
 
-pub begun_more : (a b c : Option (List ℕ)) (p s t : List ℕ) → Appends a b (p ++ s) → WritesBeginning b c t
-    → WritesBeginning a c (p ++ (s ++ t))
-begun_more a b c p s t first part = (
-  (p ++ s) ++ part.0,
-  part.1,
-  sym (append_assoc p s t) ∙ ap (λ (r : List ℕ). (p ++ s) ++ r) part.2
-      ∙ sym (append_assoc (p ++ s) part.0 part.1),
-  Appends-trans a b c (p ++ s) part.0 first part.3,
+-- a prefix of the next text was written behind them
+pub begun_more : (before mid after : Option (List ℕ)) (pending text next : List ℕ) → Appends before mid (pending ++ text)
+    → WritesBeginning mid after next → WritesBeginning before after (pending ++ (text ++ next))
+begun_more before mid after pending text next first (front, rest, is, written) = (
+  (pending ++ text) ++ front,
+  rest,
+  sym (append_assoc pending text next) ∙ ap (λ (r : List ℕ). (pending ++ text) ++ r) is
+      ∙ sym (append_assoc (pending ++ text) front rest),
+  Appends-trans before mid after (pending ++ text) front first written,
 )
 
 module _ {L : Type 0} (text : L → List ℕ) (takes : L → List OpenFrame → List ℕ → L → Type 0) (indices : Option Indices) where
@@ -91,26 +106,27 @@ module _ {L : Type 0} (text : L → List ℕ) (takes : L → List OpenFrame → 
 
   module _ (joined : (u v w : L) (xs ys : List OpenFrame) (s t : List ℕ) → takes u xs s v → takes v ys t w
       → takes u (xs ++ ys) (s ++ t) w) where
+    -- one frame more was listed
     pub listed_more : (old now new : L) (stored : List Stored) (s : Stored) (more : List ℕ)
-        → HasListed takes indices old now stored more → (a : AddsFrame text takes indices now new (opened s))
-        → HasListed takes indices old new (stored ++ s ∷ []) (more ++ a.more)
-    listed_more old now new stored s more h a = record {
-      frames = h.frames ++ a.frame ∷ [];
-      opens = opened_more stored h.frames s a.frame h.opens a.opens;
-      taken = subst (λ (xs : List OpenFrame). takes old xs (more ++ a.more) new)
-          (sym (within_more indices h.frames (a.frame ∷ []))) (joined old now new (frames_within indices h.frames)
-          (frames_within indices (a.frame ∷ [])) more a.more h.taken a.taken);
+        → HasListed takes indices old now stored more → (added : AddsFrame text takes indices now new (opened s))
+        → HasListed takes indices old new (stored ++ s ∷ []) (more ++ added.more)
+    listed_more old now new stored s more listed added = record {
+      frames = listed.frames ++ added.frame ∷ [];
+      opens = opened_more stored listed.frames s added.frame listed.opens added.opens;
+      taken = subst (λ (frames : List OpenFrame). takes old frames (more ++ added.more) new)
+          (sym (within_more indices listed.frames (added.frame ∷ []))) (joined old now new (frames_within indices listed.frames)
+          (frames_within indices (added.frame ∷ [])) more added.more listed.taken added.taken);
     }
 
     -- nothing more was listed, by a step that changed what is pending alone
     pub listed_same : (old now new : L) (stored : List Stored) (more : List ℕ) → HasListed takes indices old now stored more
         → takes now [] [] new → HasListed takes indices old new stored more
-    listed_same old now new stored more h same = record {
-      frames = h.frames;
-      opens = h.opens;
-      taken = subst (λ (t : List ℕ). takes old (frames_within indices h.frames) t new) (append-nil more)
-          (subst (λ (xs : List OpenFrame). takes old xs (more ++ []) new) (append-nil (frames_within indices h.frames))
-          (joined old now new (frames_within indices h.frames) [] more [] h.taken same));
+    listed_same old now new stored more listed same = record {
+      frames = listed.frames;
+      opens = listed.opens;
+      taken = subst (λ (t : List ℕ). takes old (frames_within indices listed.frames) t new) (append-nil more)
+          (subst (λ (frames : List OpenFrame). takes old frames (more ++ []) new) (append-nil (frames_within indices listed.frames))
+          (joined old now new (frames_within indices listed.frames) [] more [] listed.taken same));
     }
 
     -- nothing was listed yet, and what was pending was written
@@ -127,15 +143,17 @@ module _ {L : Type 0} (text : L → List ℕ) (takes : L → List OpenFrame → 
     -- the next frame was added, and its text written
     pub goes_on : (old now added new : L) (unread at left before mid after : Option (List ℕ)) (stored : List Stored) (s : Stored)
         (more pending : List ℕ) → IsListing old now unread at before mid stored more
-        → HasGiven unread left (stored ++ s ∷ []) → (a : AddsFrame text takes indices now added (opened s)) → pending ≡ text added
+        → HasGiven unread left (stored ++ s ∷ []) → (adds : AddsFrame text takes indices now added (opened s)) → pending ≡ text added
         → Appends mid after pending → text new ≡ [] → takes added [] [] new
-        → IsListing old new unread left before after (stored ++ s ∷ []) (more ++ a.more)
-    goes_on old now added new unread at left before mid after stored s more pending h given a is written empty same = record {
+        → IsListing old new unread left before after (stored ++ s ∷ []) (more ++ adds.more)
+    goes_on old now added new unread at left before mid after stored s more pending so_far given adds is written empty same = record {
       given = given;
-      listed = listed_same old added new (stored ++ s ∷ []) (more ++ a.more) (listed_more old now added stored s more h.listed a) same;
+      listed =
+          listed_same old added new (stored ++ s ∷ []) (more ++ adds.more)
+          (listed_more old now added stored s more so_far.listed adds) same;
       none_left = empty;
-      written = written_more before mid after (text old) more a.more h.written
-          (subst (Appends mid after) (is ∙ a.pending ∙ ap (λ (t : List ℕ). t ++ a.more) h.none_left) written);
+      written = written_more before mid after (text old) more adds.more so_far.written
+          (subst (Appends mid after) (is ∙ adds.pending ∙ ap (λ (t : List ℕ). t ++ adds.more) so_far.none_left) written);
     }
 
     module _ (refuses : L → OpenFrame → Error → Type 0) where
@@ -145,16 +163,16 @@ module _ {L : Type 0} (text : L → List ℕ) (takes : L → List OpenFrame → 
           → HasGiven unread left (stored ++ s ∷ []) → AddsFrame text takes indices now new (opened s) → pending ≡ text new
           → fault ≡ file.Io → WritesBeginning mid after pending
           → StopsBehind text takes refuses indices old new unread left before after fault
-      frame_cut old now new unread at left before mid after stored s more pending fault h given a is io part = record {
+      frame_cut old now new unread at left before mid after stored s more pending fault so_far given adds is io part = record {
         stored = stored ++ s ∷ [];
         begins = inr (left, given);
-        more = more ++ a.more;
+        more = more ++ adds.more;
         state = new;
-        listed = listed_more old now new stored s more h.listed a;
+        listed = listed_more old now new stored s more so_far.listed adds;
         outcome = inl (
           inl io,
-          begun_more before mid after (text old) more a.more h.written
-              (subst (WritesBeginning mid after) (is ∙ a.pending ∙ ap (λ (t : List ℕ). t ++ a.more) h.none_left) part),
+          begun_more before mid after (text old) more adds.more so_far.written
+              (subst (WritesBeginning mid after) (is ∙ adds.pending ∙ ap (λ (t : List ℕ). t ++ adds.more) so_far.none_left) part),
           inr refl,
         );
       }
@@ -184,39 +202,39 @@ module _ {L : Type 0} (text : L → List ℕ) (takes : L → List OpenFrame → 
         (more : List ℕ) (fault : FileError) → IsListing old now unread at before after stored more
         → HasGiven unread left (stored ++ s ∷ []) → FailsToAdd refuses indices now new (opened s) fault
         → StopsBehind text takes refuses indices old new unread left before after fault
-    not_added old now new unread at left before after stored s more fault h given fails = record {
+    not_added old now new unread at left before after stored s more fault so_far given fails = record {
       stored = stored;
-      begins = inr (at, h.given);
+      begins = inr (at, so_far.given);
       more = more;
       state = now;
-      listed = h.listed;
-      outcome = inr (inr (h.written, s, given, fails));
+      listed = so_far.listed;
+      outcome = inr (inr (so_far.written, s, given, fails));
     }
 
     -- the next frame can't be read
     pub not_read : (old now : L) (unread at left before after : Option (List ℕ)) (stored : List Stored) (more : List ℕ)
         (fault : FileError) → IsListing old now unread at before after stored more → FailsAt fault at left frame_at
         → StopsBehind text takes refuses indices old now unread left before after fault
-    not_read old now unread at left before after stored more fault h fails = record {
+    not_read old now unread at left before after stored more fault so_far fails = record {
       stored = stored;
-      begins = inr (at, h.given);
+      begins = inr (at, so_far.given);
       more = more;
       state = now;
-      listed = h.listed;
-      outcome = inr (inl (h.written, refl, (at, h.given, inl fails)));
+      listed = so_far.listed;
+      outcome = inr (inl (so_far.written, refl, (at, so_far.given, inl fails)));
     }
 
     -- there are too many frames
     pub too_many : (old now : L) (unread left before after : Option (List ℕ)) (stored : List Stored) (more : List ℕ)
         → IsListing old now unread left before after stored more → 2 ^ 64 - 1 ≤ length stored
         → StopsBehind text takes refuses indices old now unread left before after file.Truncated
-    too_many old now unread left before after stored more h full = record {
+    too_many old now unread left before after stored more so_far full = record {
       stored = stored;
-      begins = inr (left, h.given);
+      begins = inr (left, so_far.given);
       more = more;
       state = now;
-      listed = h.listed;
-      outcome = inr (inl (h.written, refl, (left, h.given, inr (full, refl))));
+      listed = so_far.listed;
+      outcome = inr (inl (so_far.written, refl, (left, so_far.given, inr (full, refl))));
     }
 
     -- ---- what is printed
@@ -228,6 +246,7 @@ module _ {L : Type 0} (text : L → List ℕ) (takes : L → List OpenFrame → 
         (is_refused : (frames : List OpenFrame) (more : List ℕ) (v : L) (frame : OpenFrame) (cause : Error)
         → takes old (frames_within indices frames) more v → is_within indices frame.meta.frame_index ≡ true
         → refuses v frame cause → Refuses frames frame cause) where
+      -- all of a text is a prefix of it
       whole_begun : (t : List ℕ) → Appends before after t → WritesBeginning before after t
       whole_begun t h = (t, [], sym (append-nil t), h)
 
@@ -236,31 +255,32 @@ module _ {L : Type 0} (text : L → List ℕ) (takes : L → List OpenFrame → 
           → (IsOutside fault × WritesBeginning before after (text old ++ h.more))
           ⊎ (Appends before after (text old ++ h.more) × HasFaultBehind Refuses unread left h.stored h.listed.frames fault)
       told_behind h = elim (h.outcome) [
-        | inl outside ↦ inl (outside.0, outside.1)
-        | inr (inl next) ↦ inr (next.0, inl next.2)
-        | inr (inr added) ↦ elim (added.3) [
-          | inl memory ↦ inl (inr memory, whole_begun _ added.0)
-          | inr (inl packed) ↦ inr (
-            added.0,
+        | inl (outside, part, last_state) ↦ inl (outside, part)
+        | inr (inl (written, same, next)) ↦ inr (written, inl next)
+        | inr (inr (written, next, given, fails)) ↦ elim fails [
+          | inl memory ↦ inl (inr memory, whole_begun _ written)
+          | inr (inl (packed, same)) ↦ inr (
+            written,
             inr (
-              added.1,
-              added.2,
+              next,
+              given,
               subst (λ (r : Result OpenFrame FileError). IsRefused Refuses h.listed.frames r fault)
-                  (sym packed.0) refl,
+                  (sym packed) refl,
             ),
           )
-          | inr (inr refused) ↦ inr (
-            added.0,
+          | inr (inr (frame, cause, opens, is, there, refused)) ↦ inr (
+            written,
             inr (
-              added.1,
-              added.2,
-              subst (λ (r : Result OpenFrame FileError). IsRefused Refuses h.listed.frames r fault) (sym refused.2)
-                  (refused.1, refused.3, is_refused h.listed.frames h.more h.state refused.0 refused.1 h.listed.taken refused.4 refused.5),
+              next,
+              given,
+              subst (λ (r : Result OpenFrame FileError). IsRefused Refuses h.listed.frames r fault) (sym opens)
+                  (cause, is, is_refused h.listed.frames h.more h.state frame cause h.listed.taken there refused),
             ),
           )
         ]
       ]
 
+      -- printing failed: behind the letters of the file, or because of them
       pub stopped : StopsListing text takes refuses indices old new unread left before after fault
           → IsStopped IsText Refuses unread left before after fault
       stopped (inl h) = record {

@@ -24,6 +24,7 @@ use Rattle.puffin_look.proofs.ThreadsPrinted.{not_outside}
 
 -- ---- one frame more
 
+-- the rows of the frames so far and of the next one
 pub rows_more : (v u : Rows) (frame : FrameData) (stored : List Stored) → IsFresh frame → HasRows v stored
     → AddsRow v u (row_of (packet_fields frame)) → u.limits ≡ v.limits → HasRows u (stored ++ stored_of frame ∷ [])
 rows_more v u frame stored fresh h a limits =
@@ -46,14 +47,17 @@ rows_more v u frame stored fresh h a limits =
 -- ---- a file
 
 module _ (unread left : Option (List ℕ)) (v : Rows) where
+  -- the file doesn't begin with its letters, so no frame was read
   pub not_begun : (e : FileError) → v.recent.items ≡ [] → v.slow.items ≡ [] → FailsToRead file_at unread left e → HasRowsOf v unread left
   not_begun e last slow fails =
       record { stored = []; begins = inl refl; end = inr (inr (e, (fails, refl))); rows = record { recent = last; slow = slow } }
 
   module _ (now : Option (List ℕ)) (stored : List Stored) (given : HasGiven unread now stored) (rows : HasRows v stored) where
+    -- the next frame can't be read
     pub stops_at : (e : FileError) → FailsAt e now left frame_at → HasRowsOf v unread left
     stops_at e fails = record { stored = stored; begins = inr (now, given); end = inr (inl (e, (now, given, inl fails))); rows = rows }
 
+    -- there are too many frames
     pub too_many : 2 ^ 64 - 1 ≤ length stored → HasRowsOf v unread left
     too_many full =
         record {
@@ -73,6 +77,7 @@ read_anyway unread left v (Ok x) quiet h = h
 read_anyway unread left v (Err e) quiet (inl outside) = absurd (not_outside e quiet outside)
 read_anyway unread left v (Err e) quiet (inr h) = h
 
+-- the frames that fit are chosen
 pub chosen_of : (limits : PageLimits) (unread left : Option (List ℕ)) (v : Rows) (indices : List ℕ) → v.limits ≡ limits
     → HasRowsOf v unread left → indices ≡ fitting v.limits.bytes (v.slow.items ++ v.recent.items)
     → IsPageChoice limits unread left indices

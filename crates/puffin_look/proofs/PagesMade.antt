@@ -1,4 +1,7 @@
 -- A frame of a page, thread after thread.
+--
+-- `IsMaking` holds between two streams of a frame: all but those that are left were made. `making_at` begins it, `making_more` keeps it,
+-- `frame_made` ends it.
 use Rattle.std.proofs.Common.{◌≡◌, ℕ, Bool, true, false, List, [], ◌∷◌, ◌++◌, refl, ap, subst, sym, ◌∙◌, append_assoc, append-nil}
 use Rattle.std.specs.Prelude.{codes, not, ◌==◌, ◌&&◌, if◌then◌else◌}
 use Rattle.std.specs.List.{flat_map, list_all}
@@ -16,6 +19,7 @@ use Rattle.puffin_look.specs.declared.page_rows.PageRows.{PageRows}
 use Rattle.puffin_look.proofs.Pushed.{pushed2, pushed5}
 use Rattle.puffin_look.proofs.Traced.{spelled_more}
 
+-- six pieces were appended, one after the other
 pub pushed6 : (before first second third fourth fifth after a b c d e f : List ℕ) → first ≡ before ++ a → second ≡ first ++ b
     → third ≡ second ++ c → fourth ≡ third ++ d → fifth ≡ fourth ++ e → after ≡ fifth ++ f
     → after ≡ before ++ (a ++ (b ++ (c ++ (d ++ (e ++ f)))))
@@ -50,6 +54,7 @@ module _ (meta : FrameMeta) where
     pub text : now.text.items ≡ head_json meta ++ threads_json trees
     pub begin : now.begin ≡ meta.range_ns.0
 
+  -- no stream was made yet
   making_begun : (now : PageRows) (entries : List Entry) → now.text.items ≡ head_json meta → now.begin ≡ meta.range_ns.0
       → IsMaking now entries entries
   making_begun now entries text begin = record {
@@ -66,10 +71,11 @@ module _ (meta : FrameMeta) where
   making_at now entries left text begin same =
       subst (λ (es : List Entry). IsMaking now entries es) (sym same) (making_begun now entries text begin)
 
+  -- the next stream was made
   pub making_more : (now new : PageRows) (entries left rest : List Entry) (e : Entry) (f : Forest) → left ≡ e ∷ rest
       → IsMaking now entries left → Spells e.1.form e.1.bytes f → HasMoreRows now new (thread_json now.begin (e.0, f))
       → IsMaking new entries rest
-  making_more now new entries left rest e f next h spells a =
+  making_more now new entries left rest e f next h spells added =
       let t : Tree = (e.0, f) in
       let one = thread_json meta.range_ns.0 in
       record {
@@ -77,13 +83,14 @@ module _ (meta : FrameMeta) where
         all = h.all ∙ ap (λ (es : List Entry). h.earlier ++ es) next ∙ sym (append_assoc h.earlier (e ∷ []) rest);
         trees = h.trees ++ t ∷ [];
         spelled = spelled_more h.earlier h.trees e t h.spelled ((refl, spells), tt);
-        text = a.text ∙ (λ i. h.text i ++ thread_json (h.begin i) t)
+        text = added.text ∙ (λ i. h.text i ++ thread_json (h.begin i) t)
             ∙ append_assoc (head_json meta) (threads_json h.trees) (one t)
             ∙ ap (λ (x : List ℕ). head_json meta ++ x) (ap (λ (x : List ℕ). threads_json h.trees ++ x) (sym (append-nil (one t)))
             ∙ sym (flat_map-append one h.trees (t ∷ [])));
-        begin = a.begin ∙ h.begin;
+        begin = added.begin ∙ h.begin;
       }
 
+  -- the next stream has a fault, which is the first of the frame
   pub making_unread : (now : PageRows) (entries left rest : List Entry) (e : Entry) (fault : Error) → left ≡ e ∷ rest
       → IsMaking now entries left → IsFault e.1.form e.1.bytes fault → AreUnread entries fault
   making_unread now entries left rest e fault next h faulty = record {
@@ -109,6 +116,7 @@ module _ (meta : FrameMeta) where
 
 -- ---- what stands in an element
 
+-- bytes without a `<`, and others behind them
 all_more : (xs ys : List ℕ) → list_all begins_none xs ≡ true → list_all begins_none ys ≡ true → list_all begins_none (xs ++ ys) ≡ true
 all_more [] ys h k = k
 all_more (x ∷ xs) ys h k =
@@ -118,10 +126,12 @@ all_more (x ∷ xs) ys h k =
     both true c d h next = next h
     both false c d h next = h
 
+-- a byte is escaped if it is a `<` (60)
 no_tag_at : (byte : ℕ) (b : Bool) → (byte == 60) ≡ b → list_all begins_none (if b then codes "\\u003c" else byte ∷ []) ≡ true
 no_tag_at byte true is = refl
 no_tag_at byte false is = ap (λ (b : Bool). not b && true) is
 
+-- embedded bytes have no `<`
 pub no_tag : (json : List ℕ) → list_all begins_none (embedded json) ≡ true
 no_tag [] = refl
 no_tag (byte ∷ json) = all_more (embedded_byte byte) (embedded json) (no_tag_at byte (byte == 60) refl) (no_tag json)

@@ -30,6 +30,7 @@ use Rattle.puffin_look.proofs.Listed.{stopped}
 
 -- ---- the details
 
+-- the details of a collection, without their ids
 values_seen : {A : Type 0} (es : List (ℕ × Arc ScopeDetails A)) → map (λ e. e.1) (ids_seen es) ≡ shared_details (values_of es)
 values_seen [] = refl
 values_seen (e ∷ es) = ap (λ (l : List Details). details_of (arc_value e.1) ∷ l) (values_seen es)
@@ -60,10 +61,12 @@ module _ (old : Page) (frame : OpenFrame) where
   abbrev tree_of : List Tree → TreeFrame
   tree_of trees = record { meta = frame.meta; trees = trees }
 
+  -- the frame's streams are taken if the page has it (`b`)
   streams_are : (b : Bool) → is_chosen chosen frame.meta.frame_index ≡ b
       → chosen_streams chosen frame ≡ (if b then all_streams frame else [])
   streams_are b is = ap (λ (x : Bool). if x then all_streams frame else []) is
 
+  -- and so is its element written
   element_is : (trees : List Tree) (b : Bool) → is_chosen chosen frame.meta.frame_index ≡ b
       → frame_element chosen (tree_of trees) ≡ (if b then element (codes "frame") (frame_json (tree_of trees)) else [])
   element_is trees b is = ap (λ (x : Bool). if x then element (codes "frame") (frame_json (tree_of trees)) else []) is
@@ -73,14 +76,14 @@ module _ (old : Page) (frame : OpenFrame) where
       → (made : (trees : List Tree) × AreSpelled (all_streams frame) trees × (json ≡ frame_json (tree_of trees)))
       → new.text.items ≡ old.text.items ++ element (codes "frame") json → new.frames ≡ old.frames
       → (more : List ℕ) × (new.text.items ≡ old.text.items ++ more) × TakesPage old (frame ∷ []) more new
-  frame_placed new json has made text same = (
+  frame_placed new json has (trees, spelled, made) text same = (
     element (codes "frame") json,
     text,
     record {
-      trees = tree_of made.0 ∷ [];
-      read = (record { meta = refl; trees = subst (λ (es : List Entry). AreSpelled es made.0) (sym (streams_are true has)) made.1 }, tt);
-      is = ap (element (codes "frame")) made.2 ∙ sym (element_is made.0 true has)
-          ∙ sym (append-nil (frame_element chosen (tree_of made.0)));
+      trees = tree_of trees ∷ [];
+      read = (record { meta = refl; trees = subst (λ (es : List Entry). AreSpelled es trees) (sym (streams_are true has)) spelled }, tt);
+      is = ap (element (codes "frame")) made ∙ sym (element_is trees true has)
+          ∙ sym (append-nil (frame_element chosen (tree_of trees)));
       chosen = same;
     },
   )
@@ -99,6 +102,7 @@ module _ (old : Page) (frame : OpenFrame) where
     },
   )
 
+  -- one with a fault is refused, if the page has it
   pub frame_unread : (fault : Error) → is_chosen chosen frame.meta.frame_index ≡ true → AreUnread (all_streams frame) fault
       → RefusesFrame old frame fault
   frame_unread fault has unread = subst (λ (es : List Entry). AreUnread es fault) (sym (streams_are true has)) unread
@@ -122,6 +126,7 @@ none_written k c unread left before e memory = record {
 }
 
 module _ (old new : Page) (k : Collection) (c : PageFrames) (head : text_in old ≡ details_elements k) (same : old.frames.now ≡ c) where
+  -- the text so far is the data of the details and of these frames
   page_text : (frames : List OpenFrame) (more : List ℕ) (v : Page) → TakesPage old frames more v
       → IsPageData k c frames (text_in old ++ more)
   page_text frames more v taken = (
@@ -130,6 +135,7 @@ module _ (old new : Page) (k : Collection) (c : PageFrames) (head : text_in old 
     (λ i. head i ++ (taken.is ∙ (λ j. flat_map (frame_element (same j)) taken.trees)) i),
   )
 
+  -- printing the file failed
   pub page_stopped : (unread left before after : Option (List ℕ)) (e : FileError)
       → StopsListing text_in TakesPage RefusesFrame None old new unread left before after e
       → IsStopped (IsPageData k c) (RefusesUnread None (chosen_streams c)) unread left before after e
@@ -141,6 +147,7 @@ module _ (old new : Page) (k : Collection) (c : PageFrames) (head : text_in old 
         subst (λ (p : PageFrames). AreUnread (chosen_streams p frame) cause) ((λ i. (taken.chosen i).now) ∙ same) refused,
       )) h
 
+  -- all frames were printed
   pub page_printed : (unread left before after : Option (List ℕ))
       → ListsAll text_in TakesPage None old new unread left before after → IsPrinted (IsPageData k c) unread left before after
   page_printed unread left before after h = record {

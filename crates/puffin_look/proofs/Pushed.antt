@@ -2,6 +2,7 @@
 use Rattle.std.proofs.Common.{◌≡◌, ℕ, List, ◌++◌, ap, ◌∙◌, append_assoc, Result, Ok, Err}
 use Rattle.std.specs.Prelude.{is_ok, if◌then◌else◌, OnOk}
 
+-- two texts, three, four, or five
 pub pushed2 : (before first after a b : List ℕ) → first ≡ before ++ a → after ≡ first ++ b → after ≡ before ++ (a ++ b)
 pushed2 before first after a b one two = two ∙ ap (λ (bs : List ℕ). bs ++ b) one ∙ append_assoc before a b
 

@@ -3,12 +3,14 @@ use Rattle.std.proofs.Common.{◌≡◌, ℕ, Bool, true, false, List, [], ◌�
 use Rattle.std.specs.Prelude.{nat_le, ◌==◌, not, ◌&&◌, codes}
 use Rattle.std.specs.List.{list_all}
 use Rattle.std.proofs.lemmas.Bool.Decides.{nat_tests}
+use Rattle.json.specs.Ascii as ascii
 use Rattle.json.specs.Print.{escape, escape_byte}
 use Rattle.json.proofs.Printed.Strings.{escape_byte_plain}
 use Rattle.puffin_look.specs.inner.Events.{is_plain}
 use Rattle.json.specs.Token.{Token, string}
 use Rattle.json.specs.Print.{quoted, print, print_from}
 
+-- one string alone is printed in quotes
 pub one_string : (s : List ℕ) → print (string s ∷ []) ≡ quoted s
 unfolding print_from
 one_string s = append-nil (quoted s)
@@ -22,21 +24,26 @@ quoted_behind items old before tokens now s is same none one =
 
 -- ---- strings without escapes
 
+-- both tests hold if their conjunction does
 both : (a b : Bool) → (a && b) ≡ true → (a ≡ true) × (b ≡ true)
 both true b h = (refl, h)
 both false b h = absurd (cc)
 
-plain_byte : (x : ℕ) → is_plain x ≡ true → escape_byte x ≡ x ∷ []
-plain_byte x h =
-    let high = both (nat_le 32 x) _ h in
-    let tests = both (not (x == 34)) _ high.1 in
-    escape_byte_plain x (grind (arith, nat_tests, tests.0)) (grind (arith, nat_tests, tests.1)) (grind (arith, nat_tests, high.0))
+-- a plain byte is no control character (below `space`), no `"` and no `\`, so it stays as it is
+plain_byte : (byte : ℕ) → is_plain byte ≡ true → escape_byte byte ≡ byte ∷ []
+plain_byte byte plain =
+    let (not_control, others) = both (nat_le ascii.space byte) _ plain in
+    let (not_quote, not_backslash) = both (not (byte == ascii.quote)) _ others in
+    escape_byte_plain byte (grind (arith, nat_tests, not_quote)) (grind (arith, nat_tests, not_backslash))
+    (grind (arith, nat_tests, not_control))
 
-escape_plain : (xs : List ℕ) → list_all is_plain xs ≡ true → escape xs ≡ xs
-escape_plain [] h = refl
-escape_plain (x ∷ xs) h =
-    let parts = both (is_plain x) _ h in
-    λ i. plain_byte x parts.0 i ++ escape_plain xs parts.1 i
+-- and so do many
+escape_plain : (bytes : List ℕ) → list_all is_plain bytes ≡ true → escape bytes ≡ bytes
+escape_plain [] plain = refl
+escape_plain (byte ∷ bytes) plain =
+    let (first, others) = both (is_plain byte) _ plain in
+    λ i. plain_byte byte first i ++ escape_plain bytes others i
 
-pub plain_quoted : (xs : List ℕ) → list_all is_plain xs ≡ true → codes "\"" ++ (xs ++ codes "\"") ≡ quoted xs
-plain_quoted xs h = sym (ap (λ (t : List ℕ). codes "\"" ++ (t ++ codes "\"")) (escape_plain xs h))
+-- plain bytes are written between quotes
+pub plain_quoted : (bytes : List ℕ) → list_all is_plain bytes ≡ true → codes "\"" ++ (bytes ++ codes "\"") ≡ quoted bytes
+plain_quoted bytes plain = sym (ap (λ (t : List ℕ). codes "\"" ++ (t ++ codes "\"")) (escape_plain bytes plain))

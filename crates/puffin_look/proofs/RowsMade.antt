@@ -10,16 +10,19 @@ pub record AreMade (rows : List TopRow) (left all : List Held) : Type 0 where
   pub all_are : all ≡ done ++ left
   pub rows_are : HaveTallies (rows_in done) rows
 
+-- no row yet
 pub made_none : (all : List Held) → AreMade [] all all
 made_none all = record { done = []; all_are = refl; rows_are = tt }
 
+-- one row more
 one_made : (done : List Held) (rows : List TopRow) (e : Held) (row : TopRow) → HaveTallies (rows_in done) rows
     → HasTally (row_of e) row → HaveTallies (rows_in (done ++ e ∷ [])) (rows ++ row ∷ [])
-one_made [] [] e row h one = (one, tt)
-one_made [] (r ∷ rows) e row h one = absurd h
-one_made (d ∷ done) [] e row h one = absurd h
-one_made (d ∷ done) (r ∷ rows) e row h one = (h.0, one_made done rows e row h.1 one)
+one_made [] [] e row made one = (one, tt)
+one_made [] (r ∷ rows) e row made one = absurd made
+one_made (d ∷ done) [] e row made one = absurd made
+one_made (d ∷ done) (r ∷ rows) e row (first, others) one = (first, one_made done rows e row others one)
 
+-- the row of the next name
 pub made_more : (rows new : List TopRow) (left rest all : List Held) (e : Held) (row : TopRow) → left ≡ e ∷ rest
     → AreMade rows left all → HasTally (row_of e) row → new ≡ rows ++ row ∷ [] → AreMade new rest all
 made_more rows new left rest all e row next h one is = record {
@@ -28,6 +31,7 @@ made_more rows new left rest all e row next h one is = record {
   rows_are = subst (HaveTallies (rows_in (h.done ++ e ∷ []))) (sym is) (one_made h.done rows e row h.rows_are one);
 }
 
+-- a row of each name
 pub made_all : (rows : List TopRow) (left all : List Held) → left ≡ [] → AreMade rows left all → HaveTallies (rows_in all) rows
 made_all rows left all none h =
     subst (λ (es : List Held). HaveTallies (rows_in es) rows)

@@ -8,6 +8,7 @@ use Rattle.puffin_look.specs.inner.Tops.{HasTally, HaveTallies}
 use Rattle.puffin_look.specs.declared.top.TopRow.{TopRow}
 use Rattle.puffin_look.proofs.Tallied.{row_in, all_tallied, tally_grows, percentile_is}
 
+-- the row of one name
 row_told : (name : List ℕ) (ps : List Piece) (row : TopRow) → HasTally (name, fold with_piece no_tally ps) row
     → (row.name.items ≡ name) × IsRow ps row
 row_told name ps row h =
@@ -27,12 +28,14 @@ row_told name ps row h =
       },
     )
 
+-- the rows of these names
 rows_in_order : (all : List Piece) (names : List (List ℕ)) (rows : List TopRow) → HaveTallies (map (row_in all) names) rows
     → AreRowsOf all names rows
-rows_in_order all [] [] h = tt
-rows_in_order all [] (row ∷ rows) h = absurd h
-rows_in_order all (name ∷ names) [] h = absurd h
-rows_in_order all (name ∷ names) (row ∷ rows) h = (row_told name (pieces_of name all) row h.0, rows_in_order all names rows h.1)
+rows_in_order all [] [] held = tt
+rows_in_order all [] (row ∷ rows) held = absurd held
+rows_in_order all (name ∷ names) [] held = absurd held
+rows_in_order all (name ∷ names) (row ∷ rows) (first, others) =
+    (row_told name (pieces_of name all) row first, rows_in_order all names rows others)
 
 -- the rows of all pieces
 pub rows_told : (all : List Piece) (rows : List TopRow) → HaveTallies (fold with_piece_in [] all) rows → AreRowsOf all (names_in all) rows

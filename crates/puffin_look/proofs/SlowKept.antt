@@ -1,4 +1,7 @@
 -- The slowest frames that are kept, and what is printed of them.
+--
+-- A frame is read into a list of its own, whose text is kept with its duration (`slow_read`, `frame_kept`). To keep the first `limit` rows
+-- after each frame gives the first rows of all frames in order (`kept_slow`), and their texts are printed.
 use Rattle.std.proofs.Common.{◌≡◌, ℕ, zero, suc, ◌-ℤ◌, true, false, List, [], ◌∷◌, ◌++◌, Option, length, map, take, inl, refl, ap, subst, sym, ◌∙◌, append-nil}
 use Rattle.std.specs.Prelude.{fold, if◌then◌else◌}
 use Rattle.std.specs.Io.KnownBytes.{Appends}
@@ -38,32 +41,35 @@ module _ (form : Form) (v u : Folding) (known : Collection) (wanted : Wanted) (f
     ++ (joined (between_steps form) false
     (step_lines form (length (rows_of u.stacks)) (rows_of u.stacks) 0 [] (length_of frame.meta.range_ns))
     ++ tail_text form)) where
+  -- one frame has one tree
   read_by : (trees : List TreeFrame) → AreRead (wanted_streams v.wanted.now) (frame ∷ []) trees
       → rows_of u.stacks ≡ fold with_part (rows_of v.stacks) (parts v.stacks.known.now trees)
       → ReadsSlow form known wanted frame text
-  read_by [] h rows = absurd h
-  read_by (t ∷ []) h rows =
+  read_by [] read rows = absurd read
+  read_by (t ∷ []) (is_read, no_more) rows =
       let all : rows_of u.stacks ≡ path_rows (frame_parts known t) = rows
       ∙ (λ i. fold with_part (empty i) (parts (details i) (t ∷ []))) ∙ all_rows (parts known (t ∷ []))
       ∙ ap path_rows (append-nil (frame_parts known t)) in
       record {
         tree = t;
-        read = subst (λ (w : Wanted). IsRead (wanted_streams w) frame t) same h.0;
-        is = is ∙ (λ i. head_text form (sym h.0.meta i)
+        read = subst (λ (w : Wanted). IsRead (wanted_streams w) frame t) same is_read;
+        is = is ∙ (λ i. head_text form (sym is_read.meta i)
             ++ (joined (between_steps form) false
-            (step_lines form (length (all i)) (all i) 0 [] (length_of (sym h.0.meta i).range_ns)) ++ tail_text form));
+            (step_lines form (length (all i)) (all i) 0 [] (length_of (sym is_read.meta i).range_ns)) ++ tail_text form));
       }
-  read_by (t ∷ (s ∷ trees)) h rows = absurd h.1
+  read_by (t ∷ (s ∷ trees)) (is_read, more_read) rows = absurd more_read
 
   -- what is printed of a frame whose scopes were folded
   pub slow_read : (more : List ℕ) → TakesStacks v (frame ∷ []) more u → ReadsSlow form known wanted frame text
   slow_read more taken = read_by taken.trees taken.read taken.rows
 
+-- the first of what is made of a list
 map_take : {X Y : Type 0} (f : X → Y) (n : ℕ) (xs : List X) → map f (take n xs) ≡ take n (map f xs)
 map_take f zero xs = refl
 map_take f (suc n) [] = refl
 map_take f (suc n) (x ∷ xs) = ap (λ ys. f x ∷ ys) (map_take f n xs)
 
+-- a row is put among the rows where it belongs among what they hold
 map_with : (rows : List SlowFrame) (row : SlowFrame)
     → map held_of (with_row_by held_duration rows row) ≡ with_row_by duration (map held_of rows) (held_of row)
 map_with [] row = refl
@@ -76,6 +82,7 @@ map_with (first ∷ rows) row =
       | false ↦ ap (λ ys. held_of first ∷ ys) (map_with rows row)
     ]
 
+-- a frame was read, and the slowest of the frames so far are kept
 pub frame_kept : (old new : SlowFrames) (frame : OpenFrame) (row : SlowFrame)
     → ReadsSlow old.form old.known.now old.wanted.now frame row.text.items
     → row.duration_ns ≡ frame.meta.range_ns.1 -ℤ frame.meta.range_ns.0
@@ -98,15 +105,18 @@ frame_kept old new frame row read time rows limit form known wanted =
 
 -- ---- a file
 
+-- the texts of the rows are those of what they hold
 texts_held : (rows : List SlowFrame) → map (λ (row : SlowFrame). row.text.items) rows ≡ map (λ (slow : Slow). slow.1) (map held_of rows)
 texts_held [] = refl
 texts_held (row ∷ rows) = ap (λ ts. row.text.items ∷ ts) (texts_held rows)
 
+-- no rows are the first of none
 take_none : (n : ℕ) (rows : List Slow) → rows ≡ [] → rows ≡ take n rows
 take_none zero [] e = refl
 take_none (suc n) [] e = refl
 take_none n (x ∷ rows) e = absurd (cc)
 
+-- keeping the slowest frames after each one keeps the slowest of all
 pub kept_slow : (form : Form) (known : Collection) (n : ℕ) (trees : List TreeFrame)
     → fold (keeping n form known) [] trees ≡ take n (slowest_first form known trees)
 kept_slow form known n trees =
@@ -123,6 +133,7 @@ module _ (old new : SlowFrames) (unread left before mid : Option (List ℕ)) whe
   abbrev pub Refused : FileError → Type 0
   Refused e = IsStopped IsNoText (RefusesTaken wanted) unread left before mid e
 
+  -- reading the file failed, so nothing is printed
   pub slow_stopped : (e : FileError) → StopsListing none TakesSlow RefusesFrame wanted.frames old new unread left before mid e → Refused e
   slow_stopped e h =
       stopped none TakesSlow wanted.frames RefusesFrame IsNoText (RefusesTaken wanted) old new unread left before mid e
@@ -152,6 +163,7 @@ module _ (old new : SlowFrames) (unread left before mid : Option (List ℕ)) whe
     module _ (empty : old.rows.items ≡ []) (k : Collection) (same : old.known.now ≡ k) (lines : List ℕ)
         (is : lines ≡ list_text old.form [] (map (λ (row : SlowFrame). row.text.items) new.rows.items))
         (after : Option (List ℕ)) where
+      -- the lines that are printed are those of the slowest frames
       are_lines : AreSlowFrames old.form k wanted old.limit h.listed.frames lines
       are_lines =
           let t = h.listed.taken in (
@@ -163,6 +175,7 @@ module _ (old new : SlowFrames) (unread left before mid : Option (List ℕ)) whe
                 ∙ kept_slow old.form k old.limit t.trees)),
           )
 
+      -- all lines were printed
       pub slow_printed : Appends mid after lines → IsPrinted (AreSlowFrames old.form k wanted old.limit) unread left before after
       slow_printed app = record {
         stored = h.stored;
@@ -174,6 +187,7 @@ module _ (old new : SlowFrames) (unread left before mid : Option (List ℕ)) whe
         written = Appends-trans before mid after [] lines quiet app;
       }
 
+      -- a prefix of the lines was printed
       pub slow_cut : WritesBeginning mid after lines → IsCutOff (AreSlowFrames old.form k wanted old.limit) unread left before after
       slow_cut part = record {
         stored = h.stored;
@@ -182,5 +196,7 @@ module _ (old new : SlowFrames) (unread left before mid : Option (List ℕ)) whe
         opens = h.listed.opens;
         text = lines;
         is = are_lines;
-        written = (part.0, part.1, part.2, Appends-trans before mid after [] part.0 quiet part.3);
+        written =
+            let (front, rest, is, appended) = part in
+            (front, rest, is, Appends-trans before mid after [] front quiet appended);
       }

@@ -9,6 +9,7 @@ use Rattle.puffin_look.specs.Slowest.{is_faster_by, with_row_by, with_row}
 use Rattle.puffin_look.specs.declared.frames.FrameRow.{FrameRow}
 
 module _ {X : Type 0} where
+  -- rows that a later limit leaves out may be left out before
   take_twice : (n : ℕ) (xs : List X) → take n (take (suc n) xs) ≡ take n xs
   take_twice zero xs = refl
   take_twice (suc n) [] = refl
@@ -24,6 +25,7 @@ module _ {X : Type 0} where
       let rest = at_most p xs in elim (p x) as (λ b. cond (not b) (1 + position_or_len p xs) 0
       ≤ suc (length xs)) [ true ↦ omega arith | false ↦ omega (arith, rest) ]
 
+-- the place that was found, or the end
 or_end : (b : Bool) (n m : ℕ) → nat_lt n m ≡ b → n ≤ m → unwrap_or (cond b (Some n) None) m ≡ n
 or_end true n m h most = refl
 or_end false n m h most = grind (arith, nat_tests)
@@ -40,6 +42,7 @@ module _ {X : Type 0} (d : X → ℤ) where
         | false ↦ ap (λ ys. x ∷ ys) (take_with n xs r)
       ]
 
+  -- keeping the first rows after each one keeps the first rows of all
   pub kept_by : {Y : Type 0} (f : Y → X) (n : ℕ) (ys : List Y) (xs : List X)
       → fold (λ rows y. take n (with_row_by d rows (f y))) (take n xs) ys ≡ take n (fold (with_row_by d) xs (map f ys))
   kept_by f n [] xs = refl
@@ -49,6 +52,7 @@ module _ {X : Type 0} (d : X → ℤ) where
 
   -- ---- where a row is put
 
+  -- in front of the first row that it is faster than
   placed : (rows : List X) (row : X) → with_row_by d rows row ≡ insert rows (position_or_len (is_faster_by d row) rows) row
   placed [] row = refl
   placed (x ∷ xs) row =
@@ -60,6 +64,7 @@ module _ {X : Type 0} (d : X → ℤ) where
         | false ↦ ap (λ ys. x ∷ ys) (placed xs row) ∙ ap (λ k. insert (x ∷ xs) k row) next
       ]
 
+  -- as the code finds it
   pub placed_by : (rows : List X) (row : X) (o : Option ℕ) (place : ℕ) → o ≡ position (is_faster_by d row) rows
       → place ≡ unwrap_or o (length rows) → with_row_by d rows row ≡ insert rows place row
   placed_by rows row o place is at =

@@ -24,12 +24,14 @@ none v = []
 abbrev pub refused : Slowest → OpenFrame → Error → Type 0
 refused v frame cause = ⊥
 
+-- no rows are the first of none
 none_kept : (n : ℕ) (rows : List FrameRow) → rows ≡ [] → rows ≡ take n rows
 none_kept zero [] e = refl
 none_kept (suc n) [] e = refl
 none_kept n (x ∷ rows) e = absurd (cc)
 
 module _ (old new : Slowest) (unread left before mid : Option (List ℕ)) where
+  -- reading the file failed, so nothing is printed
   pub slowest_stopped : (e : FileError) → StopsListing none TakesRows refused None old new unread left before mid e
       → IsStopped IsNoText RefusesNone unread left before mid e
   slowest_stopped e h =
@@ -54,6 +56,7 @@ module _ (old new : Slowest) (unread left before mid : Option (List ℕ)) where
 
     module _ (form : Form) (empty : old.rows.items ≡ []) (lines : List ℕ) (is : lines ≡ frame_list form new.rows.items)
         (after : Option (List ℕ)) where
+      -- the lines that are printed are those of the slowest frames
       are_lines : AreSlowestFrames form old.limit h.listed.frames lines
       are_lines =
           is ∙ ap (frame_list form)
@@ -62,6 +65,7 @@ module _ (old new : Slowest) (unread left before mid : Option (List ℕ)) where
           h.listed.frames) (none_kept old.limit old.rows.items empty ∙ ap (take old.limit) empty)
           ∙ kept_all old.limit h.listed.frames [])
 
+      -- all lines were printed
       pub slowest_printed : Appends mid after lines → IsPrinted (AreSlowestFrames form old.limit) unread left before after
       slowest_printed app = record {
         stored = h.stored;
@@ -73,6 +77,7 @@ module _ (old new : Slowest) (unread left before mid : Option (List ℕ)) where
         written = Appends-trans before mid after [] lines quiet app;
       }
 
+      -- a prefix of the lines was printed
       pub slowest_cut : WritesBeginning mid after lines → IsCutOff (AreSlowestFrames form old.limit) unread left before after
       slowest_cut part = record {
         stored = h.stored;
@@ -81,5 +86,7 @@ module _ (old new : Slowest) (unread left before mid : Option (List ℕ)) where
         opens = h.listed.opens;
         text = lines;
         is = are_lines;
-        written = (part.0, part.1, part.2, Appends-trans before mid after [] part.0 quiet part.3);
+        written =
+            let (front, rest, is, appended) = part in
+            (front, rest, is, Appends-trans before mid after [] front quiet appended);
       }

@@ -1,4 +1,7 @@
 -- The stacks of frames, thread after thread, and what is printed of them.
+--
+-- `IsFolding` holds between two streams of a frame: all but those that are left were added, if their thread is wanted.
+-- `folding_at` begins it, `folding_more` keeps it, `frame_folded` ends it. What a whole file prints follows from its frames' parts.
 use Rattle.std.proofs.Common.{◌≡◌, ℕ, Bool, true, false, List, [], ◌∷◌, ◌++◌, Option, inl, inr, refl, ap, subst, sym, ◌∙◌, append_assoc, append-nil}
 use Rattle.std.specs.Prelude.{filter, fold, if◌then◌else◌}
 use Rattle.std.specs.List.{flat_map}
@@ -37,6 +40,7 @@ module _ (v : Folding) where
   abbrev tree_parts : Tree → List Part
   tree_parts t = forest_parts v.stacks.known.now t.1
 
+  -- a stream counts if its thread is wanted
   wanted_one : (e : Entry) (b : Bool) → is_wanted v.wanted.now e.0 ≡ b → wanted_in v (e ∷ []) ≡ (if b then e ∷ [] else [])
   wanted_one e b is = ap (λ (x : Bool). if x then e ∷ [] else []) is
 
@@ -50,6 +54,7 @@ module _ (v : Folding) where
     pub found : now.is_found ≡ has_trees v.is_found trees
     pub wanted : now.wanted ≡ v.wanted
 
+  -- no stream was added yet
   folding_begun : (entries : List Entry) → IsFolding v entries entries
   folding_begun entries = record {
     earlier = [];
@@ -64,6 +69,7 @@ module _ (v : Folding) where
   pub folding_at : (entries left : List Entry) → left ≡ entries → IsFolding v entries left
   folding_at entries left same = subst (λ (es : List Entry). IsFolding v entries es) (sym same) (folding_begun entries)
 
+  -- the next stream is one of the earlier ones from now on
   all_more : (entries earlier left rest : List Entry) (e : Entry) → left ≡ e ∷ rest → entries ≡ earlier ++ left
       → entries ≡ (earlier ++ e ∷ []) ++ rest
   all_more entries earlier left rest e next all =
@@ -72,42 +78,44 @@ module _ (v : Folding) where
   same_wanted : (now : Folding) → now.wanted ≡ v.wanted → now.wanted.now ≡ v.wanted.now
   same_wanted now same = ap (λ (w : Bor Wanted). w.now) same
 
+  -- the wanted ones of some streams and of one more
   wanted_more : (earlier : List Entry) (e : Entry) (b : Bool) → is_wanted v.wanted.now e.0 ≡ b
       → wanted_in v (earlier ++ e ∷ []) ≡ wanted_in v earlier ++ (if b then e ∷ [] else [])
   wanted_more earlier e b is =
       filter-append (λ d. is_wanted v.wanted.now d.0) earlier (e ∷ [])
       ∙ ap (λ (es : List Entry). wanted_in v earlier ++ es) (wanted_one e b is)
 
+  -- a stream more is found
   found_more : (ts : List Tree) (t : Tree) → true ≡ has_trees v.is_found (ts ++ t ∷ [])
   found_more [] t = refl
   found_more (s ∷ ts) t = refl
 
+  -- the next stream was added, or its thread isn't wanted
   pub folding_more : (now new : Folding) (entries left rest : List Entry) (e : Entry) → left ≡ e ∷ rest
       → IsFolding now entries left → StepsStack now new e.0 e.1 → IsFolding new entries rest
-  folding_more now new entries left rest e next h (inl step) =
-      let a = step.1 in
-      let t : Tree = (e.0, a.forest) in
-      let wanted : is_wanted v.wanted.now e.0 ≡ true = ap (λ (w : Wanted). is_wanted w e.0) (sym (same_wanted now h.wanted)) ∙ step.0 in
+  folding_more now new entries left rest e next h (inl (is, added)) =
+      let t : Tree = (e.0, added.forest) in
+      let wanted : is_wanted v.wanted.now e.0 ≡ true = ap (λ (w : Wanted). is_wanted w e.0) (sym (same_wanted now h.wanted)) ∙ is in
       let more : HasMoreParts now.stacks new.stacks
-      (tree_parts t) = subst (λ (k : Bor Collection). HasMoreParts now.stacks new.stacks (forest_parts k.now a.forest))
-      h.parts.known a.parts in
+      (tree_parts t) = subst (λ (k : Bor Collection). HasMoreParts now.stacks new.stacks (forest_parts k.now added.forest))
+      h.parts.known added.parts in
       record {
         earlier = h.earlier ++ e ∷ [];
         all = all_more entries h.earlier left rest e next h.all;
         trees = h.trees ++ t ∷ [];
         spelled = subst (λ (es : List Entry). AreSpelled es (h.trees ++ t ∷ [])) (sym (wanted_more h.earlier e true wanted))
-            (spelled_more (wanted_in v h.earlier) h.trees e t h.spelled ((refl, a.spells), tt));
+            (spelled_more (wanted_in v h.earlier) h.trees e t h.spelled ((refl, added.spells), tt));
         parts =
             subst (HasMoreParts v.stacks new.stacks)
             (ap (λ (ps : List Part). flat_map tree_parts h.trees ++ ps) (sym (append-nil (tree_parts t)))
             ∙ sym (flat_map-append tree_parts h.trees (t ∷ [])))
             (parts_more v.stacks now.stacks new.stacks (flat_map tree_parts h.trees) (tree_parts t) h.parts more);
-        found = a.found ∙ found_more h.trees t;
-        wanted = a.wanted ∙ h.wanted;
+        found = added.found ∙ found_more h.trees t;
+        wanted = added.wanted ∙ h.wanted;
       }
-  folding_more now new entries left rest e next h (inr step) =
-      let unwanted : is_wanted v.wanted.now e.0 ≡ false = ap (λ (w : Wanted). is_wanted w e.0) (sym (same_wanted now h.wanted)) ∙ step.0 in
-      subst (λ (u : Folding). IsFolding u entries rest) (sym step.1) (record {
+  folding_more now new entries left rest e next h (inr (isnt, same)) =
+      let unwanted : is_wanted v.wanted.now e.0 ≡ false = ap (λ (w : Wanted). is_wanted w e.0) (sym (same_wanted now h.wanted)) ∙ isnt in
+      subst (λ (u : Folding). IsFolding u entries rest) (sym same) (record {
         earlier = h.earlier ++ e ∷ [];
         all = all_more entries h.earlier left rest e next h.all;
         trees = h.trees;
@@ -118,6 +126,7 @@ module _ (v : Folding) where
         wanted = h.wanted;
       })
 
+  -- the next stream has a fault, which is the first of the frame
   pub folding_unread : (now : Folding) (entries left rest : List Entry) (e : Entry) (fault : Error) → left ≡ e ∷ rest
       → IsFolding now entries left → is_wanted now.wanted.now e.0 ≡ true → IsFault e.1.form e.1.bytes fault
       → AreUnread (wanted_in v entries) fault
@@ -158,6 +167,7 @@ module _ (old : Folding) (frame : OpenFrame) where
         },
       )
 
+  -- a frame is refused with this fault
   pub frame_unread : (entries : List Entry) (fault : Error) → all_streams frame ≡ entries
       → AreUnread (wanted_in old entries) fault → AreUnread (wanted_streams old.wanted.now frame) fault
   frame_unread entries fault same u = subst (λ (es : List Entry). AreUnread (wanted_in old es) fault) (sym same) u
@@ -174,6 +184,7 @@ module _ (old new : Folding) (unread left before mid : Option (List ℕ)) where
   abbrev pub Refused : FileError → Type 0
   Refused e = IsStopped IsNoText (RefusesTaken wanted) unread left before mid e
 
+  -- reading the file failed, so nothing is printed
   pub folding_stopped : (e : FileError)
       → StopsListing none TakesStacks RefusesFrame wanted.frames old new unread left before mid e → Refused e
   folding_stopped e h =
@@ -203,6 +214,7 @@ module _ (old new : Folding) (unread left before mid : Option (List ℕ)) where
 
     module _ (empty : rows_of old.stacks ≡ []) (k : Collection) (same : old.stacks.known.now ≡ k) (unfound : old.is_found ≡ false)
         (lines : List ℕ) (is : lines ≡ flat_map row_text (rows_of new.stacks)) (after : Option (List ℕ)) where
+      -- the lines that are printed are those of the file's paths
       are_lines : IsFolded k wanted new.is_found h.listed.frames lines
       are_lines =
           let t = h.listed.taken in (
@@ -212,6 +224,7 @@ module _ (old new : Folding) (unread left before mid : Option (List ℕ)) where
             t.found ∙ ap (λ (b : Bool). found_in b t.trees) unfound,
           )
 
+      -- all lines were printed
       pub folding_printed : Appends mid after lines → IsPrinted (IsFolded k wanted new.is_found) unread left before after
       folding_printed app = record {
         stored = h.stored;
@@ -223,6 +236,7 @@ module _ (old new : Folding) (unread left before mid : Option (List ℕ)) where
         written = Appends-trans before mid after [] lines quiet app;
       }
 
+      -- a prefix of the lines was printed
       pub folding_cut : WritesBeginning mid after lines → IsCutOff (IsAnyFolded k wanted) unread left before after
       folding_cut part = record {
         stored = h.stored;
@@ -231,5 +245,7 @@ module _ (old new : Folding) (unread left before mid : Option (List ℕ)) where
         opens = h.listed.opens;
         text = lines;
         is = (new.is_found, are_lines);
-        written = (part.0, part.1, part.2, Appends-trans before mid after [] part.0 quiet part.3);
+        written =
+            let (front, rest, is, appended) = part in
+            (front, rest, is, Appends-trans before mid after [] front quiet appended);
       }

@@ -1,5 +1,9 @@
 -- The tallies that all pieces lead to, and the rows that they are.
-use Rattle.std.proofs.Common.{◌≡◌, ℕ, ◌+◌, ◌^◌, ◌<◌, Bool, true, false, List, [], ◌∷◌, ◌++◌, map, length, min, max, refl, sym, ap, ◌∙◌, append-nil, append_assoc, true≢false, arith}
+--
+-- `table` has a row for each name of some pieces, with the tally of all its pieces. Adding one piece to it gives the table of one piece
+-- more (`one_more`), so the rows that all pieces lead to are their table (`all_tallied`). What a tally counts of the pieces of one name
+-- is said by `Grows`.
+use Rattle.std.proofs.Common.{◌≡◌, ℕ, ◌+◌, ◌^◌, ◌<◌, Bool, true, false, List, [], ◌∷◌, ◌++◌, map, length, min, max, refl, sym, ap, ◌∙◌, append-nil, append_assoc, arith}
 use Rattle.std.specs.Prelude.{fold, filter, sum, if◌then◌else◌}
 use Rattle.std.proofs.Math.Bool.{not}
 use Rattle.std.specs.Map.{keys_of}
@@ -7,8 +11,6 @@ use Rattle.std.specs.List.{list_any}
 use Rattle.std.specs.Str.{bytes_eq}
 use Rattle.std.proofs.lemmas.List.Sums.{fold-append, sum_by-cons}
 use Rattle.std.proofs.lemmas.List.Elements.{filter-append}
-use Rattle.std.proofs.lemmas.List.Folds.{list_any-append}
-use Rattle.std.proofs.lemmas.Slice.Eq.{bytes_eq-Decides}
 use Rattle.puffin_view.specs.View.Stats.{cut}
 use Rattle.puffin_look.specs.Buckets.{last_of}
 use Rattle.puffin_look.specs.inner.Counts.{bucket_at}
@@ -16,14 +18,16 @@ use Rattle.puffin_look.specs.Top.{rank_of, IsPercentile}
 use Rattle.puffin_look.specs.Top.{Piece, pieces_of, call_times, nested_times, names_in}
 use Rattle.puffin_look.specs.Names.{with_name}
 use Rattle.puffin_look.specs.inner.Tallies.{Row, Counted, row_with, with_row, with_piece, with_piece_in, with_call, with_nested, no_tally}
-use Rattle.puffin_look.proofs.StackRows.{turned, left_false, right_false}
+use Rattle.puffin_look.proofs.StackRows.{unmet_by}
 use Rattle.puffin_look.proofs.Ranked.{count_time, bucket_ranked}
 
 -- ---- by name
 
+-- what the pieces of a name make of an empty tally
 abbrev pub tally_in : List Piece → List ℕ → Counted
 tally_in all name = fold with_piece no_tally (pieces_of name all)
 
+-- the row of a name in these pieces
 abbrev pub row_in : List Piece → List ℕ → Row
 row_in all name = (name, tally_in all name)
 
@@ -33,12 +37,14 @@ table all = map (row_in all) (names_in all)
 abbrev with_piece_name : List (List ℕ) → Piece → List (List ℕ)
 with_piece_name names p = with_name names p.name
 
+-- the pieces of a name, with one piece more, of this name (`b`) or another
 pieces_more : (done : List Piece) (p : Piece) (name : List ℕ) (b : Bool) → bytes_eq p.name name ≡ b
     → pieces_of name (done ++ p ∷ []) ≡ pieces_of name done ++ (if b then p ∷ [] else [])
 pieces_more done p name b is =
     filter-append (λ (d : Piece). bytes_eq d.name name) done (p ∷ [])
     ∙ ap (λ (t : Bool). pieces_of name done ++ (if t then p ∷ [] else [])) is
 
+-- the row of a name with one piece more
 row_more_by : (done : List Piece) (p : Piece) (name : List ℕ) (b : Bool) → bytes_eq p.name name ≡ b
     → row_with p (row_in done name) ≡ row_in (done ++ p ∷ []) name
 row_more_by done p name true is =
@@ -50,77 +56,73 @@ row_more_by done p name false is =
     ∙ ap (λ (ps : List Piece). (name, fold with_piece no_tally ps))
     (sym (append-nil (pieces_of name done)) ∙ sym (pieces_more done p name false is))
 
+-- the rows of all names with one piece more
 rows_grown : (done : List Piece) (p : Piece) (names : List (List ℕ))
     → map (row_with p) (map (row_in done) names) ≡ map (row_in (done ++ p ∷ [])) names
 rows_grown done p [] = refl
 rows_grown done p (n ∷ names) = λ i. row_more_by done p n (bytes_eq p.name n) refl i ∷ rows_grown done p names i
 
+-- the rows' names are these
 keys_in : (all : List Piece) (names : List (List ℕ)) → keys_of (map (row_in all) names) ≡ names
 keys_in all [] = refl
 keys_in all (n ∷ names) = ap (λ (ns : List (List ℕ)). n ∷ ns) (keys_in all names)
 
+-- the row of one name more comes last
 map_behind : (all : List Piece) (xs : List (List ℕ)) (y : List ℕ)
     → map (row_in all) (xs ++ y ∷ []) ≡ map (row_in all) xs ++ row_in all y ∷ []
 map_behind all [] y = refl
 map_behind all (x ∷ xs) y = ap (λ (rows : List Row). row_in all x ∷ rows) (map_behind all xs y)
 
--- a name that wasn't met has no pieces
-unmet_by : (name : List ℕ) (names : List (List ℕ)) (d : Piece) (b : Bool) → list_any (bytes_eq d.name) names ≡ b
-    → list_any (bytes_eq name) (if b then names else names ++ d.name ∷ []) ≡ false
-    → (bytes_eq d.name name ≡ false) × (list_any (bytes_eq name) names ≡ false)
-unmet_by name names d true is h =
-    let other : (t : Bool) → bytes_eq d.name name ≡ t → t ≡ false =
-    λ t e. elim t as (λ t. bytes_eq d.name name ≡ t → t ≡ false) [
-      | true ↦ λ e. absurd (true≢false (sym is ∙ ap (λ (n : List ℕ). list_any (bytes_eq n) names) ((bytes_eq-Decides d.name name).0 e) ∙ h))
-      | false ↦ λ e. refl
-    ] e in
-    (other _ refl, h)
-unmet_by name names d false is h =
-    let parts = sym (list_any-append (bytes_eq name) names (d.name ∷ [])) ∙ h in
-    let last = left_false (bytes_eq name d.name) false (right_false (list_any (bytes_eq name) names) _ parts) in
-    (turned name d.name _ refl last, left_false (list_any (bytes_eq name) names) _ parts)
+-- a name that wasn't met has no pieces, and wasn't among the names before
+unmet : (name : List ℕ) (names : List (List ℕ)) (pieces : List Piece)
+    → list_any (bytes_eq name) (fold with_piece_name names pieces) ≡ false
+    → (pieces_of name pieces ≡ []) × (list_any (bytes_eq name) names ≡ false)
+unmet name names [] absent = (refl, absent)
+unmet name names (piece ∷ pieces) absent =
+    let (no_pieces, not_after) = unmet name (with_piece_name names piece) pieces absent in
+    let (differs, not_before) = unmet_by name piece.name names _ refl not_after in
+    (ap (λ (b : Bool). if b then piece ∷ pieces_of name pieces else pieces_of name pieces) differs ∙ no_pieces, not_before)
 
-unmet : (name : List ℕ) (names : List (List ℕ)) (ds : List Piece)
-    → list_any (bytes_eq name) (fold with_piece_name names ds) ≡ false
-    → (pieces_of name ds ≡ []) × (list_any (bytes_eq name) names ≡ false)
-unmet name names [] h = (refl, h)
-unmet name names (d ∷ ds) h =
-    let rest = unmet name (with_piece_name names d) ds h in
-    let one = unmet_by name names d _ refl rest.1 in
-    (ap (λ (b : Bool). if b then d ∷ pieces_of name ds else pieces_of name ds) one.0 ∙ rest.0, one.1)
-
+-- a name that was met (`b`) stays, another one comes last
 named_by : (done : List Piece) (name : List ℕ) (b : Bool) → list_any (bytes_eq name) (names_in done) ≡ b
     → (if b then table done else table done ++ (name, no_tally) ∷ []) ≡ map (row_in done)
     (if b then names_in done else names_in done ++ name ∷ [])
 named_by done name true is = refl
 named_by done name false is =
-    ap (λ (t : Counted). table done ++ (name, t) ∷ []) (sym (ap (fold with_piece no_tally) (unmet name [] done is).0))
+    let (none, not_before) = unmet name [] done is in
+    ap (λ (t : Counted). table done ++ (name, t) ∷ []) (sym (ap (fold with_piece no_tally) none))
     ∙ sym (map_behind done (names_in done) name)
 
+-- a name is there
 named : (done : List Piece) (name : List ℕ) → with_row (table done) name ≡ map (row_in done) (with_name (names_in done) name)
 named done name =
     ap (λ (ks : List (List ℕ)). if list_any (bytes_eq name) ks then table done else table done ++ (name, no_tally)
     ∷ []) (keys_in done (names_in done)) ∙ named_by done name _ refl
 
+-- one piece more
 one_more : (done : List Piece) (p : Piece) → with_piece_in (table done) p ≡ table (done ++ p ∷ [])
 one_more done p =
     ap (map (row_with p)) (named done p.name) ∙ rows_grown done p (with_name (names_in done) p.name)
     ∙ ap (map (row_in (done ++ p ∷ []))) (sym (fold-append with_piece_name [] done (p ∷ [])))
 
+-- many pieces more
 table_more : (done ps : List Piece) → fold with_piece_in (table done) ps ≡ table (done ++ ps)
 table_more done [] = ap table (sym (append-nil done))
 table_more done (p ∷ ps) =
     ap (λ (rows : List Row). fold with_piece_in rows ps) (one_more done p) ∙ table_more (done ++ p ∷ []) ps
     ∙ ap table (append_assoc done (p ∷ []) ps)
 
+-- the rows that all pieces lead to
 pub all_tallied : (all : List Piece) → fold with_piece_in [] all ≡ table all
 all_tallied all = table_more [] all
 
 -- ---- one name
 
+-- a sum that was cut before stays cut
 min_more : (m a b c : ℕ) → min m (min m (a + b) + c) ≡ min m (a + (b + c))
 min_more m a b c = omega arith
 
+-- `u` is what `t` becomes by these pieces of one name
 pub record Grows (t : Counted) (ps : List Piece) (u : Counted) : Type 0 where
   pub calls : t.0.calls < 2 ^ 64 → u.0.calls ≡ cut (t.0.calls + length (call_times ps))
   pub total : t.0.total < 2 ^ 64 → u.0.total ≡ cut (t.0.total + sum (call_times ps))
@@ -130,6 +132,7 @@ pub record Grows (t : Counted) (ps : List Piece) (u : Counted) : Type 0 where
   pub counts : u.1 ≡ fold count_time t.1 (call_times ps)
 
 module _ (t : Counted) (p : Piece) (ps : List Piece) (u : Counted) where
+  -- the times of the calls, and of those within, if the first piece is a call (`b`) or not
   abbrev calls_by : Bool → List ℕ
   calls_by b = map (λ (x : Piece). x.time) (if b then p ∷ filter (λ (x : Piece). x.is_call) ps else filter (λ (x : Piece). x.is_call) ps)
 
@@ -138,6 +141,7 @@ module _ (t : Counted) (p : Piece) (ps : List Piece) (u : Counted) where
       map (λ (x : Piece). x.time) (if not b then p ∷ filter (λ (x : Piece). not x.is_call) ps else filter
       (λ (x : Piece). not x.is_call) ps)
 
+  -- the first piece is a call
   called : p.is_call ≡ true → Grows (with_call t p.time) ps u → Grows t (p ∷ ps) u
   called is h =
       let times : call_times (p ∷ ps) ≡ p.time ∷ call_times ps = ap calls_by is in
@@ -154,6 +158,7 @@ module _ (t : Counted) (p : Piece) (ps : List Piece) (u : Counted) where
         counts = h.counts ∙ ap (fold count_time t.1) (sym times);
       }
 
+  -- it is a scope within
   nested : p.is_call ≡ false → Grows (with_nested t p.time) ps u → Grows t (p ∷ ps) u
   nested is h =
       let times : call_times (p ∷ ps) ≡ call_times ps = ap calls_by is in
@@ -169,12 +174,14 @@ module _ (t : Counted) (p : Piece) (ps : List Piece) (u : Counted) where
         counts = h.counts ∙ ap (fold count_time t.1) (sym times);
       }
 
+-- the first piece is a call (`b`) or not
 grows_by : (t : Counted) (p : Piece) (ps : List Piece) (b : Bool) → p.is_call ≡ b
     → ((v : Counted) → Grows v ps (fold with_piece v ps))
     → Grows t (p ∷ ps) (fold with_piece (if b then with_call t p.time else with_nested t p.time) ps)
 grows_by t p ps true is rest = called t p ps _ is (rest (with_call t p.time))
 grows_by t p ps false is rest = nested t p ps _ is (rest (with_nested t p.time))
 
+-- many pieces
 grows : (t : Counted) (ps : List Piece) → Grows t ps (fold with_piece t ps)
 grows t [] =
     record {

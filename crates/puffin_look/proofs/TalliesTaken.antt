@@ -1,4 +1,7 @@
 -- The tallies of frames, thread after thread, and what a file has of them.
+--
+-- `IsTallying` holds between two streams of a frame: all but those that are left were added, if their thread is wanted.
+-- `tallying_at` begins it, `tallying_more` keeps it, `frame_tallied` ends it. What a whole file says follows from its frames' pieces.
 use Rattle.std.proofs.Common.{◌≡◌, ℕ, ◌+◌, Bool, true, false, List, [], ◌∷◌, ◌++◌, Option, Some, None, inl, inr, refl, ap, subst, sym, ◌∙◌, append_assoc, append-nil, slice_get}
 use Rattle.std.specs.Prelude.{filter, fold, if◌then◌else◌, IfSome}
 use Rattle.std.specs.List.{flat_map}
@@ -35,15 +38,17 @@ use Rattle.puffin_look.proofs.RowsTold.{rows_told}
 
 -- ---- a scope
 
+-- what is kept gives the name around
 stands_name : (v : Tallies) (w : Option ℕ) (around : List Span) → StandsFor v w around
     → name_at (rows_of v) w ≡ name_around v.known.now v.texts around
 stands_name v None around s = sym s
-stands_name v (Some i) around s = s.2 ∙ sym s.1
+stands_name v (Some i) around (name, named, at) = at ∙ sym named
 
+-- it has a name at its place
 pub stands_within : (v : Tallies) (w : Option ℕ) (around : List Span) → StandsFor v w around
     → IfSome w (λ i. (name : List ℕ) × (slice_get (keys_of (rows_of v)) i ≡ Some name))
 stands_within v None around s = tt
-stands_within v (Some i) around s = (s.0, s.2)
+stands_within v (Some i) around (name, named, at) = (name, at)
 
 -- the name was made first, which changed nothing else
 pub renamed : (v m u : Tallies) (w : Option ℕ) (name : List ℕ) (time : ℕ) → m.rows ≡ v.rows → m.known ≡ v.known
@@ -55,6 +60,7 @@ renamed v m u w name time rows known texts same h = record {
   texts = h.texts ∙ texts;
 }
 
+-- a scope was added, and its name's place stands for it
 pub entered : (v u : Tallies) (w : Option ℕ) (place : ℕ) (around : List Span) (s : Span) (time : ℕ) → time ≡ time_of s
     → HasMorePieces v u (pieces_at (name_at (rows_of v) w) (scope_name v.known.now v.texts s) time)
     → slice_get (keys_of (rows_of u)) place ≡ Some (scope_name v.known.now v.texts s) → StandsFor v w around
@@ -82,6 +88,7 @@ module _ (v : Tallying) where
   abbrev tree_pieces : Tree → List Piece
   tree_pieces t = forest_pieces v.tallies.known.now v.tallies.texts t.1
 
+  -- a stream counts if its thread is wanted
   wanted_one : (e : Entry) (b : Bool) → is_wanted v.wanted.now e.0 ≡ b → wanted_in v (e ∷ []) ≡ (if b then e ∷ [] else [])
   wanted_one e b is = ap (λ (x : Bool). if x then e ∷ [] else []) is
 
@@ -96,6 +103,7 @@ module _ (v : Tallying) where
     pub count : now.frames ≡ v.frames
     pub wanted : now.wanted ≡ v.wanted
 
+  -- no stream was added yet
   tallying_begun : (entries : List Entry) → IsTallying v entries entries
   tallying_begun entries = record {
     earlier = [];
@@ -111,6 +119,7 @@ module _ (v : Tallying) where
   pub tallying_at : (entries left : List Entry) → left ≡ entries → IsTallying v entries left
   tallying_at entries left same = subst (λ (es : List Entry). IsTallying v entries es) (sym same) (tallying_begun entries)
 
+  -- the next stream is one of the earlier ones from now on
   all_more : (entries earlier left rest : List Entry) (e : Entry) → left ≡ e ∷ rest → entries ≡ earlier ++ left
       → entries ≡ (earlier ++ e ∷ []) ++ rest
   all_more entries earlier left rest e next all =
@@ -119,38 +128,39 @@ module _ (v : Tallying) where
   same_wanted : (now : Tallying) → now.wanted ≡ v.wanted → now.wanted.now ≡ v.wanted.now
   same_wanted now same = ap (λ (w : Bor Wanted). w.now) same
 
+  -- the wanted ones of some streams and of one more
   wanted_more : (earlier : List Entry) (e : Entry) (b : Bool) → is_wanted v.wanted.now e.0 ≡ b
       → wanted_in v (earlier ++ e ∷ []) ≡ wanted_in v earlier ++ (if b then e ∷ [] else [])
   wanted_more earlier e b is =
       filter-append (λ d. is_wanted v.wanted.now d.0) earlier (e ∷ [])
       ∙ ap (λ (es : List Entry). wanted_in v earlier ++ es) (wanted_one e b is)
 
+  -- the next stream was added, or its thread isn't wanted
   pub tallying_more : (now new : Tallying) (entries left rest : List Entry) (e : Entry) → left ≡ e ∷ rest
       → IsTallying now entries left → StepsTally now new e.0 e.1 → IsTallying new entries rest
-  tallying_more now new entries left rest e next h (inl step) =
-      let a = step.1 in
-      let t : Tree = (e.0, a.forest) in
-      let wanted : is_wanted v.wanted.now e.0 ≡ true = ap (λ (w : Wanted). is_wanted w e.0) (sym (same_wanted now h.wanted)) ∙ step.0 in
+  tallying_more now new entries left rest e next h (inl (is, added)) =
+      let t : Tree = (e.0, added.forest) in
+      let wanted : is_wanted v.wanted.now e.0 ≡ true = ap (λ (w : Wanted). is_wanted w e.0) (sym (same_wanted now h.wanted)) ∙ is in
       let more : HasMorePieces now.tallies new.tallies (tree_pieces t) = subst (HasMorePieces now.tallies new.tallies)
-      (λ i. forest_pieces (h.pieces.known i).now (h.pieces.texts i) a.forest) a.pieces in
+      (λ i. forest_pieces (h.pieces.known i).now (h.pieces.texts i) added.forest) added.pieces in
       record {
         earlier = h.earlier ++ e ∷ [];
         all = all_more entries h.earlier left rest e next h.all;
         trees = h.trees ++ t ∷ [];
         spelled = subst (λ (es : List Entry). AreSpelled es (h.trees ++ t ∷ [])) (sym (wanted_more h.earlier e true wanted))
-            (spelled_more (wanted_in v h.earlier) h.trees e t h.spelled ((refl, a.spells), tt));
+            (spelled_more (wanted_in v h.earlier) h.trees e t h.spelled ((refl, added.spells), tt));
         pieces =
             subst (HasMorePieces v.tallies new.tallies)
             (ap (λ (ps : List Piece). flat_map tree_pieces h.trees ++ ps) (sym (append-nil (tree_pieces t)))
             ∙ sym (flat_map-append tree_pieces h.trees (t ∷ [])))
             (pieces_more v.tallies now.tallies new.tallies (flat_map tree_pieces h.trees) (tree_pieces t) h.pieces more);
-        whole = a.whole ∙ h.whole;
-        count = a.count ∙ h.count;
-        wanted = a.wanted ∙ h.wanted;
+        whole = added.whole ∙ h.whole;
+        count = added.count ∙ h.count;
+        wanted = added.wanted ∙ h.wanted;
       }
-  tallying_more now new entries left rest e next h (inr step) =
-      let unwanted : is_wanted v.wanted.now e.0 ≡ false = ap (λ (w : Wanted). is_wanted w e.0) (sym (same_wanted now h.wanted)) ∙ step.0 in
-      subst (λ (u : Tallying). IsTallying u entries rest) (sym step.1) (record {
+  tallying_more now new entries left rest e next h (inr (isnt, same)) =
+      let unwanted : is_wanted v.wanted.now e.0 ≡ false = ap (λ (w : Wanted). is_wanted w e.0) (sym (same_wanted now h.wanted)) ∙ isnt in
+      subst (λ (u : Tallying). IsTallying u entries rest) (sym same) (record {
         earlier = h.earlier ++ e ∷ [];
         all = all_more entries h.earlier left rest e next h.all;
         trees = h.trees;
@@ -162,6 +172,7 @@ module _ (v : Tallying) where
         wanted = h.wanted;
       })
 
+  -- the next stream has a fault, which is the first of the frame
   pub tallying_unread : (now : Tallying) (entries left rest : List Entry) (e : Entry) (fault : Error) → left ≡ e ∷ rest
       → IsTallying now entries left → is_wanted now.wanted.now e.0 ≡ true → IsFault e.1.form e.1.bytes fault
       → AreUnread (wanted_in v entries) fault
@@ -206,6 +217,7 @@ module _ (old : Tallying) (frame : OpenFrame) where
         },
       )
 
+  -- a frame is refused with this fault
   pub frame_unread : (entries : List Entry) (fault : Error) → all_streams frame ≡ entries
       → AreUnread (wanted_in old entries) fault → AreUnread (wanted_streams old.wanted.now frame) fault
   frame_unread entries fault same u = subst (λ (es : List Entry). AreUnread (wanted_in old es) fault) (sym same) u
@@ -219,6 +231,7 @@ module _ (old new : Tallying) (unread left before mid : Option (List ℕ)) where
   abbrev wanted : Wanted
   wanted = old.wanted.now
 
+  -- reading stopped as printing nothing did
   told : (e : FileError) → IsStopped IsNoText (RefusesTaken wanted) unread left before mid e → StopsReading wanted unread left e
   told e s = record {
     stored = s.stored;
@@ -226,12 +239,13 @@ module _ (old new : Tallying) (unread left before mid : Option (List ℕ)) where
     frames = s.frames;
     opens = s.opens;
     outcome = elim (s.outcome) [
-      | inl outside ↦ inl outside.0
-      | inr (inl behind) ↦ inr (inl behind.1)
-      | inr (inr letters) ↦ inr (inr letters.0)
+      | inl (outside, part) ↦ inl outside
+      | inr (inl (written, fault)) ↦ inr (inl fault)
+      | inr (inr (letters, written)) ↦ inr (inr letters)
     ];
   }
 
+  -- reading the file failed
   pub tallying_stopped : (e : FileError)
       → StopsListing none TakesTallies RefusesFrame wanted.frames old new unread left before mid e
       → StopsReading wanted unread left e
@@ -250,6 +264,7 @@ module _ (old new : Tallying) (unread left before mid : Option (List ℕ)) where
     none_told e outside =
         record { stored = h.stored; begins = h.begins; frames = h.listed.frames; opens = h.listed.opens; outcome = inl outside }
 
+    -- what is returned is what the file has
     pub top_told : (empty : rows_of old.tallies ≡ []) (k : Collection) (same : old.tallies.known.now ≡ k) (texts : Bool)
         (kept : old.tallies.texts ≡ texts) (zero : old.whole ≡ 0) (no_frames : old.frames ≡ 0) (top : Top)
         → HaveTallies (rows_of new.tallies) top.rows.items → top.whole ≡ new.whole → top.frames ≡ new.frames

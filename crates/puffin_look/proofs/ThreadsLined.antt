@@ -17,6 +17,7 @@ use Rattle.puffin_look.proofs.Lined.{Lists, lists_more, lists_done, list_closed}
 abbrev Entry : Type 0
 Entry = ThreadInfo × ThreadTotals
 
+-- the line of the next thread was added
 pub line_more : (form : Form) (old new : Lines) (k : ThreadInfo) (t : ThreadTotals) (rest it : List Entry) (total : List ℕ)
     → it ≡ (k, t) ∷ rest → Adds old new (thread_line form (key_of k, t))
     → Lists old (map (thread_line form) (key_entries it)) total → Lists new (map (thread_line form) (key_entries rest)) total
@@ -24,6 +25,7 @@ line_more form old new k t rest it total left added so_far =
     lists_more old new (thread_line form (key_of k, t)) (map (thread_line form) (key_entries rest)) total added
     (subst (λ (es : List Entry). Lists old (map (thread_line form) (key_entries es)) total) left so_far)
 
+-- no thread is left, so the lines are the list of all
 pub lines_done : (form : Form) (lines : Lines) (text : List ℕ) (all it : List Entry) → it ≡ []
     → Lists lines (map (thread_line form) (key_entries it))
     (opening form column_names ++ lines_text form (map (thread_line form) (key_entries all)))

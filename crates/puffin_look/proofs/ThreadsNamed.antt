@@ -31,14 +31,23 @@ found_all f found all it none so_far sorted =
 module _ (old new : AllTotals) (unread left before mid : Option (List ℕ)) (empty : by_key old.totals.entries ≡ tree.empty)
     (word : List ℕ) (found : List ThreadKey)
     (is : found ≡ threads_named word (map (λ e. e.0) (tree.entries (by_key new.totals.entries)))) where
+  -- found among the threads of these totals
   named_in : (totals : Totals) → by_key new.totals.entries ≡ totals → found ≡ threads_named word (map (λ e. e.0) (tree.entries totals))
   named_in totals same = is ∙ ap (λ (m : Totals). threads_named word (map (λ e. e.0) (tree.entries m))) same
 
+  -- found among the threads of the frames that were read
   pub named : (r : Result (Unit {0}) FileError) → fails_outside r ≡ false → Ends old new unread left before mid empty r
       → AreNamed word unread left found
-  named r quiet s =
-      let q = read_to_end old new unread left before mid empty r quiet s in
-      record { stored = q.0.stored; begins = q.0.begins; frames = q.0.frames; opens = q.0.opens; end = q.1; are = named_in _ q.0.totals }
+  named r quiet ending =
+      let (read, end) = read_to_end old new unread left before mid empty r quiet ending in
+      record {
+        stored = read.stored;
+        begins = read.begins;
+        frames = read.frames;
+        opens = read.opens;
+        end = end;
+        are = named_in _ read.totals;
+      }
 
 -- the first that are found count
 pub first_some : (found : List ThreadInfo) (some others : List ThreadKey) → map key_of found ≡ some → (length found ≡ 0 → ⊥)
@@ -46,6 +55,7 @@ pub first_some : (found : List ThreadInfo) (some others : List ThreadKey) → ma
 first_some [] some others is any = absurd (any refl)
 first_some (x ∷ xs) some others is any = ap (λ (ks : List ThreadKey). or_else ks others) is
 
+-- nothing was found, so the others count
 pub first_none : (found : List ThreadInfo) (some others : List ThreadKey) → map key_of found ≡ some → length found ≡ 0
     → others ≡ or_else some others
 first_none [] some others is none = ap (λ (ks : List ThreadKey). or_else ks others) is

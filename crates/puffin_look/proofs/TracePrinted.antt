@@ -14,9 +14,11 @@ use Rattle.puffin_look.proofs.Listed.{none_within}
 abbrev pub text_in : Trace → List ℕ
 text_in v = v.events.text.items
 
+-- the trace of no frames
 pub none_said : (o : Overview) (indices : Option Indices) → IsTrace o indices [] (trace_head ++ ([] ++ trace_end))
 none_said o indices = ([], subst (λ (fs : List OpenFrame). AreRead all_streams fs []) (none_within indices) tt, refl)
 
+-- the text of the frames and the end are the trace
 pub closed : (o : Overview) (indices : Option Indices) (old : Trace) → text_in old ≡ trace_head → numbers_of old ≡ tree.empty
     → old.events.overview.now ≡ o → (frames : List OpenFrame) (more : List ℕ) (v : Trace)
     → TakesTrace old (frames_within indices frames) more v → IsTrace o indices frames ((text_in old ++ more) ++ trace_end)

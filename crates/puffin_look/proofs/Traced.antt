@@ -1,4 +1,7 @@
 -- A frame that is traced, thread after thread.
+--
+-- `IsTracing` holds between two streams of a frame: all but those that are left were traced. `tracing_at` begins it, `tracing_more` keeps
+-- it, `frame_traced` ends it. Threads get their numbers on the way, so what an event prints depends on the streams before.
 use Rattle.std.proofs.Common.{◌≡◌, ℕ, List, [], ◌∷◌, ◌++◌, refl, ap, subst, sym, ◌∙◌, append_assoc, append-nil}
 use Rattle.std.specs.Prelude.{fold}
 use Rattle.std.proofs.lemmas.List.Sums.{fold-append}
@@ -17,12 +20,13 @@ use Rattle.puffin_look.specs.inner.Tracings.{numbers_of, AddsThread, AddsStream,
 use Rattle.puffin_look.specs.declared.events.Events.{Events}
 use Rattle.puffin_look.specs.declared.trace.Trace.{Trace}
 
+-- one stream more, with its tree
 pub spelled_more : (es : List Entry) (ts : List Tree) (e : Entry) (t : Tree) → AreSpelled es ts → AreSpelled (e ∷ []) (t ∷ [])
     → AreSpelled (es ++ e ∷ []) (ts ++ t ∷ [])
-spelled_more [] [] e t h one = one
-spelled_more [] (u ∷ ts) e t h one = absurd h
-spelled_more (d ∷ es) [] e t h one = absurd h
-spelled_more (d ∷ es) (u ∷ ts) e t h one = (h.0, spelled_more es ts e t h.1 one)
+spelled_more [] [] e t spelled one = one
+spelled_more [] (u ∷ ts) e t spelled one = absurd spelled
+spelled_more (d ∷ es) [] e t spelled one = absurd spelled
+spelled_more (d ∷ es) (u ∷ ts) e t (first, others) one = (first, spelled_more es ts e t others one)
 
 -- one item more
 pub outputs_more : {S X : Type 0} (out : S → X → List ℕ) (next : S → X → S) (s : S) (xs : List X) (x : X)
@@ -31,9 +35,11 @@ outputs_more out next s xs x =
     outputs-append out next s xs (x ∷ []) ∙ ap (λ (t : List ℕ). outputs out next s xs ++ t) (append-nil (out (fold next s xs) x))
 
 module _ (v : Trace) where
+  -- the events of these trees
   abbrev pub events_so_far : List Tree → List ℕ
   events_so_far ts = outputs (tree_events v.events.overview.now) numbered_with (numbers_of v) ts
 
+  -- the numbers of threads behind them
   abbrev pub numbers_so_far : List Tree → Numbers
   numbers_so_far ts = fold numbered_with (numbers_of v) ts
 
@@ -47,6 +53,7 @@ module _ (v : Trace) where
     pub overview : now.events.overview ≡ v.events.overview
     pub numbers : numbers_of now ≡ numbers_so_far trees
 
+  -- no stream was traced yet
   tracing_begun : (entries : List Entry) → IsTracing v entries entries
   tracing_begun entries = record {
     earlier = [];
@@ -61,6 +68,7 @@ module _ (v : Trace) where
   pub tracing_at : (entries left : List Entry) → left ≡ entries → IsTracing v entries left
   tracing_at entries left same = subst (λ (es : List Entry). IsTracing v entries es) (sym same) (tracing_begun entries)
 
+  -- the next stream was traced
   pub tracing_more : (now new : Trace) (entries left rest : List Entry) (e : Entry) → left ≡ e ∷ rest → IsTracing now entries left
       → AddsStream now new e.0 e.1 → IsTracing new entries rest
   tracing_more now new entries left rest e next h a =
@@ -79,6 +87,7 @@ module _ (v : Trace) where
             ∙ sym (fold-append numbered_with (numbers_of v) h.trees (t ∷ []));
       }
 
+  -- the next stream has a fault, which is the first of the frame
   pub tracing_unread : (now : Trace) (entries left rest : List Entry) (e : Entry) (frame : OpenFrame) (fault : Error)
       → left ≡ e ∷ rest → IsTracing now entries left → all_streams frame ≡ entries → IsFault e.1.form e.1.bytes fault
       → AreUnread (all_streams frame) fault

@@ -20,6 +20,7 @@ text_in v = v.lines.text.items
 
 module _ (old new : Trees) (empty : text_in old ≡ []) (k : Collection) (none : old.lines.known.now ≡ k)
     (unfound : old.is_found ≡ false) where
+  -- the text so far is that of these frames
   shown_text : (frames : List OpenFrame) (more : List ℕ) (v : Trees)
       → TakesTrees old (frames_within old.wanted.now.frames frames) more v
       → IsFrameText k old.wanted.now v.is_found frames (text_in old ++ more)
@@ -30,6 +31,7 @@ module _ (old new : Trees) (empty : text_in old ≡ []) (k : Collection) (none :
     taken.found ∙ ap (λ (b : Bool). Rattle.puffin_look.specs.FrameTree.found_in b taken.trees) unfound,
   )
 
+  -- printing the file failed
   pub frames_stopped : (unread left before after : Option (List ℕ)) (e : FileError)
       → StopsListing text_in TakesTrees RefusesFrame old.wanted.now.frames old new unread left before after e
       → IsStopped (IsAnyFrameText k old.wanted.now) (RefusesTaken old.wanted.now) unread left before after e
@@ -43,6 +45,7 @@ module _ (old new : Trees) (empty : text_in old ≡ []) (k : Collection) (none :
             (ap (λ (w : Bor Wanted). w.now) taken.wanted) refused,
       )) h
 
+  -- all frames were printed
   pub frames_printed : (unread left before after : Option (List ℕ))
       → ListsAll text_in TakesTrees old.wanted.now.frames old new unread left before after
       → IsPrinted (IsFrameText k old.wanted.now new.is_found) unread left before after

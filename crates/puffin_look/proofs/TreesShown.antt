@@ -1,4 +1,7 @@
 -- A frame that is shown as a tree, thread after thread.
+--
+-- `IsShowing` holds between two streams of a frame: all but those that are left were shown, if their thread is wanted.
+-- `showing_at` begins it, `showing_more` keeps it, `frame_shown` ends it.
 use Rattle.std.proofs.Common.{◌≡◌, ℕ, Bool, true, false, List, [], ◌∷◌, ◌++◌, inl, inr, refl, ap, subst, sym, ◌∙◌, append_assoc, append-nil}
 use Rattle.std.specs.Prelude.{filter, if◌then◌else◌}
 use Rattle.std.specs.List.{flat_map}
@@ -22,12 +25,14 @@ use Rattle.puffin_look.proofs.Traced.{spelled_more}
 
 -- ---- a scope within others
 
+-- shares within a scope are of the scope's time
 pub outer_time_within : (whole : ℕ) (around : List Span) (s : Span) → outer_time whole (around ++ s ∷ []) ≡ time_of s
 outer_time_within whole [] s = refl
 outer_time_within whole (o ∷ around) s = outer_time_within (time_of o) around s
 
 -- ---- a thread
 
+-- a thread's line was added, and then those of its scopes
 pub tree_added : (v m u : Lines) (key : ThreadKey) (f : Forest) → HasMoreLines v m (thread_line key)
     → HasMoreLines m u (forest_lines m.known.now m.range_ns f) → HasMoreLines v u (tree_text v.known.now v.range_ns (key, f))
 tree_added v m u key f h t = record {
@@ -42,11 +47,13 @@ tree_added v m u key f h t = record {
 abbrev wanted_in : Trees → List Entry → List Entry
 wanted_in v entries = filter (λ e. is_wanted v.wanted.now e.0) entries
 
+-- a stream more is found
 found_more : (before : Bool) (ts : List Tree) (t : Tree) → true ≡ has_trees before (ts ++ t ∷ [])
 found_more before [] t = refl
 found_more before (s ∷ ts) t = refl
 
 module _ (v : Trees) where
+  -- a stream counts if its thread is wanted
   wanted_one : (e : Entry) (b : Bool) → is_wanted v.wanted.now e.0 ≡ b → wanted_in v (e ∷ []) ≡ (if b then e ∷ [] else [])
   wanted_one e b is = ap (λ (x : Bool). if x then e ∷ [] else []) is
 
@@ -60,6 +67,7 @@ module _ (v : Trees) where
     pub found : now.is_found ≡ has_trees v.is_found trees
     pub wanted : now.wanted ≡ v.wanted
 
+  -- no stream was shown yet
   pub showing_begun : (entries : List Entry) → IsShowing v entries entries
   showing_begun entries = record {
     earlier = [];
@@ -74,6 +82,7 @@ module _ (v : Trees) where
   pub showing_at : (entries left : List Entry) → left ≡ entries → IsShowing v entries left
   showing_at entries left same = subst (λ (es : List Entry). IsShowing v entries es) (sym same) (showing_begun entries)
 
+  -- the next stream is one of the earlier ones from now on
   all_more : (entries earlier left rest : List Entry) (e : Entry) → left ≡ e ∷ rest → entries ≡ earlier ++ left
       → entries ≡ (earlier ++ e ∷ []) ++ rest
   all_more entries earlier left rest e next all =
@@ -82,12 +91,12 @@ module _ (v : Trees) where
   same_wanted : (now : Trees) → now.wanted ≡ v.wanted → now.wanted.now ≡ v.wanted.now
   same_wanted now same = ap (λ (w : Bor Wanted). w.now) same
 
+  -- the next stream was shown, or its thread isn't wanted
   pub showing_more : (now new : Trees) (entries left rest : List Entry) (e : Entry) → left ≡ e ∷ rest → IsShowing now entries left
       → StepsTree now new e.0 e.1 → IsShowing new entries rest
-  showing_more now new entries left rest e next h (inl step) =
-      let a = step.1 in
-      let t : Tree = (e.0, a.forest) in
-      let wanted : is_wanted v.wanted.now e.0 ≡ true = ap (λ (w : Wanted). is_wanted w e.0) (sym (same_wanted now h.wanted)) ∙ step.0 in
+  showing_more now new entries left rest e next h (inl (is, added)) =
+      let t : Tree = (e.0, added.forest) in
+      let wanted : is_wanted v.wanted.now e.0 ≡ true = ap (λ (w : Wanted). is_wanted w e.0) (sym (same_wanted now h.wanted)) ∙ is in
       let one = tree_text v.lines.known.now v.lines.range_ns in
       record {
         earlier = h.earlier ++ e ∷ [];
@@ -96,22 +105,22 @@ module _ (v : Trees) where
         spelled = subst (λ (es : List Entry). AreSpelled es (h.trees ++ t ∷ []))
             (sym (filter-append (λ d. is_wanted v.wanted.now d.0) h.earlier (e ∷ [])
             ∙ ap (λ (es : List Entry). wanted_in v h.earlier ++ es) (wanted_one e true wanted)))
-            (spelled_more (wanted_in v h.earlier) h.trees e t h.spelled ((refl, a.spells), tt));
+            (spelled_more (wanted_in v h.earlier) h.trees e t h.spelled ((refl, added.spells), tt));
         lines = record {
-          text = a.lines.text ∙ (λ i. h.lines.text i ++ tree_text (h.lines.known i).now (h.lines.range i) t)
+          text = added.lines.text ∙ (λ i. h.lines.text i ++ tree_text (h.lines.known i).now (h.lines.range i) t)
               ∙ append_assoc v.lines.text.items (flat_map one h.trees) (one t)
               ∙ ap (λ (x : List ℕ). v.lines.text.items
               ++ x) (ap (λ (x : List ℕ). flat_map one h.trees ++ x) (sym (append-nil (one t)))
               ∙ sym (flat_map-append one h.trees (t ∷ [])));
-          known = a.lines.known ∙ h.lines.known;
-          range = a.lines.range ∙ h.lines.range;
+          known = added.lines.known ∙ h.lines.known;
+          range = added.lines.range ∙ h.lines.range;
         };
-        found = a.found ∙ found_more v.is_found h.trees t;
-        wanted = a.wanted ∙ h.wanted;
+        found = added.found ∙ found_more v.is_found h.trees t;
+        wanted = added.wanted ∙ h.wanted;
       }
-  showing_more now new entries left rest e next h (inr step) =
-      let unwanted : is_wanted v.wanted.now e.0 ≡ false = ap (λ (w : Wanted). is_wanted w e.0) (sym (same_wanted now h.wanted)) ∙ step.0 in
-      subst (λ (u : Trees). IsShowing u entries rest) (sym step.1) (record {
+  showing_more now new entries left rest e next h (inr (isnt, same)) =
+      let unwanted : is_wanted v.wanted.now e.0 ≡ false = ap (λ (w : Wanted). is_wanted w e.0) (sym (same_wanted now h.wanted)) ∙ isnt in
+      subst (λ (u : Trees). IsShowing u entries rest) (sym same) (record {
         earlier = h.earlier ++ e ∷ [];
         all = all_more entries h.earlier left rest e next h.all;
         trees = h.trees;
@@ -125,6 +134,7 @@ module _ (v : Trees) where
         wanted = h.wanted;
       })
 
+  -- the next stream has a fault, which is the first of the frame
   pub showing_unread : (now : Trees) (entries left rest : List Entry) (e : Entry) (fault : Error) → left ≡ e ∷ rest
       → IsShowing now entries left → is_wanted now.wanted.now e.0 ≡ true → IsFault e.1.form e.1.bytes fault
       → AreUnread (wanted_in v entries) fault
@@ -178,6 +188,7 @@ frame_shown old v new frame all left text known range found wanted none h same =
       },
     )
 
+-- a frame is refused with this fault
 pub frame_unread : (old : Trees) (frame : OpenFrame) (entries : List Entry) (fault : Error) → all_streams frame ≡ entries
     → AreUnread (wanted_in old entries) fault → AreUnread (wanted_streams old.wanted.now frame) fault
 frame_unread old frame entries fault same u = subst (λ (es : List Entry). AreUnread (wanted_in old es) fault) (sym same) u

@@ -38,6 +38,7 @@ part_with frames name found row =
 abbrev pub part_in : ℕ → List TopRow → List ℕ → Option PerFrame
 part_in frames rows name = fold (part_with frames name) None rows
 
+-- the same of all rows of a file
 abbrev pub part_under : Top → List ℕ → Option PerFrame
 part_under top name = part_in top.frames top.rows.items name
 
@@ -70,6 +71,7 @@ entries old new = old_entries old new old.rows.items ++ new_entries old new new.
 
 -- ---- changes
 
+-- the own time in each frame, 0 if no scope has the name
 abbrev pub own_in : Option PerFrame → ℕ
 own_in None = 0
 own_in (Some part) = part.own

@@ -10,9 +10,12 @@ use Rattle.puffin_look.specs.declared.rows.Value.TheVariants.{Hundredths, Time, 
 use Rattle.puffin_look.specs.declared.diff.PerFrame.{PerFrame}
 use Rattle.puffin_look.specs.declared.diff.DiffRow.{DiffRow}
 
+-- the total time in each frame, 0 if no scope has the name
 abbrev pub total_in : Option PerFrame → ℕ
 total_in None = 0
 total_in (Some part) = part.total
+
+-- ---- cells: `-` in a table and `null` in JSON if no scope has the name
 
 abbrev pub own_of : Option PerFrame → Value
 own_of part = Time (option_map (λ p. p.own) part)
@@ -22,6 +25,8 @@ total_of part = Time (option_map (λ p. p.total) part)
 
 abbrev pub calls_of : Option PerFrame → Value
 calls_of part = Hundredths (option_map (λ p. p.calls) part)
+
+-- ---- rows
 
 -- the own times in each frame, the durations together, and the calls
 abbrev pub diff_cells : DiffRow → List Cell

@@ -8,7 +8,7 @@ use Rattle.puffin_view.specs.View.File.{frame_stored}
 use Rattle.puffin_look.specs.Printed.{Begins, EndsBehind}
 use Rattle.puffin_look.specs.declared.overview.Overview.{Overview}
 
--- the overview of no frames
+-- the overview of no frames: it begins at the greatest time, so that each frame's start is the lesser one
 abbrev pub no_overview : Overview
 no_overview = record { details = no_details; start = pos (2 ^ 63 - 1) }
 

@@ -13,9 +13,14 @@ use Rattle.puffin_look.specs.Wanted.{is_within, frames_within}
 use Rattle.puffin_look.specs.declared.wanted.Indices.{Indices}
 use Rattle.puffin_look.specs.Printed.{Begins, StopsAtNext}
 
+-- `text`, `takes` and `refuses` are the ghost members of the trait `Listing` (src/listing.rt): the text that is still to be written,
+-- what taking frames does, and why a frame is refused. `old` and `new` are the listing before and after a call. `unread` and `left` are
+-- the bytes that the reader had left before and after it, `before` and `after` those that the writer had taken; `None` means that the
+-- reader's or writer's bytes are unknown.
+
 -- ---- one frame
 
--- a frame was unpacked and added
+-- A frame was unpacked and added. `answer` is the result of unpacking it. Of a frame with none of these `indices` nothing is taken.
 pub record AddsFrame {L : Type 0} (text : L → List ℕ)
     (takes : L → List OpenFrame → List ℕ → L → Type 0) (indices : Option Indices) (old new : L)
     (answer : Result OpenFrame FileError) : Type 0 where
@@ -25,7 +30,7 @@ pub record AddsFrame {L : Type 0} (text : L → List ℕ)
   pub pending : text new ≡ text old ++ more
   pub taken : takes old (frames_within indices (frame ∷ [])) more new
 
--- it can't be unpacked, and the listing stayed as it was; or it is refused; or memory ran out
+-- A frame can't be unpacked, and the listing stayed as it was; or it is refused; or memory ran out.
 abbrev pub FailsToAdd : {L : Type 0} → (L → OpenFrame → Error → Type 0) → Option Indices → L → L →
     Result OpenFrame FileError → FileError → Type 0
 FailsToAdd refuses indices old new answer fault =
@@ -60,7 +65,8 @@ pub record ListsAll {L : Type 0} (text : L → List ℕ)
   pub none_left : text new ≡ []
   pub written : Appends before after (text old ++ more)
 
--- where and why listing stopped, behind the letters of the file
+-- Where and why listing stopped, behind the letters of the file. `state` is the listing after the frames of `stored`, before the step
+-- that failed. If memory ran out while a frame was added, nothing is said of the listing's last state, `new`.
 pub record StopsBehind {L : Type 0} (text : L → List ℕ)
     (takes : L → List OpenFrame → List ℕ → L → Type 0) (refuses : L → OpenFrame → Error → Type 0)
     (indices : Option Indices) (old new : L) (unread left before after : Option (List ℕ)) (fault : FileError) : Type 0 where
@@ -81,7 +87,7 @@ pub record StopsBehind {L : Type 0} (text : L → List ℕ)
       × (next : Stored) × HasGiven unread left (stored ++ next ∷ [])
       × FailsToAdd refuses indices state new (opened next) fault)
 
--- the file doesn't begin with its letters, or they can't be read
+-- the file doesn't begin with its letters, or they can't be read: nothing was taken or written
 pub record IsNoFile {L : Type 0} (takes : L → List OpenFrame → List ℕ → L → Type 0) (old new : L)
     (unread left before after : Option (List ℕ)) (fault : FileError) : Type 0 where
   pub same : new ≡ old
@@ -89,7 +95,7 @@ pub record IsNoFile {L : Type 0} (takes : L → List OpenFrame → List ℕ → 
   pub fails : FailsToRead file_at unread left fault
   pub written : Appends before after []
 
--- where and why listing stopped
+-- where and why listing stopped: behind the file's letters, or because of them
 abbrev pub StopsListing : {L : Type 0} → (L → List ℕ) →
     (L → List OpenFrame → List ℕ → L → Type 0) → (L → OpenFrame → Error → Type 0) →
     Option Indices → L → L → Option (List ℕ) → Option (List ℕ) → Option (List ℕ) → Option (List ℕ) → FileError → Type 0

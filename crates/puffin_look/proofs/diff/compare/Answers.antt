@@ -1,4 +1,6 @@
 -- The row of one more name was added, if only the new file has it.
+--
+-- `item`: the row is the one at this place, so the rows that are `done` are those before and it.
 use Rattle.std.proofs.Common.{◌≡◌, List, ℕ, ◌∷◌, [], ◌++◌, map, get_or, take, ap, sym, ◌∙◌, arith}
 use Rattle.std.proofs.lemmas.List.{take_more}
 use Rattle.puffin_look.specs.Diff.{entry_of, old_entries, new_entries}

@@ -1,4 +1,6 @@
 -- The times are those of the scope.
+--
+-- A time that fits `i64` is the one that its 64 bits stand for (`to_z-of_z`).
 use Rattle.std.proofs.Common.{◌++◌, ◌-ℤ◌, codes, w64, ◌∙◌}
 use Rattle.std.specs.Prelude.{unsigned_abs}
 use Rattle.std.proofs.lemmas.Int.{to_z-of_z}

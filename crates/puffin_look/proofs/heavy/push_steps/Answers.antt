@@ -1,4 +1,7 @@
 -- A step was added, or none follows.
+--
+-- At each level the heaviest step below is there (`some`) or not (`none`), and is followed (`half`) or not (`less`): so one of the three
+-- lemmas on steps applies.
 use Rattle.std.proofs.Common.{rules, ◌≡◌, List, ℕ, suc, ◌+◌, ◌-◌, true, false, length, Some, None, ap, subst, sym, ◌∙◌, arith}
 use Rattle.std.specs.Prelude.{option_map}
 use Rattle.puffin_look.specs.Heavy.{heaviest, is_followed, step_line, step_lines}

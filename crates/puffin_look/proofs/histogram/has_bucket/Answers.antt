@@ -1,4 +1,5 @@
--- Whether the count at the place, if there is one, is that of the bucket.
+-- Whether the count at the place, if there is one, is that of the bucket. (`lookup.1` of `get` is what stands at a place, `lookup.3`
+-- that the place is within the counts, or behind them.)
 use Rattle.std.proofs.Common.{sym}
 use Rattle.puffin_look.proofs.Ranked.{has_at, has_none}
 use Rattle.puffin_look.proofs.histogram.has_bucket.Goals as goal

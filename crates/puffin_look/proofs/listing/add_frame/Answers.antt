@@ -19,29 +19,30 @@ told cause = inr refl
 
 pub returns-clause-ok : goal.returns-clause-ok
 returns-clause-ok g c =
-    let added = c.in_ok-add_wanted.ensures.ok in
+    let (more, pending, taken) = c.in_ok-add_wanted.ensures.ok in
     let same = ap open_of c.deref.ensures in
     record {
       frame = open_of (arc_value c.in_ok-unpacked.unpacked);
       opens = opened_so (packet_fields c.args.frame)
           (arc_value c.in_ok-unpacked.unpacked) c.in_ok-unpacked.ensures.unpacked c.in_ok-unpacked.ensures.meta;
-      more = added.0;
-      pending = added.1;
+      more = more;
+      pending = pending;
       taken = subst (λ (f : OpenFrame). g.L.Listing.takes c.args.listing.now
-          (frames_within c.args.indices (f ∷ [])) added.0 c.add_wanted.new.listing) same added.2;
+          (frames_within c.args.indices (f ∷ [])) more c.add_wanted.new.listing) same taken;
     }
 
 pub returns-in_err-add_wanted-clause-err : goal.returns-in_err-add_wanted-clause-err
 returns-in_err-add_wanted-clause-err g c =
-    let p = err_from_is_err_and c.from_residual-in_err-add_wanted.result c.from_residual-in_err-add_wanted.ensures.1 in
+    let (returned, is_err, same_cause) = err_from_is_err_and c.from_residual-in_err-add_wanted.result
+    c.from_residual-in_err-add_wanted.ensures.1 in
     let cause = c.in_err-add_wanted.field-0.0 in
     let same = ap open_of c.deref.ensures in
-    rw (p.1, p.2) (elim (c.in_err-add_wanted.ensures.err) [
+    rw (is_err, same_cause) (elim (c.in_err-add_wanted.ensures.err) [
       | inl memory ↦ inl (ap file_error_of memory)
       | inr refused ↦ elim (told cause) [
         | inl memory ↦ inl memory
         | inr is ↦
-            let h = subst (λ (f : OpenFrame). (is_within c.args.indices f.meta.frame_index ≡ true)
+            let (there, refuses) = subst (λ (f : OpenFrame). (is_within c.args.indices f.meta.frame_index ≡ true)
             × g.L.Listing.refuses c.args.listing.now f cause) same refused in
             inr (inr (
               open_of (arc_value c.in_ok-unpacked.unpacked),
@@ -49,8 +50,8 @@ returns-in_err-add_wanted-clause-err g c =
               opened_so (packet_fields c.args.frame)
                   (arc_value c.in_ok-unpacked.unpacked) c.in_ok-unpacked.ensures.unpacked c.in_ok-unpacked.ensures.meta,
               is,
-              h.0,
-              h.1,
+              there,
+              refuses,
             ))
       ]
     ])

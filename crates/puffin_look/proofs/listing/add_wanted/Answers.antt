@@ -8,11 +8,11 @@ use Rattle.puffin_look.proofs.listing.add_wanted.Goals as goal
 pub returns-then-is_within-clause-ok : goal.returns-then-is_within-clause-ok
 returns-then-is_within-clause-ok g c =
     on_ok_weaker c.add.result
-    (λ h. (
-      h.0,
-      h.1,
-      subst (λ (fs : List OpenFrame). g.L.Listing.takes c.args.listing.now fs h.0 c.add.new.self)
-          (one_left_in c.args.indices (open_of c.args.frame.now) (sym c.is_within.ensures ∙ c.if-is_within.true)) h.2,
+    (λ (more, pending, taken). (
+      more,
+      pending,
+      subst (λ (fs : List OpenFrame). g.L.Listing.takes c.args.listing.now fs more c.add.new.self)
+          (one_left_in c.args.indices (open_of c.args.frame.now) (sym c.is_within.ensures ∙ c.if-is_within.true)) taken,
     ))
     c.add.ensures.ok
 

@@ -6,8 +6,8 @@ use Rattle.puffin_look.proofs.listing.list_frames.Goals as goal
 
 pub returns-in_err-read_magic-clause-err : goal.returns-in_err-read_magic-clause-err
 returns-in_err-read_magic-clause-err g c =
-    let p = err_from_is_err_and c.from_residual.result c.from_residual.ensures.1 in
-    rw (p.1, p.2) (not_a_file g.L.Listing.text g.L.Listing.takes c.args.indices g.L.Listing.refuses c.args.listing.now
+    let (cause, is_err, same_cause) = err_from_is_err_and c.from_residual.result c.from_residual.ensures.1 in
+    rw (is_err, same_cause) (not_a_file g.L.Listing.text g.L.Listing.takes c.args.indices g.L.Listing.refuses c.args.listing.now
     _ _ _ _ (g.met.L.Listing.takes_none c.args.listing.now) c.in_err-read_magic.ensures.err)
 
 pub returns-clause-ok : goal.returns-clause-ok

@@ -1,4 +1,7 @@
 -- What was made is the frame.
+--
+-- The loop's invariant says which streams were made, `left` that those that are left are the next one and the rest. The streams of a frame
+-- are `sorted` by thread, so they are the entries of its map (`entries_held`).
 use Rattle.std.proofs.Common.{rules, ◌≡◌, List, ℕ, map, ◌++◌, inl, inr, ap, subst, sym, ◌∙◌, w64, arith}
 use Rattle.std.proofs.lemmas.Int.{ints, to_z-of_z}
 use Rattle.std.proofs.lemmas.Result.{err_from_is_err_and}
@@ -28,18 +31,20 @@ streams-init c =
 pub streams-preserved : goal.streams-preserved
 streams-preserved c =
     let left = ap (map entry_of) (rest_more deref_pair _ _ _ _ c.in-Some.is c.next.ensures.steps) in
-    let h = subst (λ (r : StreamFacts). (f : Forest) × Spells r.form r.bytes f × HasMoreRows c.streams.rows c.add_stream.new.self
+    let (forest, spells, rows) = subst
+    (λ (r : StreamFacts). (f : Forest) × Spells r.form r.bytes f × HasMoreRows c.streams.rows c.add_stream.new.self
     (thread_json c.streams.rows.begin (key_of c.in-Some.thread.now, f))) (ap facts_of c.deref.ensures)
     c.in_ok-add_stream.ensures.ok in
-    making_more c.args.frame.now.meta _ _ _ _ _ _ h.0 left c.streams.invariant h.1 h.2
+    making_more c.args.frame.now.meta _ _ _ _ _ _ forest left c.streams.invariant spells rows
 
 pub returns-in_err-add_stream-clause-err : goal.returns-in_err-add_stream-clause-err
 returns-in_err-add_stream-clause-err c =
-    let p = err_from_is_err_and c.from_residual-in_err-add_stream.result c.from_residual-in_err-add_stream.ensures.1 in
+    let (cause, is_err, same_cause) = err_from_is_err_and c.from_residual-in_err-add_stream.result
+    c.from_residual-in_err-add_stream.ensures.1 in
     let sorted : IsStrictlySortedBy thread_cmp (keys_of c.args.frame.now.thread_streams.entries) = search rules in
     let left = ap (map entry_of) (rest_more deref_pair _ _ _ _ c.in-Some.is c.next.ensures.steps) in
     let fault_of = subst (λ (r : StreamFacts). IsFault r.form r.bytes c.in_err-add_stream.field-0.0) (ap facts_of c.deref.ensures) in
-    rw (p.1, p.2) (elim (c.in_err-add_stream.ensures.err) [
+    rw (is_err, same_cause) (elim (c.in_err-add_stream.ensures.err) [
       | inl memory ↦ inl memory
       | inr fault ↦ inr (subst (λ (es : List Entry). AreUnread es c.in_err-add_stream.field-0.0)
           (sym (entries_held c.args.frame.now.thread_streams.entries sorted))

@@ -7,8 +7,8 @@ use Rattle.puffin_look.proofs.page.print_page_data.Goals as goal
 
 pub returns-in_err-details_text-clause-err : goal.returns-in_err-details_text-clause-err
 returns-in_err-details_text-clause-err g c =
-    let p = err_from_is_err_and c.from_residual.result c.from_residual.ensures.1 in
-    rw p.1 (none_written c.args.overview.now.details c.args.frames.now _ _ _ p.0 p.2)
+    let (cause, is_err, memory) = err_from_is_err_and c.from_residual.result c.from_residual.ensures.1 in
+    rw is_err (none_written c.args.overview.now.details c.args.frames.now _ _ _ cause memory)
 
 pub returns-clause-ok : goal.returns-clause-ok
 returns-clause-ok g c =

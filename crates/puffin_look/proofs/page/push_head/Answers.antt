@@ -1,4 +1,6 @@
 -- The frame's index, start and stop.
+--
+-- A time that fits `i64` is the one that its 64 bits stand for (`to_z-of_z`).
 use Rattle.std.proofs.Common.{◌++◌, codes, ◌∙◌, w64, arith}
 use Rattle.std.specs.Fmt.{signed_decimal}
 use Rattle.std.proofs.lemmas.Int.{ints, to_z-of_z}

@@ -8,14 +8,14 @@ use Rattle.puffin_look.proofs.page_choice.add_frames.Goals as goal
 
 pub returns-in_err-read_magic-clause-read : goal.returns-in_err-read_magic-clause-read
 returns-in_err-read_magic-clause-read g c =
-    let p = err_from_is_err_and c.from_residual.result c.from_residual.ensures.1 in
-    rw (p.1, p.2) (inr (not_begun _ _ _ _ c.requires.recent c.requires.slow c.in_err-read_magic.ensures.err))
+    let (cause, is_err, same_cause) = err_from_is_err_and c.from_residual.result c.from_residual.ensures.1 in
+    rw (is_err, same_cause) (inr (not_begun _ _ _ _ c.requires.recent c.requires.slow c.in_err-read_magic.ensures.err))
 
 pub returns-in_err-frame-clause-read : goal.returns-in_err-frame-clause-read
 returns-in_err-frame-clause-read g c =
-    let p = err_from_is_err_and c.from_residual-in_err-frame.result c.from_residual-in_err-frame.ensures.1 in
+    let (cause, is_err, same_cause) = err_from_is_err_and c.from_residual-in_err-frame.result c.from_residual-in_err-frame.ensures.1 in
     let before = c.frames.invariant in
-    rw (p.1, p.2) (inr (stops_at _ _ _ _ before.stored before.given before.rows _ c.in_err-frame.ensures.next))
+    rw (is_err, same_cause) (inr (stops_at _ _ _ _ before.stored before.given before.rows _ c.in_err-frame.ensures.next))
 
 pub frames-preserved : goal.frames-preserved
 frames-preserved g c =

@@ -1,4 +1,6 @@
 -- The scope's parts, one after the other.
+--
+-- A time that fits `i64` is the one that its 64 bits stand for (`to_z-of_z`).
 use Rattle.std.proofs.Common.{List, ℕ, ◌++◌, codes, ap, ◌∙◌, w64}
 use Rattle.json.specs.Print.{quoted}
 use Rattle.std.proofs.lemmas.Int.{to_z-of_z}

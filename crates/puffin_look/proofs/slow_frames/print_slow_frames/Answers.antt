@@ -9,8 +9,8 @@ use Rattle.puffin_look.proofs.slow_frames.print_slow_frames.Goals as goal
 
 pub returns-in_err-list_frames-clause-err : goal.returns-in_err-list_frames-clause-err
 returns-in_err-list_frames-clause-err g c =
-    let p = err_from_is_err_and c.from_residual.result c.from_residual.ensures.1 in
-    rw (p.1, p.2) (inl (slow_stopped _ _ _ _ _ _ _ c.in_err-list_frames.ensures.err))
+    let (cause, is_err, same_cause) = err_from_is_err_and c.from_residual.result c.from_residual.ensures.1 in
+    rw (is_err, same_cause) (inl (slow_stopped _ _ _ _ _ _ _ c.in_err-list_frames.ensures.err))
 
 pub returns-clause-ok : goal.returns-clause-ok
 returns-clause-ok g c =

@@ -19,6 +19,8 @@ returns-in-Some-clause-place c =
     ∙ place_kept (rows_in c.args.rows.now.entries) (record { path = c.args.path.now; whole = c.args.time; nested = 0 })
     (Some c.in-Some.place) c.args.path.now at
 
+-- `new`: no entry has the path; `own`: the key that is inserted is the path; `none`: so no entry has the key
+
 pub returns-clause-rows : goal.returns-clause-rows
 returns-clause-rows c =
     let new = sym c.get_index_of.ensures.found ∙ ap is_some c.in_default.is in

@@ -16,6 +16,8 @@ pub returns-in-Some-clause-place : goal.returns-in-Some-clause-place
 returns-in-Some-clause-place c =
     place_found c.args.rows.now.entries c.args.name.now c.in-Some.place (sym c.get_index_of.ensures.index ∙ c.in-Some.is)
 
+-- `new`: no entry has the name; `own`: the key that is inserted is the name; `none`: so no entry has the key
+
 pub returns-clause-rows : goal.returns-clause-rows
 returns-clause-rows c =
     let new = sym c.get_index_of.ensures.found ∙ ap is_some c.in_default.is in

@@ -1,4 +1,7 @@
 -- What was printed is the lines of the threads in the frames that were read.
+--
+-- The lemmas of `ThreadsPrinted` want the same each time: that no totals were there before, and what `list_behind` says of a file whose
+-- letters were read (`begun`).
 use Rattle.std.proofs.Common.{List, ℕ, inl, inr, refl, ap, subst, sym, ◌∙◌}
 use Rattle.std.proofs.lemmas.Result.{err_from_is_err_and, on_ok_weaker}
 use Rattle.std.specs.Io.KnownBytes.{Appends}
@@ -22,8 +25,8 @@ returns-then-fails_outside-clause-err g c =
 
 pub returns-in_err-text-clause-err : goal.returns-in_err-text-clause-err
 returns-in_err-text-clause-err g c =
-    let p = err_from_is_err_and c.from_residual-in_err-text.result c.from_residual-in_err-text.ensures.1 in
-    rw p.1 (told_nothing c.list_behind-answer.new.listing c.list_behind-answer.new.listing _ _ _ _ c.args.form p.0 (inr p.2)
+    let (cause, is_err, memory) = err_from_is_err_and c.from_residual-in_err-text.result c.from_residual-in_err-text.ensures.1 in
+    rw is_err (told_nothing c.list_behind-answer.new.listing c.list_behind-answer.new.listing _ _ _ _ c.args.form cause (inr memory)
     (silent _ _ _ _ _ _ (ap by_key c.new-threads.ensures) c.list_behind-answer.result
     (ends _ _ _ _ _ _ (ap by_key c.new-threads.ensures) c.list_behind-answer.result
     (on_ok_weaker c.list_behind-answer.result (λ h. h _ c.in_ok-read_magic.ensures.begun) c.list_behind-answer.ensures.ok)
@@ -32,14 +35,16 @@ returns-in_err-text-clause-err g c =
 
 pub returns-in_err-write_all-clause-err : goal.returns-in_err-write_all-clause-err
 returns-in_err-write_all-clause-err g c =
-    let p = err_from_is_err_and c.from_residual-in_err-write_all.result c.from_residual-in_err-write_all.ensures.1 in
-    rw (p.1, p.2) (cut_told _ _ _ _ _ _ (ap by_key c.new-threads.ensures) c.args.form
+    let (is_io, why) = c.in_err-write_all.ensures.io in
+    let (cause, is_err, same_cause) = err_from_is_err_and c.from_residual-in_err-write_all.result
+    c.from_residual-in_err-write_all.ensures.1 in
+    rw (is_err, same_cause) (cut_told _ _ _ _ _ _ (ap by_key c.new-threads.ensures) c.args.form
     _ _ c.in_ok-text.ensures c.list_behind-answer.result c.in_err-write_all.field-0.0
     (sym c.fails_outside.ensures ∙ c.if-fails_outside.false)
     (ends _ _ _ _ _ _ (ap by_key c.new-threads.ensures) c.list_behind-answer.result
     (on_ok_weaker c.list_behind-answer.result (λ h. h _ c.in_ok-read_magic.ensures.begun) c.list_behind-answer.ensures.ok)
     (if_err_so c.list_behind-answer.result
-    (λ e h. inl (h _ c.in_ok-read_magic.ensures.begun)) c.list_behind-answer.ensures.err)) c.in_err-write_all.ensures.io.0
+    (λ e h. inl (h _ c.in_ok-read_magic.ensures.begun)) c.list_behind-answer.ensures.err)) is_io
     (subst (λ (bs : List ℕ). WritesBeginning (g.D.Drain.contents c.list_behind-answer.new.drain)
     (g.D.Drain.contents c.write_all.new.drain) bs) c.deref.ensures.value c.in_err-write_all.ensures.err))
 
@@ -53,8 +58,8 @@ returns-clause-err g c =
 
 pub returns-in_err-read_magic-clause-err : goal.returns-in_err-read_magic-clause-err
 returns-in_err-read_magic-clause-err g c =
-    let p = err_from_is_err_and c.from_residual.result c.from_residual.ensures.1 in
-    rw (p.1, p.2) (no_letters (IsThreadList c.args.form) RefusesNone _ refl _ _ _ _ c.in_err-read_magic.ensures.err)
+    let (cause, is_err, same_cause) = err_from_is_err_and c.from_residual.result c.from_residual.ensures.1 in
+    rw (is_err, same_cause) (no_letters (IsThreadList c.args.form) RefusesNone _ refl _ _ _ _ c.in_err-read_magic.ensures.err)
 
 pub returns-clause-ok : goal.returns-clause-ok
 returns-clause-ok g c =
@@ -67,5 +72,7 @@ returns-clause-ok g c =
     (g.D.Drain.contents c.write_all.new.drain) bs) c.deref.ensures.value c.in_ok-write_all.ensures.ok)
 
 pub returns-in_err-write_all-clause-io : goal.returns-in_err-write_all-clause-io
-returns-in_err-write_all-clause-io g c = λ is. end_failed c.list_behind-answer.result _ _ _
-    (sym c.fails_outside.ensures ∙ c.if-fails_outside.false) c.list_behind-answer.ensures.drained c.in_err-write_all.ensures.io.1
+returns-in_err-write_all-clause-io g c =
+    let (is_io, failed) = c.in_err-write_all.ensures.io in
+    λ is. end_failed c.list_behind-answer.result _ _ _
+    (sym c.fails_outside.ensures ∙ c.if-fails_outside.false) c.list_behind-answer.ensures.drained failed

@@ -9,8 +9,8 @@ use Rattle.puffin_look.proofs.top_table.print_top.Goals as goal
 
 pub returns-in_err-text-clause-err : goal.returns-in_err-text-clause-err
 returns-in_err-text-clause-err g c =
-    let p = err_from_is_err_and c.from_residual.result c.from_residual.ensures.1 in
-    rw (p.1, p.2) (inr refl, ([], _, refl, Appends-nil _))
+    let (cause, is_err, same_cause) = err_from_is_err_and c.from_residual.result c.from_residual.ensures.1 in
+    rw (is_err, same_cause) (inr refl, ([], _, refl, Appends-nil _))
 
 pub returns-clause-ok : goal.returns-clause-ok
 returns-clause-ok g c =

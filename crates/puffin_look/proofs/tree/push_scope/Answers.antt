@@ -1,4 +1,6 @@
 -- The line's parts, one after the other.
+--
+-- A time that fits `i64` is the one that its 64 bits stand for (`to_z-of_z`).
 use Rattle.std.proofs.Common.{List, ◌++◌, ◌-ℤ◌, ap, ◌∙◌, w64, arith}
 use Rattle.std.specs.List.{flat_map}
 use Rattle.std.specs.Prelude.{unsigned_abs}

@@ -1,4 +1,6 @@
 -- The duration was counted in its bucket, and the buckets are still in order.
+--
+-- The place is that of the first bucket that isn't lower. `at`: the bucket at this place is the one; `none`: it isn't.
 use Rattle.std.proofs.Common.{List, sym, ap, ◌∙◌, arith}
 use Rattle.puffin_look.specs.inner.Counts.{with_time, has_bucket}
 use Rattle.puffin_look.specs.declared.histogram.Count.{Count}
@@ -24,8 +26,9 @@ returns-then-has_bucket c =
     let all = c.args.self.now.counts.items in
     let at = ap (λ (cs : List Count). has_bucket cs c.place_of-place.result c.bucket_of-bucket.result) (sym c.deref.ensures.value)
     ∙ sym c.has_bucket.ensures ∙ c.if-has_bucket.true in
+    let (all_lower, none_lower) = c.place_of-place.ensures.point in
     put_more all c.place_of-place.result c.bucket_of-bucket.result c.saturating_add-calls.result c.index.result.now
-    c.place_of-place.ensures.point.0 at
+    all_lower at
     (omega (arith, c.saturating_add-calls.ensures, ap (λ (x : Count). x.calls) c.index.ensures))
     ∙ ap (with_time all) c.bucket_of-bucket.ensures.bucket
 
@@ -34,10 +37,11 @@ invariant_of-self-2 c =
     let all = c.args.self.now.counts.items in
     let none = ap (λ (cs : List Count). has_bucket cs c.place_of-place.result c.bucket_of-bucket.result)
     (sym c.deref.ensures.value) ∙ sym c.has_bucket.ensures ∙ c.if-has_bucket.false in
+    let (all_lower, none_lower) = c.place_of-place.ensures.point in
     record {
       sorted = sorted_if _ all c.insert.new.self.items _ c.bucket_of-bucket.result c.args.self.now.sorted
           (put_new all c.place_of-place.result c.bucket_of-bucket.result c.place_of-place.ensures.within
-          c.place_of-place.ensures.point.0 c.place_of-place.ensures.point.1 none) c.insert.ensures.items;
+          all_lower none_lower none) c.insert.ensures.items;
     }
 
 pub returns : goal.returns
@@ -45,7 +49,8 @@ returns c =
     let all = c.args.self.now.counts.items in
     let none = ap (λ (cs : List Count). has_bucket cs c.place_of-place.result c.bucket_of-bucket.result)
     (sym c.deref.ensures.value) ∙ sym c.has_bucket.ensures ∙ c.if-has_bucket.false in
+    let (all_lower, none_lower) = c.place_of-place.ensures.point in
     c.in_ok-insert.ensures.items
     ∙ put_new all c.place_of-place.result c.bucket_of-bucket.result c.place_of-place.ensures.within
-    c.place_of-place.ensures.point.0 c.place_of-place.ensures.point.1 none
+    all_lower none_lower none
     ∙ ap (with_time all) c.bucket_of-bucket.ensures.bucket

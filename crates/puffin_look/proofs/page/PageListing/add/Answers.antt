@@ -17,8 +17,8 @@ returns-else-has-clause-ok c = frame_passed c.args.self.now (open_of c.args.fram
 
 pub returns-in_err-json-clause-err : goal.returns-in_err-json-clause-err
 returns-in_err-json-clause-err c =
-    let p = err_from_is_err_and c.from_residual.result c.from_residual.ensures.1 in
-    rw (p.1, p.2) (elim (c.in_err-json.ensures.err) [
+    let (cause, is_err, same_cause) = err_from_is_err_and c.from_residual.result c.from_residual.ensures.1 in
+    rw (is_err, same_cause) (elim (c.in_err-json.ensures.err) [
       | inl memory ↦ inl memory
       | inr fault ↦ inr (frame_unread c.args.self.now (open_of c.args.frame.now) _ (sym c.has.ensures ∙ c.if-has.true) fault)
     ])

@@ -1,4 +1,6 @@
 -- The scope was appended, and the scopes within it are nested once more.
+--
+-- A time that fits `i64` is the one that its 64 bits stand for (`to_z-of_z`).
 use Rattle.std.proofs.Common.{List, ℕ, [], ◌∷◌, ◌++◌, ap, sym, ◌∙◌, refl, w64, arith, append-nil, length-append}
 use Rattle.std.proofs.lemmas.Int.{ints, to_z-of_z}
 use Rattle.puffin_data.specs.Walk.FoundScopes.{found_of}

@@ -1,4 +1,6 @@
 -- The frame was kept, if it is among the slowest.
+--
+-- A time that fits `i64` is the one that its 64 bits stand for (`to_z-of_z`).
 use Rattle.std.proofs.Common.{[], refl, ◌∙◌, w64, arith}
 use Rattle.std.proofs.lemmas.Int.{ints, to_z-of_z}
 use Rattle.puffin_look.specs.OpenFrame.{open_of}

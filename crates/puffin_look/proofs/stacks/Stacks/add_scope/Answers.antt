@@ -1,4 +1,6 @@
 -- The scope's path has its duration, and so has the path around it.
+--
+-- `path`: the path was made first; `first`: its time was added. `scope_nested` says that the second step gives all parts of the scope.
 use Rattle.std.proofs.Common.{ap, ◌∙◌}
 use Rattle.std.specs.Prelude.{Some}
 use Rattle.puffin_look.specs.Folded.{label}

@@ -1,4 +1,6 @@
 -- The scope was added below the scope that it is in.
+--
+-- A time that fits `i64` is the one that its 64 bits stand for (`to_z-of_z`).
 use Rattle.std.proofs.Common.{◌-ℤ◌, ◌∙◌, w64, arith}
 use Rattle.std.specs.Prelude.{unsigned_abs}
 use Rattle.std.proofs.lemmas.Int.{ints, to_z-of_z}

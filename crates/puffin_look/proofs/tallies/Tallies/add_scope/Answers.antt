@@ -1,4 +1,6 @@
 -- The scope's name has its duration, and so has the name around it.
+--
+-- `named`: the name has a row; `at`: its place.
 use Rattle.std.proofs.Common.{ap, ◌∙◌, refl}
 use Rattle.std.specs.Prelude.{Some}
 use Rattle.puffin_look.specs.inner.Tallies.{rows_in, rows_of, with_row}

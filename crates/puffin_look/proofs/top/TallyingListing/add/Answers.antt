@@ -1,4 +1,7 @@
 -- What was added is the frame's wanted threads, and its duration.
+--
+-- The loop's invariant says which streams were added, `left` that those that are left are the next one and the rest. The streams of a frame
+-- are `sorted` by thread, so they are the entries of its map (`entries_held`).
 use Rattle.std.proofs.Common.{rules, ◌≡◌, map, inl, inr, ap, subst, arith, refl}
 use Rattle.std.proofs.lemmas.Result.{err_from_is_err_and}
 use Rattle.std.proofs.lemmas.Map.Iter.{rest_more}
@@ -28,15 +31,15 @@ streams-preserved c =
 
 pub returns-in_err-add_stream-clause-err : goal.returns-in_err-add_stream-clause-err
 returns-in_err-add_stream-clause-err c =
-    let p = err_from_is_err_and c.from_residual.result c.from_residual.ensures.1 in
+    let (cause, is_err, same_cause) = err_from_is_err_and c.from_residual.result c.from_residual.ensures.1 in
     let sorted : IsStrictlySortedBy thread_cmp (keys_of c.args.frame.now.thread_streams.entries) = search rules in
     let left = ap (map entry_of) (rest_more deref_pair _ _ _ _ c.in-Some.is c.next.ensures.steps) in
     let fault_of = subst (λ (r : StreamFacts). IsFault r.form r.bytes c.in_err-add_stream.field-0.0) (ap facts_of c.deref.ensures) in
-    rw (p.1, p.2) (elim (c.in_err-add_stream.ensures.err) [
+    rw (is_err, same_cause) (elim (c.in_err-add_stream.ensures.err) [
       | inl memory ↦ inl memory
-      | inr fault ↦ inr (frame_unread c.args.self.now
+      | inr (wanted, fault) ↦ inr (frame_unread c.args.self.now
           (open_of c.args.frame.now) _ _ (entries_held c.args.frame.now.thread_streams.entries sorted)
-          (tallying_unread _ _ _ _ _ _ _ left c.streams.invariant fault.0 (fault_of fault.1)))
+          (tallying_unread _ _ _ _ _ _ _ left c.streams.invariant wanted (fault_of fault)))
     ])
 
 pub returns-clause-ok : goal.returns-clause-ok

@@ -8,6 +8,8 @@ use Rattle.puffin_look.proofs.trace.Trace.add_stream.Goals as goal
 pub returns-clause-ok : goal.returns-clause-ok
 returns-clause-ok c =
     on_ok_weaker c.add_stream.result
-    (λ h. stream_traced c.args.self.now c.number.new.self c.add_stream.new.self (key_of c.args.thread.now)
-    (facts_of c.args.info.now) c.in_ok-self.field-0 h.0 c.in_ok-self.ensures.ok.0 c.in_ok-self.ensures.ok.1 h.1 h.2)
+    (λ (forest, spelled, events).
+    let (is_number, numbered) = c.in_ok-self.ensures.ok in
+    stream_traced c.args.self.now c.number.new.self c.add_stream.new.self (key_of c.args.thread.now)
+    (facts_of c.args.info.now) c.in_ok-self.field-0 forest is_number numbered spelled events)
     c.add_stream.ensures.ok

@@ -7,9 +7,9 @@ use Rattle.puffin_look.proofs.tree.Lines.add_stream.Goals as goal
 pub returns-clause-ok : goal.returns-clause-ok
 returns-clause-ok c =
     on_ok_weaker c.add_scopes.result
-    (λ h. (
-      h.0,
-      h.1,
+    (λ (forest, spelled, lines). (
+      forest,
+      spelled,
       tree_added c.args.self.now c.push_head.new.self c.add_scopes.new.self
-          (key_of c.args.thread.now) h.0 c.in_ok-push_head.ensures h.2,
+          (key_of c.args.thread.now) forest c.in_ok-push_head.ensures lines,
     )) c.add_scopes.ensures.ok
