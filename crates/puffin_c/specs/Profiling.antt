@@ -193,20 +193,18 @@ IsNext old frame after =
     × (after ≡ after_frame old.collector))
 
 -- no frame waits, no scope is pending, and only the index has increased
-abbrev pub HasNone : Profiler → Profiler → Type 0
-HasNone old new =
-    (waiting_frame old ≡ None)
-    × (waiting_frame new ≡ None)
-    × HaveNoScopes old.collector.streams
-    × (new.collector ≡ after_no_frame old.collector)
+pub record HasNone (old new : Profiler) : Type 0 where
+  pub none_waited : waiting_frame old ≡ None
+  pub none_waits : waiting_frame new ≡ None
+  pub no_scopes : HaveNoScopes old.collector.streams
+  pub index_alone : new.collector ≡ after_no_frame old.collector
 
 -- the next frame waits, or there is none
-abbrev pub IsCollected : Profiler → Profiler → Type 0
-IsCollected old new =
-    (new.view ≡ old.view)
-    × (new.unread ≡ old.unread)
-    × (HasNone old new
-    ⊎ ((frame : FrameData) × IsNext old frame new.collector × (waiting_frame new ≡ Some frame)))
+pub record IsCollected (old new : Profiler) : Type 0 where
+  pub view : new.view ≡ old.view
+  pub unread : new.unread ≡ old.unread
+  pub outcome : HasNone old new
+      ⊎ ((frame : FrameData) × IsNext old frame new.collector × (waiting_frame new ≡ Some frame))
 
 -- The next frame was added to the view; or there is none because no scope is pending.
 abbrev pub IsTaken : Profiler → Profiler → Option FrameMeta → Type 0
