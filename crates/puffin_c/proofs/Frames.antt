@@ -65,18 +65,17 @@ pub still_waits : (old mid new : Profiler) (cause : Error) (frame : FrameData) �
     waiting_frame mid ≡ Some frame → new.collector ≡ mid.collector → waiting_frame new ≡ waiting_frame mid →
     new.unread ≡ mid.unread → KeepsFrames (view_of mid.view) (index_of (frame_of frame)) (view_of new.view) →
     cause ≡ Memory → IsLeft old new cause
-still_waits old mid new cause frame collected waiting same_collector same_waiting unread keeps memory =
-    let next = the_next old mid frame collected waiting in (
-      unread ∙ collected.unread,
-      inr (
-        memory,
-        frame,
-        subst (IsNext old frame) (sym same_collector) next,
-        same_waiting ∙ waiting,
-        subst (λ (v : View). KeepsFrames v (index_of (frame_of frame)) (view_of new.view))
-            (ap (λ (v : FrameView). view_of v) collected.view) keeps,
-      ),
-    )
+still_waits old mid new cause frame collected waiting same_collector same_waiting unread keeps memory = (
+  unread ∙ collected.unread,
+  inr (record {
+    memory = memory;
+    frame = frame;
+    next = subst (IsNext old frame) (sym same_collector) (the_next old mid frame collected waiting);
+    waits = same_waiting ∙ waiting;
+    frames = subst (λ (v : View). KeepsFrames v (index_of (frame_of frame)) (view_of new.view))
+        (ap (λ (v : FrameView). view_of v) collected.view) keeps;
+  }),
+)
 
 -- ---- ids
 

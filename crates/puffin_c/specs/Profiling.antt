@@ -217,20 +217,25 @@ IsTaken old new (Some meta) =
     × (new.unread ≡ old.unread)
 IsTaken old new None = HasNone old new × (new.view ≡ old.view) × (new.unread ≡ old.unread)
 
--- The call was refused. Either everything pending is kept; or memory ran out after the next frame was collected, and the frame
--- waits for the next call.
+-- everything pending is kept, and no frame waits
+pub record KeepsAllPending (old new : Profiler) (refusal : Error) : Type 0 where
+  pub none_waited : waiting_frame old ≡ None
+  pub none_waits : waiting_frame new ≡ None
+  pub pending : KeepsPending old.collector refusal new.collector
+  pub view : new.view ≡ old.view
+
+-- memory ran out after the next frame was collected, and the frame waits for the next call
+pub record KeepsNext (old new : Profiler) (refusal : Error) : Type 0 where
+  pub memory : refusal ≡ error.Memory
+  pub frame : FrameData
+  pub next : IsNext old frame new.collector
+  pub waits : waiting_frame new ≡ Some frame
+  pub frames : KeepsFrames (view_of old.view) (index_of (frame_of frame)) (view_of new.view)
+
+-- The call was refused. Either everything pending is kept, or the next frame is.
 abbrev pub IsLeft : Profiler → Profiler → Error → Type 0
 IsLeft old new refusal =
-    (new.unread ≡ old.unread)
-    × (((waiting_frame old ≡ None)
-    × (waiting_frame new ≡ None)
-    × KeepsPending old.collector refusal new.collector
-    × (new.view ≡ old.view))
-    ⊎ ((refusal ≡ error.Memory)
-    × (frame : FrameData)
-    × IsNext old frame new.collector
-    × (waiting_frame new ≡ Some frame)
-    × KeepsFrames (view_of old.view) (index_of (frame_of frame)) (view_of new.view)))
+    (new.unread ≡ old.unread) × (KeepsAllPending old new refusal ⊎ KeepsNext old new refusal)
 
 -- what the program gets: the frame's description, or only that there is no frame
 abbrev pub IsTold : Option FrameMeta → PuffinFrame → PuffinFrame → Type 0
