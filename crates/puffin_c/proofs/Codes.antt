@@ -10,9 +10,11 @@ use Rattle.puffin_c.specs.declared.fault.Fault.{Fault}
 use Rattle.puffin_c.specs.declared.fault.Fault.TheVariants as fault
 use Rattle.puffin_c.specs.Faults.{answer_code}
 
+-- what a call returns
 abbrev pub Answer : Type 0
 Answer = Result (Unit {0}) Fault
 
+-- the error, and the answer, whose number is this
 abbrev error_at : ℕ → Error
 error_at n =
     if n == 1 then error.PrematureEnd else
@@ -33,7 +35,7 @@ error_at n =
     if n == 16 then error.Memory else
     error.UnlikeForms
 
--- the answer whose number is r and 256 times q
+-- the answer whose number is r and 256 times q, where q is the number that a file's fault holds
 abbrev answer_at : ℕ → ℕ → Answer
 answer_at r q =
     if r == 0 then Ok tt else
@@ -60,12 +62,14 @@ answer_at r q =
 abbrev answer_of : ℕ → Answer
 answer_of n = answer_at (n % 256) (n / 256)
 
+-- which is found by division
 high : (a q : ℕ) → a < 256 → answer_of (a + 256 * q) ≡ answer_at a q
 high a q low =
     let rest : (a + 256 * q) % 256 ≡ a = omega (arith, low) in
     let times : (a + 256 * q) / 256 ≡ q = omega (arith, low) in
     ap (λ (r : ℕ). answer_at r ((a + 256 * q) / 256)) rest ∙ ap (answer_at a) times
 
+-- each error, each file's fault and each answer is read back from its number
 again : (e : Error) → error_at (error_number e) ≡ e
 again e = grind arith
 

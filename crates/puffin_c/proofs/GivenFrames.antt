@@ -10,22 +10,25 @@ use Rattle.puffin_frames.specs.Packet.Front.{next_at}
 use Rattle.puffin_view.specs.View.File.{magic}
 use Rattle.puffin_view.specs.View.FrameFile.{frame_at, AreGiven, HasGiven}
 
+-- the frame that a reading gives, if any
 abbrev next_of : Result (Option Stored × List ℕ) FileError → Option Stored
-next_of (Ok next) = next.0
+next_of (Ok (frame, rest)) = frame
 next_of (Err e) = None
 
+-- no bytes are read as the end
 no_bytes : (bytes : List ℕ) → length bytes ≡ 0 → next_at bytes ≡ Ok (None, drop 4 bytes)
 unfolding next_at
 no_bytes bytes none =
     let short : ltb (length bytes) 4 ≡ true = lt-ltb _ _ (omega (arith, none)) in rw short refl
 
--- a frame has bytes, since no bytes are read as the end
+-- so a frame has bytes
 has_bytes : (front : List ℕ) (s : Stored) → ((rest : List ℕ) → frame_at (front ++ rest) ≡ Ok (Some s, rest)) → 0 < length front
 has_bytes [] s gives =
     let read : frame_at [] ≡ Ok (Some s, []) = gives [] in
     let none : None ≡ Some s = ap next_of (rw (no_bytes [] refl) at read) in absurd (cc)
 has_bytes (x ∷ xs) s gives = omega arith
 
+-- and there are at most as many frames as bytes, not counting the four letters of the file
 fewer_frames : (bytes : List ℕ) (frames : List Stored) → AreGiven bytes frames → length frames ≤ length bytes
 fewer_frames bytes [] given = omega arith
 fewer_frames bytes (s ∷ frames) (front, others, is, gives, rest) =
@@ -40,7 +43,8 @@ few_frames bytes left frames given =
     omega (arith, ap length given.consumed, length-append (magic ++ given.bytes) left, length-append magic given.bytes)
 
 -- where the frames so far end
-pub end_given : (bytes left : List ℕ) (frames : List Stored) (read : ℕ) → HasGiven (Some bytes) (Some left) frames → read ≡ length bytes - length left → read + length left ≡ length bytes
+pub end_given : (bytes left : List ℕ) (frames : List Stored) (read : ℕ) → HasGiven (Some bytes) (Some left) frames →
+    read ≡ length bytes - length left → read + length left ≡ length bytes
 end_given bytes left frames read given is = omega (arith, ap length given.consumed, length-append (magic ++ given.bytes) left, is)
 
 -- a call that counts no failure doesn't return `Io`

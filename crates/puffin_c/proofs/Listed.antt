@@ -15,16 +15,21 @@ use Rattle.puffin_collector.specs.Collector.State.{Collected}
 use Rattle.puffin_collector.specs.Collector.Collecting.{HoldsAll}
 use Rattle.puffin_c.specs.Naming.{after_naming}
 
--- what is under a key is among the values
+-- an entry that is found is the first one, or among the others
 step : (b : Bool) (x v : Details) (rest : Option Details) (xs : List Details) → (if b then Some x else rest) ≡ Some v →
     (rest ≡ Some v → Contains xs v) → Contains (x ∷ xs) v
 step true x v rest xs is more = (0, omega arith, ap (λ (o : Option Details). unwrap_or o v) is)
-step false x v rest xs is more = let h = more is in (suc h.0, omega (arith, h.1), h.2)
+step false x v rest xs is more = let (index, low, at) = more is in (suc index, omega (arith, low), at)
 
-found : (q : ℕ) (es : List (ℕ × Details)) (v : Details) → find nat_cmp q es ≡ Some v → Contains (map (λ e. e.1) es) v
-found q [] v is = absurd (true≢false (sym (ap is_some is)))
-found q (e ∷ es) v is = step (eq_by_cmp nat_cmp q e.0) e.1 v (find nat_cmp q es) (map (λ e. e.1) es) is (found q es v)
+-- what is under a key is among the values
+found : (key : ℕ) (entries : List (ℕ × Details)) (value : Details) → find nat_cmp key entries ≡ Some value →
+    Contains (map (λ e. e.1) entries) value
+found key [] value is = absurd (true≢false (sym (ap is_some is)))
+found key ((first, details) ∷ entries) value is =
+    step (eq_by_cmp nat_cmp key first) details value (find nat_cmp key entries) (map (λ e. e.1) entries) is
+    (found key entries value)
 
+-- details that are registered under a new id are known, so the next frame lists them
 pub listed : (c : Collected) (d : Details) (id : ℕ) (frame : FrameData) → tree.get c.collection.by_id id ≡ None →
     HoldsAll (after_naming c (with_id d id)) frame → Contains (frame_details frame) (with_id d id)
 listed c d id frame none holds =

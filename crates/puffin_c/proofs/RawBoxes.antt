@@ -31,6 +31,7 @@ use Rattle.std_alloc.specs.Box.Ownership.{box_owns}
 use Rattle.std_alloc.proofs.ResultValues.{and_tt}
 use Rattle.puffin_c.specs.contracts.raw_box.RawBox as raw_box
 
+-- a struct of two fields
 abbrev pub two : Val → Val → Val
 two first second = vstruct (vcons first (vcons second vnil))
 

@@ -18,6 +18,7 @@ use Rattle.puffin_c.specs.declared.held.Held.{Held}
 use Rattle.puffin_c.specs.declared.held.Held.TheVariants.{Ids, Thread, Profiler}
 use Rattle.puffin_c.specs.Owning.{row_of}
 
+-- each value that a handle may hold, field by field
 pub ids_send : IsSend ScopeIds.the_row
 ids_send = search (crosses, sendable) depth 60 fits 100000
 
@@ -51,6 +52,7 @@ profiler_send = recorded_send profiler.the_field.row _ _ profiler.the_type.to_on
   ),
 ))
 
+-- so what a slot holds may be sent
 pub row_send : (h : Held) → IsSend (row_of h)
 row_send (Ids x) = shared_send
 row_send (Thread x) = recorder_send

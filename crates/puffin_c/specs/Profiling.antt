@@ -193,20 +193,18 @@ IsNext old frame after =
     × (after ≡ after_frame old.collector))
 
 -- no frame waits, no scope is pending, and only the index has increased
-abbrev pub HasNone : Profiler → Profiler → Type 0
-HasNone old new =
-    (waiting_frame old ≡ None)
-    × (waiting_frame new ≡ None)
-    × HaveNoScopes old.collector.streams
-    × (new.collector ≡ after_no_frame old.collector)
+pub record HasNone (old new : Profiler) : Type 0 where
+  pub none_waited : waiting_frame old ≡ None
+  pub none_waits : waiting_frame new ≡ None
+  pub no_scopes : HaveNoScopes old.collector.streams
+  pub index_alone : new.collector ≡ after_no_frame old.collector
 
 -- the next frame waits, or there is none
-abbrev pub IsCollected : Profiler → Profiler → Type 0
-IsCollected old new =
-    (new.view ≡ old.view)
-    × (new.unread ≡ old.unread)
-    × (HasNone old new
-    ⊎ ((frame : FrameData) × IsNext old frame new.collector × (waiting_frame new ≡ Some frame)))
+pub record IsCollected (old new : Profiler) : Type 0 where
+  pub view : new.view ≡ old.view
+  pub unread : new.unread ≡ old.unread
+  pub outcome : HasNone old new
+      ⊎ ((frame : FrameData) × IsNext old frame new.collector × (waiting_frame new ≡ Some frame))
 
 -- The next frame was added to the view; or there is none because no scope is pending.
 abbrev pub IsTaken : Profiler → Profiler → Option FrameMeta → Type 0
@@ -219,20 +217,25 @@ IsTaken old new (Some meta) =
     × (new.unread ≡ old.unread)
 IsTaken old new None = HasNone old new × (new.view ≡ old.view) × (new.unread ≡ old.unread)
 
--- The call was refused. Either everything pending is kept; or memory ran out after the next frame was collected, and the frame
--- waits for the next call.
+-- everything pending is kept, and no frame waits
+pub record KeepsAllPending (old new : Profiler) (refusal : Error) : Type 0 where
+  pub none_waited : waiting_frame old ≡ None
+  pub none_waits : waiting_frame new ≡ None
+  pub pending : KeepsPending old.collector refusal new.collector
+  pub view : new.view ≡ old.view
+
+-- memory ran out after the next frame was collected, and the frame waits for the next call
+pub record KeepsNext (old new : Profiler) (refusal : Error) : Type 0 where
+  pub memory : refusal ≡ error.Memory
+  pub frame : FrameData
+  pub next : IsNext old frame new.collector
+  pub waits : waiting_frame new ≡ Some frame
+  pub frames : KeepsFrames (view_of old.view) (index_of (frame_of frame)) (view_of new.view)
+
+-- The call was refused. Either everything pending is kept, or the next frame is.
 abbrev pub IsLeft : Profiler → Profiler → Error → Type 0
 IsLeft old new refusal =
-    (new.unread ≡ old.unread)
-    × (((waiting_frame old ≡ None)
-    × (waiting_frame new ≡ None)
-    × KeepsPending old.collector refusal new.collector
-    × (new.view ≡ old.view))
-    ⊎ ((refusal ≡ error.Memory)
-    × (frame : FrameData)
-    × IsNext old frame new.collector
-    × (waiting_frame new ≡ Some frame)
-    × KeepsFrames (view_of old.view) (index_of (frame_of frame)) (view_of new.view)))
+    (new.unread ≡ old.unread) × (KeepsAllPending old new refusal ⊎ KeepsNext old new refusal)
 
 -- what the program gets: the frame's description, or only that there is no frame
 abbrev pub IsTold : Option FrameMeta → PuffinFrame → PuffinFrame → Type 0

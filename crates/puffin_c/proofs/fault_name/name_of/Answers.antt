@@ -1,3 +1,4 @@
+-- 0 is the number of success, and any other number with a name is that of a fault.
 use Rattle.std.proofs.Common.{refl, sym, inl}
 use Rattle.std.specs.Prelude.{Ok, Err}
 use Rattle.puffin_c.proofs.fault_name.name_of.Goals as goal

@@ -1,4 +1,4 @@
--- The frames that were given are counted.
+-- The frames that were given are counted. A file has fewer frames than bytes, so the counter never reaches its end.
 use Rattle.std.proofs.Common.{◌≡◌, ℕ, List, [], ◌∷◌, ◌++◌, ◌^◌, ◌-◌, ◌<◌, length, refl, sym, ◌∙◌, subst, inr, arith, length-append}
 use Rattle.std.proofs.lemmas.Result.{err_from_is_err_and}
 use Rattle.std.specs.Prelude.{Some, Option}
@@ -11,49 +11,50 @@ use Rattle.puffin_c.proofs.file.check.Goals as goal
 
 pub frames-init : goal.frames-init
 frames-init c =
-    let given = subst (λ (bs : List ℕ). HasGiven (Some bs) (Some c.read_magic-begun.new.source.unread.now) []) c.new-source.ensures c.in_ok-begun.ensures.begun in
+    let given = subst (λ (bs : List ℕ). HasGiven (Some bs) (Some c.read_magic-begun.new.source.unread.now) [])
+        c.new-source.ensures c.in_ok-begun.ensures.begun in
     ([], given, refl, refl, end_given _ _ _ _ given c.offset_in.ensures)
 
 pub returns-in_err-_frame : goal.returns-in_err-_frame
 returns-in_err-_frame c =
-    let p = err_from_is_err_and c.from_residual-in_err-_frame.result c.from_residual-in_err-_frame.ensures.1 in
-    let before = c.frames.invariant in
-    let few = few_frames _ _ before.0 before.1 in
-    let short : length before.0 < 2 ^ 64 - 1 = omega arith in
-    rw p.1 (
+    let (_, is_err, same_cause) = err_from_is_err_and c.from_residual-in_err-_frame.result c.from_residual-in_err-_frame.ensures.1 in
+    let (stored, given, counted, told, ends) = c.frames.invariant in
+    let few = few_frames _ _ stored given in
+    let short : length stored < 2 ^ 64 - 1 = omega arith in
+    rw is_err (
       _,
       _,
-      p.2,
+      same_cause,
       no_io (Option FrameData) _ c.in_err-_frame.ensures.failures,
-      c.in_err-_frame.ensures.fault _ before.0 before.1 short,
-      inr (_, before.0, record { given = before.1; end = before.4 }, before.3 ∙ sym before.2, c.in_err-_frame.ensures.next),
+      c.in_err-_frame.ensures.fault _ stored given short,
+      inr (_, stored, record { given = given; end = ends }, told ∙ sym counted, c.in_err-_frame.ensures.next),
       c.offset_in-in-frames.ensures,
     )
 
 pub returns-in_default : goal.returns-in_default
 returns-in_default c =
-    let before = c.frames.invariant in
-    let few = few_frames _ _ before.0 before.1 in
-    let short : length before.0 < 2 ^ 64 - 1 = omega arith in
-    let took = (rw c.in_default.is at c.in_ok-_frame.ensures.end) _ before.0 before.1 short in
-    (_, before.0, _, took, record { given = before.1; end = before.4 }, before.3 ∙ sym before.2, c.offset_in-in-frames.ensures)
+    let (stored, given, counted, told, ends) = c.frames.invariant in
+    let few = few_frames _ _ stored given in
+    let short : length stored < 2 ^ 64 - 1 = omega arith in
+    let took = (rw c.in_default.is at c.in_ok-_frame.ensures.end) _ stored given short in
+    (_, stored, _, took, record { given = given; end = ends }, told ∙ sym counted, c.offset_in-in-frames.ensures)
 
 pub frames-preserved : goal.frames-preserved
 frames-preserved c =
-    let before = c.frames.invariant in
+    let (stored, given, counted, told, ends) = c.frames.invariant in
     let one : List Stored = stored_of c.in-Some._frame ∷ [] in
-    let given = (rw c.in-Some.is at c.in_ok-_frame.ensures.given) _ before.0 before.1 in (
-      before.0 ++ one,
-      given,
-      omega (arith, length-append before.0 one, before.2),
-      omega (arith, before.3),
-      end_given _ _ _ _ given c.offset_in-in-frames.ensures,
+    let one_more = (rw c.in-Some.is at c.in_ok-_frame.ensures.given) _ stored given in (
+      stored ++ one,
+      one_more,
+      omega (arith, length-append stored one, counted),
+      omega (arith, told),
+      end_given _ _ _ _ one_more c.offset_in-in-frames.ensures,
     )
 
 pub returns : goal.returns
 returns c =
-    let before = c.frames.invariant in
-    let few = few_frames _ _ before.0 before.1 in
-    let short : length before.0 < 2 ^ 64 - 1 = omega arith in
-    let all : length before.0 ≡ 2 ^ 64 - 1 = omega (arith, before.2, c.frames-test.false, c.frames.auto.counter-end) in
+    let (stored, given, counted, told, ends) = c.frames.invariant in
+    let few = few_frames _ _ stored given in
+    let short : length stored < 2 ^ 64 - 1 = omega arith in
+    let all : length stored ≡ 2 ^ 64 - 1 = omega (arith, counted, c.frames-test.false, c.frames.auto.counter-end) in
     absurd (omega (arith, short, all))

@@ -13,27 +13,30 @@ use Rattle.puffin_c.proofs.merge.merge_file.Goals as goal
 
 pub returns-in_err-info : goal.returns-in_err-info
 returns-in_err-info c =
-    let p = err_from_is_err_and c.from_residual.result c.from_residual.ensures.1 in
-    rw p.1 (name_not_merged _ _ _ p.0 _ p.2 c.in_err-info.ensures.err)
+    let (cause, is_err, same_cause) = err_from_is_err_and c.from_residual.result c.from_residual.ensures.1 in
+    rw is_err (name_not_merged _ _ _ cause _ same_cause c.in_err-info.ensures.err)
 
 pub returns-in_err-summary : goal.returns-in_err-summary
 returns-in_err-summary c =
-    let p = err_from_is_err_and c.from_residual-in_err-summary.result c.from_residual-in_err-summary.ensures.1 in
-    rw p.1 (file_not_merged _ _ _ p.0 _ p.2 c.in_ok-info.ensures.text
-    (subst (λ (i : ThreadKey). LacksSummary c.args.file.now i c.in_err-summary.field-0.0) c.in_ok-info.ensures.ok c.in_err-summary.ensures.err))
+    let (cause, is_err, same_cause) = err_from_is_err_and c.from_residual-in_err-summary.result c.from_residual-in_err-summary.ensures.1 in
+    rw is_err (file_not_merged _ _ _ cause _ same_cause c.in_ok-info.ensures.text
+    (subst (λ (i : ThreadKey). LacksSummary c.args.file.now i c.in_err-summary.field-0.0) c.in_ok-info.ensures.ok
+    c.in_err-summary.ensures.err))
 
 pub returns-in_err-made : goal.returns-in_err-made
 returns-in_err-made c =
-    let p = err_from_is_err_and c.from_residual-in_err-made.result c.from_residual-in_err-made.ensures.1 in
-    rw p.1 (no_room_for_file _ _ _ p.0 p.2 c.in_ok-info.ensures.text)
+    let (cause, is_err, same_cause) = err_from_is_err_and c.from_residual-in_err-made.result c.from_residual-in_err-made.ensures.1 in
+    rw is_err (no_room_for_file _ _ _ cause same_cause c.in_ok-info.ensures.text)
 
 pub returns : goal.returns
 returns c =
-    let read = c.in_ok-summary.ensures.ok in
-    let is = subst (λ (scopes : List MergeScope). IsListOf (forest_in scopes) c.in_ok-made.made) c.deref.ensures.value c.in_ok-made.ensures in (
+    let (left, summed_up) = c.in_ok-summary.ensures.ok in
+    let is = subst (λ (scopes : List MergeScope). IsListOf (forest_in scopes) c.in_ok-made.made) c.deref.ensures.value
+        c.in_ok-made.ensures in (
       c.in_ok-info.ensures.text,
-      read.0,
+      left,
       c.in_ok-summary.summary,
-      subst (λ (i : ThreadKey). HasSummary i (Some c.args.file.now) read.0 c.in_ok-summary.summary) c.in_ok-info.ensures.ok read.1,
+      subst (λ (i : ThreadKey). HasSummary i (Some c.args.file.now) left c.in_ok-summary.summary) c.in_ok-info.ensures.ok
+          summed_up,
       c.give.ensures _ is,
     )

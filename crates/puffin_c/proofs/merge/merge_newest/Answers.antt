@@ -1,3 +1,4 @@
+-- The newest frames are unpacked, merged and listed; each step may be refused.
 use Rattle.std.proofs.Common.{List, subst, sym, ap, ◌∙◌}
 use Rattle.std.proofs.lemmas.Result.{err_from_is_err_and}
 use Rattle.std.specs.Prelude.{Ok}
@@ -14,19 +15,23 @@ use Rattle.puffin_c.proofs.merge.merge_newest.Goals as goal
 
 pub returns-in_err-frames-clause-err : goal.returns-in_err-frames-clause-err
 returns-in_err-frames-clause-err c =
-    let p = err_from_is_err_and c.from_residual.result c.from_residual.ensures.1 in
-    rw p.1 (frame_not_opened _ _ p.0 _ p.2 c.in_err-frames.ensures.err)
+    let (cause, is_err, same_cause) = err_from_is_err_and c.from_residual.result c.from_residual.ensures.1 in
+    rw is_err (frame_not_opened _ _ cause _ same_cause c.in_err-frames.ensures.err)
 
 pub returns-in_err-merged-clause-err : goal.returns-in_err-merged-clause-err
 returns-in_err-merged-clause-err c =
-    let p = err_from_is_err_and c.from_residual-in_err-merged.result c.from_residual-in_err-merged.ensures.1 in
+    let (cause, is_err, same_cause) = err_from_is_err_and c.from_residual-in_err-merged.result c.from_residual-in_err-merged.ensures.1 in
     let info = key_of c.args.thread.now in
-    let opened = c.in_ok-frames.ensures.ok info ∙ ap (λ (fs : List (Arc UnpackedFrameData Global)). Ok (frames_bytes info fs)) (sym c.deref.ensures.value) in
-    rw p.1 (merge_refused info _ _ p.0 _ p.2 opened c.in_err-merged.ensures.refused)
+    let opened = c.in_ok-frames.ensures.ok info
+        ∙ ap (λ (fs : List (Arc UnpackedFrameData Global)). Ok (frames_bytes info fs)) (sym c.deref.ensures.value) in
+    rw is_err (merge_refused info _ _ cause _ same_cause opened c.in_err-merged.ensures.refused)
 
 pub returns-clause-ok : goal.returns-clause-ok
 returns-clause-ok c =
     let info = key_of c.args.thread.now in
-    let merged = subst (λ (fs : List (Arc UnpackedFrameData Global)). AreMerged (frames_bytes info fs) (forest_in c.in_ok-merged.merged.items)) c.deref.ensures.value c.in_ok-merged.ensures.merged in
-    let listed = subst (λ (scopes : List MergeScope). IsListOf (forest_in scopes) c.in_ok-list_of.field-0) c.deref-2.ensures.value c.in_ok-list_of.ensures in
-    (forest_in c.in_ok-merged.merged.items, (_, c.in_ok-frames.ensures.ok info, merged), listed)
+    let forest = forest_in c.in_ok-merged.merged.items in
+    let merged = subst (λ (fs : List (Arc UnpackedFrameData Global)). AreMerged (frames_bytes info fs) forest)
+        c.deref.ensures.value c.in_ok-merged.ensures.merged in
+    let listed = subst (λ (scopes : List MergeScope). IsListOf (forest_in scopes) c.in_ok-list_of.field-0)
+        c.deref-2.ensures.value c.in_ok-list_of.ensures in
+    (forest, (_, c.in_ok-frames.ensures.ok info, merged), listed)

@@ -11,23 +11,27 @@ use Rattle.puffin_c.proofs.merge.open_newest.Goals as goal
 
 pub returns-in_err-open_copy-clause-err : goal.returns-in_err-open_copy-clause-err
 returns-in_err-open_copy-clause-err c =
-    let p = err_from_is_err_and c.from_residual.result c.from_residual.ensures.1 in
-    let before = c.frames.invariant in
-    let said : PacketFields = packet_fields c.deref.result.now in
-    let left : recent_left c.frames.frame-iterator ≡ shared_frame c.in-Some.frame.now ∷ recent_left c.next.new.self = rest_more (λ a. shared_frame a.now) _ _ _ _ c.in-Some.is c.next.ensures.steps in
-    rw (p.1, p.2) (not_opened before.0 _ _ before.1 c.frames.newest.items said (shared_frame c.in-Some.frame.now) _ _ left (ap packet_fields c.deref.ensures) before.2 c.in_err-open_copy.ensures.err)
+    let (_, is_err, same_cause) = err_from_is_err_and c.from_residual.result c.from_residual.ensures.1 in
+    let (done, split, so_far) = c.frames.invariant in
+    let fields : PacketFields = packet_fields c.deref.result.now in
+    let left : recent_left c.frames.frame-iterator ≡ shared_frame c.in-Some.frame.now ∷ recent_left c.next.new.self =
+    rest_more (λ a. shared_frame a.now) _ _ _ _ c.in-Some.is c.next.ensures.steps in
+    rw (is_err, same_cause)
+    (not_opened done _ _ split c.frames.newest.items fields (shared_frame c.in-Some.frame.now) _ _ left
+    (ap packet_fields c.deref.ensures) so_far c.in_err-open_copy.ensures.err)
 
 pub frames-preserved : goal.frames-preserved
 frames-preserved c =
-    let before = c.frames.invariant in
-    let said : PacketFields = packet_fields c.deref.result.now in
-    let left : recent_left c.frames.frame-iterator ≡ shared_frame c.in-Some.frame.now ∷ recent_left c.next.new.self = rest_more (λ a. shared_frame a.now) _ _ _ _ c.in-Some.is c.next.ensures.steps in (
-      before.0 ++ said ∷ [],
-      frames_next before.0 _ _ before.1 said (shared_frame c.in-Some.frame.now) _ left (ap packet_fields c.deref.ensures),
-      opened_next before.0 said c.frames.newest.items _ _ c.in_ok-push.ensures.items before.2 c.in_ok-open_copy.ensures.ok,
+    let (done, split, so_far) = c.frames.invariant in
+    let fields : PacketFields = packet_fields c.deref.result.now in
+    let left : recent_left c.frames.frame-iterator ≡ shared_frame c.in-Some.frame.now ∷ recent_left c.next.new.self =
+    rest_more (λ a. shared_frame a.now) _ _ _ _ c.in-Some.is c.next.ensures.steps in (
+      done ++ fields ∷ [],
+      frames_next done _ _ split fields (shared_frame c.in-Some.frame.now) _ left (ap packet_fields c.deref.ensures),
+      opened_next done fields c.frames.newest.items _ _ c.in_ok-push.ensures.items so_far c.in_ok-open_copy.ensures.ok,
     )
 
 pub returns-clause-ok : goal.returns-clause-ok
 returns-clause-ok c =
-    let before = c.frames.invariant in
-    all_opened before.0 _ _ before.1 c.frames.newest.items c.in-None.ensures.steps.0 before.2
+    let (done, split, so_far) = c.frames.invariant in
+    all_opened done _ _ split c.frames.newest.items c.in-None.ensures.steps.0 so_far

@@ -9,4 +9,6 @@ use Rattle.puffin_c.proofs.merge.open_newest.Given as goal
 
 abbrev pub invariant-frames : goal.invariant-frames
 invariant-frames l =
-    (done : List PacketFields) × (newest_fields l.fn.number l.fn.view ≡ done ++ map fields_of (recent_left l.frame-iterator)) × AreOpenedTo done l.newest.items
+    (done : List PacketFields)
+    × (newest_fields l.fn.number l.fn.view ≡ done ++ map fields_of (recent_left l.frame-iterator))
+    × AreOpenedTo done l.newest.items

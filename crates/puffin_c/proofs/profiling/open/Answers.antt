@@ -1,3 +1,4 @@
+-- A handle that held nothing holds the new profiler.
 use Rattle.std.proofs.Common.{ap, ◌∙◌}
 use Rattle.std.specs.Prelude.{Some}
 use Rattle.puffin_c.specs.declared.profiler.Profiler.{Profiler}

@@ -1,3 +1,4 @@
+-- What the thread and the profiler hold is what their handles hold, before and after the report.
 use Rattle.std.proofs.Common.{refl, sym, ap, ◌∙◌, inr}
 use Rattle.std.specs.Prelude.{Some, Ok}
 use Rattle.puffin_threads.specs.Thread.Calls.{Thread}
@@ -25,9 +26,10 @@ returns-in-Ok-clause-hands c =
 pub returns-in-Err-clause-hands : goal.returns-in-Err-clause-hands
 returns-in-Err-clause-hands c =
     let here : Profiler = c.deref_mut-2.result.now in
-    let keeps = refusal_keeps _ _ here.collector _ _ c.in-Err.ensures in (
-      c.put.ensures.held ∙ ap (λ (t : Thread). Some t) (keeps.0 ∙ c.deref_mut.ensures.value) ∙ sym c.take-recorder.ensures.taken,
-      c.put-2.ensures ∙ ap (λ (k : Collected). Some (with_collected here k)) keeps.1
+    let (same_thread, same_collector) = refusal_keeps _ _ here.collector _ _ c.in-Err.ensures in (
+      c.put.ensures.held ∙ ap (λ (t : Thread). Some t) (same_thread ∙ c.deref_mut.ensures.value)
+          ∙ sym c.take-recorder.ensures.taken,
+      c.put-2.ensures ∙ ap (λ (k : Collected). Some (with_collected here k)) same_collector
           ∙ ap (λ (q : Profiler). Some q) c.deref_mut-2.ensures.value ∙ sym c.take-whole.ensures.taken,
       inr (
         c.in-Err.cause,

@@ -1,3 +1,4 @@
+-- The handle holds the profiler after the call, whether a frame was taken or not.
 use Rattle.std.proofs.Common.{refl, subst, inr}
 use Rattle.puffin_c.specs.declared.profiler.Profiler.{Profiler}
 use Rattle.puffin_c.specs.Profiling.{IsTaken, IsLeft}

@@ -1,3 +1,4 @@
+-- The handle holds the profiler whose collector wants a snapshot.
 use Rattle.std.proofs.Common.{ap, ◌∙◌}
 use Rattle.std.specs.Prelude.{Some}
 use Rattle.puffin_collector.specs.Collector.State.{Collected, after_wanting}

@@ -1,3 +1,4 @@
+-- The description and the streams are those of the unpacked frame, which has the packet's contents.
 use Rattle.std.proofs.Common.{ℕ, length, refl, ap, ◌∙◌}
 use Rattle.std.specs.Arc.{arc_value}
 use Rattle.std.specs.FinMap as map
@@ -12,7 +13,8 @@ use Rattle.puffin_c.proofs.streams.describe.Goals as goal
 pub returns-clause-ok : goal.returns-clause-ok
 returns-clause-ok c =
     let rows = c.in_ok-made.ensures.rows ∙ ap (λ (f : UnpackedFrameData). stream_rows 0 (map.entries (streams_held f))) c.deref.ensures in
-    let bytes = c.in_ok-made.ensures.bytes ∙ ap (λ (f : UnpackedFrameData). streams_bytes (map.entries (streams_held f))) c.deref.ensures in (
+    let bytes = c.in_ok-made.ensures.bytes
+        ∙ ap (λ (f : UnpackedFrameData). streams_bytes (map.entries (streams_held f))) c.deref.ensures in (
       streams_held (arc_value c.in_ok-data.data),
       c.in_ok-data.ensures.unpacked,
       c.of-list.ensures ∙ ap told_of (c.meta.ensures ∙ ap (λ (f : PacketFields). f.meta) c.unpacked.ensures.fields),

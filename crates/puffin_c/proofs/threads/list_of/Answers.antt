@@ -1,3 +1,4 @@
+-- A thread's row and name come behind those so far.
 use Rattle.std.proofs.Common.{rules}
 use Rattle.std.proofs.lemmas.Map.Iter.{rest_more}
 use Rattle.std.specs.Map.{keys_of}
@@ -9,17 +10,20 @@ use Rattle.puffin_c.proofs.threads.list_of.Goals as goal
 
 pub threads-preserved : goal.threads-preserved
 threads-preserved c =
-    let left = rest_more deref_pair _ _ _ _ c.in-Some.is c.next.ensures.steps in (
-      rows_more _ _ _ _ _ _ _ _ _ left c.in_ok-push.ensures.rows c.in_ok-push.ensures.names c.threads.invariant.0,
-      names_more _ _ _ _ _ _ _ left c.in_ok-push.ensures.names c.threads.invariant.1,
+    let left = rest_more deref_pair _ _ _ _ c.in-Some.is c.next.ensures.steps in
+    let (rows_so_far, names_so_far) = c.threads.invariant in (
+      rows_more _ _ _ _ _ _ _ _ _ left c.in_ok-push.ensures.rows c.in_ok-push.ensures.names rows_so_far,
+      names_more _ _ _ _ _ _ _ left c.in_ok-push.ensures.names names_so_far,
     )
 
 pub returns-clause-rows : goal.returns-clause-rows
 returns-clause-rows c =
     let sorted : IsStrictlySortedBy thread_cmp (keys_of c.args.threads.now.totals.entries) = search rules in
-    rows_done _ _ _ _ c.in-None.ensures.steps.0 c.threads.invariant.0 sorted
+    let (rows_so_far, names_so_far) = c.threads.invariant in
+    rows_done _ _ _ _ c.in-None.ensures.steps.0 rows_so_far sorted
 
 pub returns-clause-names : goal.returns-clause-names
 returns-clause-names c =
     let sorted : IsStrictlySortedBy thread_cmp (keys_of c.args.threads.now.totals.entries) = search rules in
-    names_done _ _ _ c.in-None.ensures.steps.0 c.threads.invariant.1 sorted
+    let (rows_so_far, names_so_far) = c.threads.invariant in
+    names_done _ _ _ c.in-None.ensures.steps.0 names_so_far sorted

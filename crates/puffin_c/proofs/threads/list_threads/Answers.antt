@@ -1,3 +1,4 @@
+-- The totals are listed, and the program gets as many rows and bytes as fit.
 use Rattle.std.proofs.Common.{ℕ, length, refl, sym, ap, ◌∙◌, subst}
 use Rattle.std.proofs.lemmas.Result.{err_from_is_err_and}
 use Rattle.puffin_threads.specs.Thread.ThreadKey.{by_key}
@@ -7,8 +8,8 @@ use Rattle.puffin_c.proofs.threads.list_threads.Goals as goal
 
 pub returns-in_err-totals : goal.returns-in_err-totals
 returns-in_err-totals c =
-    let p = err_from_is_err_and c.from_residual.result c.from_residual.ensures.1 in
-    rw p.1 (refl, subst (LacksTotals c.args.file.now) (sym p.2) c.in_err-totals.ensures.err)
+    let (_, is_err, same_cause) = err_from_is_err_and c.from_residual.result c.from_residual.ensures.1 in
+    rw is_err (refl, subst (LacksTotals c.args.file.now) (sym same_cause) c.in_err-totals.ensures.err)
 
 pub returns : goal.returns
 returns c = (

@@ -1,3 +1,4 @@
+-- The handle holds the profiler without the frames of its view.
 use Rattle.std.proofs.Common.{ap, ◌∙◌}
 use Rattle.std.specs.Prelude.{Some}
 use Rattle.puffin_c.specs.declared.profiler.Profiler.{Profiler}

@@ -1,3 +1,4 @@
+-- The handle holds the profiler with the unread piece, or the one from before.
 use Rattle.std.proofs.Common.{refl, sym, ap, ◌∙◌, inr}
 use Rattle.std.specs.Prelude.{Some, length}
 use Rattle.puffin_c.specs.declared.profiler.Profiler.{Profiler}

@@ -1,3 +1,4 @@
+-- The handle holds the profiler without the bytes that were read.
 use Rattle.std.proofs.Common.{ℕ, List, ap, ◌∙◌}
 use Rattle.std.specs.Prelude.{Some, length, drop, min}
 use Rattle.puffin_c.specs.declared.profiler.Profiler.{Profiler}

@@ -1,3 +1,4 @@
+-- The program gets as many rows and bytes of texts as fit.
 use Rattle.std.proofs.Common.{ℕ, refl, ap, ◌∙◌, length}
 use Rattle.puffin_c.specs.Reporting.{laid_over}
 use Rattle.puffin_c.proofs.merged.MergedList.give.Goals as goal

@@ -1,3 +1,4 @@
+-- Only a frame that waits is copied, so it is there if the copy fails.
 use Rattle.std.proofs.Common.{◌≡◌, ap}
 use Rattle.std.specs.Prelude.{Some}
 use Rattle.std.specs.Arc.{arc_value}

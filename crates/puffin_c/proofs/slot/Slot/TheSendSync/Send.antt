@@ -1,3 +1,4 @@
+-- What a slot owns may be sent to another thread, since each value that it may hold may be.
 use mir.Raw.{raw}
 use base.Shift.{Keyless}
 use denote.Memory.{lone}

@@ -25,25 +25,44 @@ use Rattle.puffin_c.proofs.Slots.{Z, S, ids_held, slot_out}
 use Rattle.puffin_c.specs.declared.held.Held.TheVariants.{Ids}
 use Rattle.puffin_c.specs.contracts.shared_ids.SharedIds.{the_row as R}
 use Rattle.puffin_c.specs.Owning.{ids_of}
-use Rattle.puffin_c.specs.contracts.slot.Slot.into_ids as f
+use Rattle.puffin_c.specs.contracts.slot.Slot.into_ids as own
 use Rattle.puffin_c.proofs.slot.Slot.into_ids.Statement.{statement}
 use Rattle.puffin_c.proofs.slot.Slot.into_ids.Code as code
 
-abbrev hs : Stays f.ended.signature.params f.ended.kept
-hs = (stay_dropped (plain (λ _. S)) yes, tt)
+abbrev moved : Stays own.ended.signature.params own.ended.kept
+moved = (stay_dropped (plain (λ _. S)) yes, tt)
 
 pub into_ids_spec : {M : Type 1} → statement M
 into_ids_spec 𝓤 𝓛 𝓜 𝓡 wired =
-    let H = 𝓛.H in let 𝓣 = tables 𝓤 H 𝓜 𝓡 𝓡.env in let c = f.clauses 𝓛 𝓜.mem 𝓡.returns in let fn = code.function in
-    proved_at 𝓛 f.ended hs c 𝓜 𝓡 (Goes-dropped 𝓛 0 (plain (λ _. S)) yes (λ κs x w. refl), tt) f.Key.name fn (code.unfolded 𝓤 H 𝓜 𝓡 wired) (λ z are.
-    let v = z.0.3.0 in let a = v.heap in let Post : Val → SProp 𝓤 = (walk_of 𝓛 f.ended hs c).post z in let Run : List Val → SProp 𝓤 = λ ws. WpFn 𝓤 H 𝓣.C 𝓣.Λ fn ws Post in
-    qed 𝓛 ((‵ ftrue ⊛ ‵ (owns (types_at f.ended.signature.params z.0.0) z.0.3 z.0.4)) ∷ raw ((c z.0.0 z.0.3).requires z.1) ∷ []) ∵ move ! (1 ∷ []) $ heard ! _ (λ asked.
-    let held = ids_held v.held asked in let x = held.0 in split ! $ drop ! $ fsplit ! $
-    slot_out ! v z.0.4.0 (Ids x) held.1 (λ b o h ws fits.
-    let w : Val = two (vptr b o) h in let typed = fits_two R Z heap_laws.the_row_laws ghosts b o h fits in
-    suffices ! (Run (w ∷ [])) (subst (λ (us : List Val). ent 𝓤 (Run (w ∷ [])) (Run us)) (sym (λ i. ws i ++ [])) (id⊢ 𝓤 (Run (w ∷ [])))) $
-    enter ! 𝓣.C 𝓣.Λ fn (w ∷ []) Post $ alloc_all ! (λ l. pass_all ! refl (typed, tt) $
-    sets ! (of_opd ! (get_in ! (fld ! refl (stop !)) (sub ! 0 refl (whole !)))) refl (tt, tt) $ sets ! (of_opd ! (get_in ! (fld ! refl (stop !)) (sub ! 1 refl (whole !)))) refl fits $
-    sets ! (of_opd ! (get ! refl)) refl (tt, tt) $ sets ! (agg ! (and_then ! (get ! refl) (and_then ! (get ! refl) (no_more !)))) refl typed $
-    closed R Z heap_laws.the_row_laws ghosts ! b o h a x $ use0 𝓛 (raw (fact 𝓤 (ids_of v.held ≡ Some x))) (fact_i 𝓤 (ids_of v.held ≡ Some x) (emp 𝓤) (ap ids_of held.1)) $ nothing ! $ nothing ! $ fjoin ! $ nothing ! $
-    returns ! (look_at ! 0 refl) $ free_all ! refl $ keep ! (0 ∷ 1 ∷ 3 ∷ 2 ∷ []) $ by ! (leaves 𝓛 f.ended hs c z w (record { at = block_ptr b o; heap = a; value = x }) (tt, tt) (tt, tt))))))
+    let H = 𝓛.H in
+    let 𝓣 = tables 𝓤 H 𝓜 𝓡 𝓡.env in
+    let clauses = own.clauses 𝓛 𝓜.mem 𝓡.returns in
+    let fn = code.function in
+    proved_at 𝓛 own.ended moved clauses 𝓜 𝓡 (Goes-dropped 𝓛 0 (plain (λ _. S)) yes (λ κs x w. refl), tt) own.Key.name fn
+    (code.unfolded 𝓤 H 𝓜 𝓡 wired) (λ z are.
+    let given = z.0.3.0 in
+    let a = given.heap in
+    let Post : Val → SProp 𝓤 = (walk_of 𝓛 own.ended moved clauses).post z in
+    let Run : List Val → SProp 𝓤 = λ ws. WpFn 𝓤 H 𝓣.C 𝓣.Λ fn ws Post in
+    qed 𝓛 ((‵ ftrue ⊛ ‵ (owns (types_at own.ended.signature.params z.0.0) z.0.3 z.0.4))
+    ∷ raw ((clauses z.0.0 z.0.3).requires z.1) ∷ []) ∵ move ! (1 ∷ []) $ heard ! _ (λ asked.
+    let (x, is_held) = ids_held given.held asked in
+    split ! $ drop ! $ fsplit ! $
+    -- the slot, as a pointer and a handle, and what it owns
+    slot_out ! given z.0.4.0 (Ids x) is_held (λ b o h ws fits.
+    let word : Val = two (vptr b o) h in
+    let typed = fits_two R Z heap_laws.the_row_laws ghosts b o h fits in
+    suffices ! (Run (word ∷ []))
+    (subst (λ (us : List Val). ent 𝓤 (Run (word ∷ [])) (Run us)) (sym (λ i. ws i ++ [])) (id⊢ 𝓤 (Run (word ∷ [])))) $
+    enter ! 𝓣.C 𝓣.Λ fn (word ∷ []) Post $ alloc_all ! (λ l. pass_all ! refl (typed, tt) $
+    -- the body builds the result of the same two
+    sets ! (of_opd ! (get_in ! (fld ! refl (stop !)) (sub ! 0 refl (whole !)))) refl (tt, tt) $
+    sets ! (of_opd ! (get_in ! (fld ! refl (stop !)) (sub ! 1 refl (whole !)))) refl fits $
+    sets ! (of_opd ! (get ! refl)) refl (tt, tt) $
+    sets ! (agg ! (and_then ! (get ! refl) (and_then ! (get ! refl) (no_more !)))) refl typed $
+    -- they own what they owned
+    closed R Z heap_laws.the_row_laws ghosts ! b o h a x $
+    use0 𝓛 (raw (fact 𝓤 (ids_of given.held ≡ Some x))) (fact_i 𝓤 (ids_of given.held ≡ Some x) (emp 𝓤) (ap ids_of is_held)) $
+    nothing ! $ nothing ! $ fjoin ! $ nothing ! $
+    returns ! (look_at ! 0 refl) $ free_all ! refl $ keep ! (0 ∷ 1 ∷ 3 ∷ 2 ∷ []) $
+    by ! (leaves 𝓛 own.ended moved clauses z word (record { at = block_ptr b o; heap = a; value = x }) (tt, tt) (tt, tt))))))

@@ -1,3 +1,4 @@
+-- The frame's streams are added one after the other, in the order of their threads.
 use Rattle.std.proofs.Common.{rules, ap, ◌∙◌}
 use Rattle.std.proofs.lemmas.Map.Iter.{rest_more}
 use Rattle.std.specs.Map.{keys_of}
@@ -12,7 +13,10 @@ use Rattle.puffin_c.proofs.threads.Threads.add.Goals as goal
 pub streams-preserved : goal.streams-preserved
 streams-preserved c =
     let left = rest_more deref_pair _ _ _ _ c.in-Some.is c.next.ensures.steps in
-    add_more _ _ _ _ _ _ left (c.in_ok-add_stream.ensures.ok ∙ ap (λ i. with_stream (by_key c.streams.self.totals.entries) (key_of c.in-Some.thread.now, facts_of i)) c.deref.ensures) c.streams.invariant
+    add_more _ _ _ _ _ _ left
+    (c.in_ok-add_stream.ensures.ok
+    ∙ ap (λ i. with_stream (by_key c.streams.self.totals.entries) (key_of c.in-Some.thread.now, facts_of i))
+    c.deref.ensures) c.streams.invariant
 
 pub returns-clause-ok : goal.returns-clause-ok
 returns-clause-ok c =

@@ -1,3 +1,4 @@
+-- The streams that are added are those of the frame's contents.
 use Rattle.std.proofs.Common.{ap, ◌∙◌}
 use Rattle.std.specs.Arc.{arc_value}
 use Rattle.puffin_threads.specs.Thread.ThreadKey.{by_key}
@@ -10,5 +11,7 @@ pub returns-clause-ok : goal.returns-clause-ok
 returns-clause-ok c = (
   streams_held (arc_value c.in_ok-data.data),
   c.in_ok-data.ensures.unpacked,
-  c.in_ok-add.ensures.ok ∙ ap (λ (f : UnpackedFrameData). with_frame (by_key c.args.self.now.totals.entries) (streams_held f)) c.deref.ensures,
+  c.in_ok-add.ensures.ok
+      ∙ ap (λ (f : UnpackedFrameData). with_frame (by_key c.args.self.now.totals.entries) (streams_held f))
+      c.deref.ensures,
 )
