@@ -36,6 +36,7 @@ use Rattle.puffin_session.proofs.SpelledWords.{size_of, unlike_due, unlike_pendi
 
 -- ---- one stream
 
+-- the numbers of a stream are those of the word that it spells
 pub scopes_of : (r : StreamFacts) (word : Word) → SpellsWord r word → r.num_scopes ≡ num_begun word.events
 scopes_of r word h = h.honest.counts.num_scopes ∙ sym (num_begun-tour h.forest) ∙ ap num_begun h.toured
 
@@ -53,6 +54,7 @@ events_with ds i word =
     flat_map-append events_of ds (under i word ∷ [])
     ∙ ap (λ (w : List Event). flat_map events_of ds ++ w) (append-nil word.events)
 
+-- the sums stay those of what is due
 pub SumsTo-reported : (streams : Streams) (ds : List Delivery) (i : ThreadKey) (r : StreamFacts) (word : Word)
     → SumsTo streams ds → SpellsWord r word → SumsTo (reported_to streams i r) (ds ++ (under i word ∷ []))
 SumsTo-reported streams ds i r word before spells =
@@ -91,6 +93,7 @@ no_length (x ∷ es) e = absurd (omega arith)
 values_none : values (empty {X = StreamFacts} {R = key_cmp}) ≡ []
 values_none = ap (map (λ e. e.1)) (no_length _ (sym (len-entries (empty {X = StreamFacts} {R = key_cmp})) ∙ len-empty key_cmp StreamFacts))
 
+-- nothing sums to nothing
 pub SumsTo-none : SumsTo empty []
 SumsTo-none = record {
   bytes = ap total_bytes values_none;
@@ -99,7 +102,7 @@ SumsTo-none = record {
   stop = ap joined_stop values_none;
 }
 
--- ---- at the opening
+-- ---- at the opening: each entry of a sorted map is found, so its sums are those of its word
 
 -- numbers that are equal where something is there are equal where it merely is
 same_there : {P : Type 0} (a b : ℕ) → ∥ P ∥₁ → (P → a ≡ b) → a ≡ b
@@ -120,6 +123,7 @@ EachHonest : List (ThreadKey × StreamFacts) → Type 0
 EachHonest [] = Unit {0}
 EachHonest (e ∷ es) = ∥ ((f : Forest) × AreHonestFacts e.1 f) ∥₁ × EachHonest es
 
+-- the parts of what is both
 first : (a b : Bool) → T (a && b) → T a
 first true b p = tt
 first false b p = p
@@ -133,6 +137,7 @@ less Less p = refl
 less Equal p = absurd p
 less Greater p = absurd p
 
+-- a key below all others isn't among them
 find_below : (k : ThreadKey) (es : List (ThreadKey × StreamFacts)) → T (below_all key_cmp k es) → find key_cmp k es ≡ None
 find_below k [] h = refl
 find_below k (e ∷ es) h =
@@ -171,11 +176,11 @@ events_at es = flat_map events_of (due_of es)
 
 spells_itself : (r : StreamFacts) → ∥ ((f : Forest) × AreHonestFacts r f) ∥₁ → ∥ SpellsWord r (word_of_facts r) ∥₁
 spells_itself r somehow =
-    ∥∥₁_map somehow (λ it. record {
-      forest = it.0;
-      honest = it.1;
+    ∥∥₁_map somehow (λ (forest, honest). record {
+      forest = forest;
+      honest = honest;
       form = refl;
-      toured = sym (ap (events_in r.form) it.1.stream.whole ∙ events_in-spelling r.form it.0 it.1.stream.fits);
+      toured = sym (ap (events_in r.form) honest.stream.whole ∙ events_in-spelling r.form forest honest.stream.fits);
     })
 
 abbrev records_of : List (ThreadKey × StreamFacts) → List StreamFacts
@@ -190,11 +195,11 @@ record EntriesSum (es : List (ThreadKey × StreamFacts)) : Type 0 where
 
 entries_sum : (es : List (ThreadKey × StreamFacts)) → EachHonest es → EntriesSum es
 unfolding EachHonest
-entries_sum [] h = record { bytes = refl; scopes = refl; start = refl; stop = refl }
-entries_sum (e ∷ es) h =
-    let later = entries_sum es h.1 in
+entries_sum [] each = record { bytes = refl; scopes = refl; start = refl; stop = refl }
+entries_sum (e ∷ es) (honest, others) =
+    let later = entries_sum es others in
     let word = word_of_facts e.1 in
-    let spells = spells_itself e.1 h.0 in
+    let spells = spells_itself e.1 honest in
     let size = same_there (length e.1.bytes) (word_size word.form word.events) spells (size_of e.1 word) in
     let scopes = same_there e.1.num_scopes (num_begun word.events) spells (scopes_of e.1 word) in
     let start = same_time_there e.1.range_ns.0 (least_open word.events) spells (start_of e.1 word) in
@@ -224,6 +229,7 @@ entries_sum (e ∷ es) h =
           ∙ sym (greatest_close-append word.events (events_at es));
     }
 
+-- what a session holds at its opening sums to what is due there
 pub SumsTo-opening : (s : SessionState) → AreHonest s.collected.streams → SumsTo s.collected.streams (due (opening_of s) [])
 SumsTo-opening s honest =
     let streams = s.collected.streams in
@@ -295,9 +301,11 @@ module _ (o : Opening) (done : List Action) (now : SessionState) (i : ThreadKey)
   -- where all details have their ids
   pub IsRefusal-from : (ds : List Details) (e : Error) → AllHaveIds ds → IsReportRefusal now.collected i ds r e
       → IsDueRefusal o done i word e
-  IsRefusal-from ds e ids (inl missing) = absurd (missing.1 ids)
-  IsRefusal-from ds e ids (inr (inl apart)) = inl (apart.0, unlike apart.2)
-  IsRefusal-from ds e ids (inr (inr (all, none, (inl large)))) = inr (inl (large.0, like none, λ h. large.1 (fits_back h)))
-  IsRefusal-from ds e ids (inr (inr (all, none, (inr (inl long))))) =
-      inr (inr (inl (long.0, like none, fits long.1, subst IsTooLong range long.2)))
-  IsRefusal-from ds e ids (inr (inr (all, none, (inr (inr memory))))) = inr (inr (inr (memory.0, MayReport-from none memory.1 memory.2)))
+  IsRefusal-from ds e ids (inl (is_missing, lacks)) = absurd (lacks ids)
+  IsRefusal-from ds e ids (inr (inl (is_unlike, all, apart))) = inl (is_unlike, unlike apart)
+  IsRefusal-from ds e ids (inr (inr (all, none, (inl (is_large, unfit))))) =
+      inr (inl (is_large, like none, λ h. unfit (fits_back h)))
+  IsRefusal-from ds e ids (inr (inr (all, none, (inr (inl (is_long, pending_fits, too_long)))))) =
+      inr (inr (inl (is_long, like none, fits pending_fits, subst IsTooLong range too_long)))
+  IsRefusal-from ds e ids (inr (inr (all, none, (inr (inr (memory, pending_fits, short)))))) =
+      inr (inr (inr (memory, MayReport-from none pending_fits short)))

@@ -28,6 +28,7 @@ or_false false = refl
 any_more : {X : Type 0} (p : X → Bool) (xs : List X) (x : X) (b : Bool) → p x ≡ b → list_any p (xs ++ (x ∷ [])) ≡ (list_any p xs || b)
 any_more p xs x b e = list_any-append p xs (x ∷ []) ∙ ap (λ c. list_any p xs || c) (or_false (p x) ∙ e)
 
+-- nothing stands since the last such element if it is the last of all; any other element comes behind what stands
 pub since_last-yes : {X : Type 0} (p : X → Bool) (xs : List X) (x : X) → p x ≡ true → since_last p (xs ++ (x ∷ [])) ≡ []
 since_last-yes p [] x e = rw e
 since_last-yes p (y ∷ ys) x e =
@@ -50,6 +51,7 @@ since_last-no p (y ∷ ys) x e =
 
 -- ---- one more call
 
+-- the greatest time, and the marked calls, after one more call
 pub greatest-more : (latest : ℤ) (cs : List Call) (c : Call) → greatest latest (cs ++ (c ∷ [])) ≡ int_max (greatest latest cs) c.at
 greatest-more latest [] c = refl
 greatest-more latest (d ∷ cs) c = greatest-more (int_max latest d.at) cs c
@@ -67,6 +69,7 @@ marked-more form latest past (d ∷ cs) c =
     (λ ds. marked_calls form latest (past ++ (d ∷ [])) cs
     ++ (marked_call form (int_max (greatest latest ds) c.at) c.mark ∷ [])) (append_assoc past (d ∷ []) cs))
 
+-- the first begin of two words one behind the other
 pub first_open-append : (ms ns : List Marked) → first_open (ms ++ ns) ≡ option_or (first_open ms) (first_open ns)
 first_open-append [] ns = refl
 first_open-append (m ∷ ms) ns = at_event m.event (first_open-append ms ns)
@@ -88,6 +91,7 @@ option_or-none (Some x) = refl
 -- ---- one thread after one more action
 
 module _ (o : Opening) (t : ℕ) (done : List Action) (a : Action) where
+  -- the calls of a thread, after an action that is none of its own, or one
   pub calls_of-same : call_of t a ≡ None → calls_of t (done ++ (a ∷ [])) ≡ calls_of t done
   calls_of-same e = filter_map-append (call_of t) done (a ∷ []) ∙ rw e (append-nil (calls_of t done))
 
@@ -120,6 +124,7 @@ module _ (o : Opening) (t : ℕ) (done : List Action) (a : Action) where
       (marked_calls (thread_at o t).form (thread_at o t).latest [] (calls_of t done))
       (marked_call (thread_at o t).form (int_max (latest_of o t done) c.at) c.mark ∷ [])))
 
+  -- a call that doesn't report: its event waits too
   unreported_kept : (c : Call) → call_of t a ≡ Some c
       → (marked_call (thread_at o t).form (int_max (latest_of o t done) c.at) c.mark).reported ≡ false →
       unreported o t (done ++ (a ∷ []))
@@ -151,6 +156,7 @@ module _ (o : Opening) (t : ℕ) (done : List Action) (a : Action) where
       (since_last-yes (λ m. m.reported) (word_of o t done)
       (marked_call (thread_at o t).form (int_max (latest_of o t done) at) (ended true)) refl)
 
+  -- the first start after a call, and so after a begin and after an end
   first_start_more : (c : Call) → call_of t a ≡ Some c →
       first_start_of o t (done ++ (a ∷ []))
       ≡ option_or (thread_at o t).first_start
@@ -183,6 +189,7 @@ module _ (o : Opening) (t : ℕ) (done : List Action) (a : Action) where
 
 -- ---- what is due after one more action
 
+-- the deliveries after one more action are those before and its own
 pub deliveries_after-more : (o : Opening) (past later : List Action) (a : Action)
     → deliveries_after o past (later ++ (a ∷ [])) ≡ deliveries_after o past later ++ deliveries_at o (past ++ later) a
 deliveries_after-more o past [] a = append-nil (deliveries_at o past a) ∙ ap (λ d. deliveries_at o d a) (sym (append-nil past))
@@ -200,6 +207,7 @@ module _ (o : Opening) (done : List Action) (a : Action) where
       ap (λ ds. map (λ d. under d.0 d.1) o.due ++ ds) (deliveries_after-more o [] done a)
       ∙ sym (append_assoc (map (λ d. under d.0 d.1) o.due) (deliveries_after o [] done) (deliveries_at o done a))
 
+  -- an action that delivers nothing, one that delivers a word, and a frame that takes all
   pub due-same : deliveries_at o done a ≡ [] → due o (done ++ (a ∷ [])) ≡ due o done
   due-same e =
       ap (since_last is_taken)
@@ -218,6 +226,7 @@ module _ (o : Opening) (done : List Action) (a : Action) where
 
 -- ---- what was handed over under an info, after one more delivery
 
+-- under the same key the word is joined, under any other nothing changes
 pub total_under-itself : (ds : List Delivery) (i j : ThreadKey) (word : Word) → has_same_key j i ≡ true
     → total_under (ds ++ (under i word ∷ [])) j ≡ Some (joined_word (unwrap_or (total_under ds j) no_word) word)
 total_under-itself ds i j word e =

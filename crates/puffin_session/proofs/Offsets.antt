@@ -60,6 +60,7 @@ open_after-offsets form word = open_along form word (0, [])
 reverse-first : (x : ℕ) (xs : List ℕ) → reverse (x ∷ xs) ≡ reverse xs ++ (x ∷ [])
 reverse-first x xs = reverse-append (x ∷ []) xs
 
+-- a scope that begins puts its place behind the others
 pub pushed : (items more : List ℕ) (old new : Thread) (id : ℕ) (text : List ℕ) (t : ℤ) (offset : ℕ)
     → items ≡ reverse (offsets_of old) → new ≡ after_begin old id text t
     → offset ≡ word_size old.form old.word + size_offset old.form text
@@ -79,6 +80,7 @@ popped_list (x ∷ xs) =
     ∙ take_at (reverse xs) (x ∷ []) (length (reverse xs ++ (x ∷ [])) - 1)
     (omega (arith, length-append (reverse xs) (x ∷ [])))
 
+-- a scope that ends takes away the last place
 pub popped : (items less : List ℕ) (old new : Thread) (t : ℤ) → items ≡ reverse (offsets_of old)
     → new ≡ after_end old t → less ≡ take (length items - 1) items → less ≡ reverse (offsets_of new)
 popped items less old new t was ended is =
@@ -93,20 +95,22 @@ pub closed_places : {R : Type 0} (accepts : R → ThreadKey → List Details →
     (old new : Thread) (t : ℤ) (before after : R) (closed : Closed) → items ≡ reverse (offsets_of old)
     → less ≡ take (length items - 1) items
     → Closes accepts refuses old new t before after closed → less ≡ reverse (offsets_of new)
-closed_places accepts refuses items less old new t before after Inner was is closes = popped items less old new t was closes.1 is
-closed_places accepts refuses items less old new t before after Reported was is closes =
-    let one : length (offsets_of old) ≡ 1 = sym (open_after-offsets old.form old.word) ∙ closes.0 in
+closed_places accepts refuses items less old new t before after Inner was is (inner_left, is_after, kept) =
+    popped items less old new t was is_after is
+closed_places accepts refuses items less old new t before after Reported was is (last, is_after, accepted) =
+    let one : length (offsets_of old) ≡ 1 = sym (open_after-offsets old.form old.word) ∙ last in
     is
     ∙ ap (λ (xs : List ℕ). take (length xs - 1) xs) was
     ∙ popped_list (offsets_of old)
     ∙ ap reverse (one_dropped (offsets_of old) one)
-    ∙ sym (ap (λ (th : Thread). reverse (offsets_of th)) closes.1)
+    ∙ sym (ap (λ (th : Thread). reverse (offsets_of th)) is_after)
   where
     one_dropped : (xs : List ℕ) → length xs ≡ 1 → drop 1 xs ≡ []
     one_dropped [] e = absurd (omega arith)
     one_dropped (x ∷ []) e = refl
     one_dropped (x ∷ (y ∷ ys)) e = absurd (omega arith)
-closed_places accepts refuses items less old new t before after (Kept e) was is closes = popped items less old new t was closes.1 is
+closed_places accepts refuses items less old new t before after (Kept e) was is (last, is_after, refused) =
+    popped items less old new t was is_after is
 
 -- where no place stands so far from the last, it is an outer one's, or no scope is open
 pub past_all : (items : List ℕ) (form : Form) (word : List Event) (back : ℕ)
@@ -121,16 +125,18 @@ Falls : ℕ → List ℕ → Type 0
 Falls n [] = Unit {0}
 Falls n (x ∷ xs) = (x < n) × Falls x xs
 
+-- places that fall below a limit fall below a higher one, and so do all but the innermost
 falls_above : (n m : ℕ) (xs : List ℕ) → n ≤ m → Falls n xs → Falls m xs
 unfolding Falls
 falls_above n m [] le h = tt
-falls_above n m (x ∷ xs) le h = (omega (arith, h.0), h.1)
+falls_above n m (x ∷ xs) le (low, falls) = (omega (arith, low), falls)
 
 falls_rest : (n m : ℕ) (xs : List ℕ) → n ≤ m → Falls n xs → Falls m (drop 1 xs)
 unfolding Falls
 falls_rest n m [] le h = tt
-falls_rest n m (x ∷ xs) le h = falls_above x m xs (omega (arith, h.0)) h.1
+falls_rest n m (x ∷ xs) le (low, falls) = falls_above x m xs (omega (arith, low)) falls
 
+-- the places of the open scopes fall
 falls_along : (form : Form) (word : List Event) (sofar : ℕ × List ℕ) → Falls sofar.0 sofar.1
     → Falls (fold (opened_after form) sofar word).0 (fold (opened_after form) sofar word).1
 unfolding Falls
@@ -141,19 +147,20 @@ falls_along form (Open id text start ∷ word) sofar h =
 falls_along form (Close stop ∷ word) sofar h =
     falls_along form word (sofar.0 + 9, drop 1 sofar.1) (falls_rest sofar.0 (sofar.0 + 9) sofar.1 (omega arith) h)
 
+-- each of them is below the limit, so only the first one is the innermost's
 below : (n : ℕ) (xs : List ℕ) (k d : ℕ) → Falls n xs → k < length xs → get_or xs k d < n
 unfolding Falls
 below n [] k d h lt = absurd (omega arith)
-below n (x ∷ xs) zero d h lt = h.0
-below n (x ∷ xs) (suc k) d h lt = omega (arith, h.0, below x xs k d h.1 (omega arith))
+below n (x ∷ xs) zero d (low, falls) lt = low
+below n (x ∷ xs) (suc k) d (low, falls) lt = omega (arith, low, below x xs k d falls (omega arith))
 
 first_only : (n : ℕ) (xs : List ℕ) (k x d : ℕ) → Falls n xs → k < length xs → get_or xs k d ≡ x → slice_get xs 0 ≡ Some x → k ≡ 0
 unfolding Falls
 first_only n [] k x d h lt at first = absurd (omega arith)
 first_only n (y ∷ ys) zero x d h lt at first = refl
-first_only n (y ∷ ys) (suc k) x d h lt at first =
+first_only n (y ∷ ys) (suc k) x d (low, falls) lt at first =
     let same : y ≡ x = get_or_from_slice_get (y ∷ ys) 0 x d first in
-    absurd (omega (arith, same, at, below y ys k d h.1 (omega arith)))
+    absurd (omega (arith, same, at, below y ys k d falls (omega arith)))
 
 -- a place that is the innermost one's was read at the list's end
 pub innermost_last : (items : List ℕ) (form : Form) (word : List Event) (back offset : ℕ)

@@ -74,14 +74,15 @@ spells_if_honest : (streams : Streams) (i : ThreadKey) → AreHonest streams →
     → get streams i ≡ a → SpellsIfAny a (option_map word_of_facts a)
 spells_if_honest streams i honest None e = tt
 spells_if_honest streams i honest (Some r) e =
-    ∥∥₁_map (honest i r e) (λ known. record {
-      forest = known.0;
-      honest = known.1;
+    ∥∥₁_map (honest i r e) (λ (forest, honest). record {
+      forest = forest;
+      honest = honest;
       form = refl;
       toured =
-          sym (ap (events_in r.form) known.1.stream.whole ∙ events_in-spelling r.form known.0 known.1.stream.fits);
+          sym (ap (events_in r.form) honest.stream.whole ∙ events_in-spelling r.form forest honest.stream.fits);
     })
 
+-- what is collected spells itself, as words that are due
 pub SpellsDue-collected : (streams : Streams) → AreHonest streams → SpellsDue streams (due_of (entries streams))
 SpellsDue-collected streams honest i =
     rw (total_sorted i (entries streams) (entries_sorted streams)
@@ -94,12 +95,12 @@ no_frame : (ds : List (ThreadKey × Word))
     → (list_any is_taken (map (λ d. under d.0 d.1) ds) ≡ false)
     × (since_last is_taken (map (λ d. under d.0 d.1) ds) ≡ map (λ d. under d.0 d.1) ds)
 no_frame [] = (refl, refl)
-no_frame (d ∷ ds) = let rest = no_frame ds in (rest.0, rw rest.0)
+no_frame (d ∷ ds) = let (none, all) = no_frame ds in (none, rw none)
 
 no_report : (word : List Event) → (list_any (λ (m : Marked). m.reported) (map (λ e. record { event = e; reported = false }) word) ≡ false)
     × (map (λ (m : Marked). m.event) (since_last (λ m. m.reported) (map (λ e. record { event = e; reported = false }) word)) ≡ word)
 no_report [] = (refl, refl)
-no_report (e ∷ word) = let rest = no_report word in (rest.0, rw rest.0 (ap (λ w. e ∷ w) (marks_back word)))
+no_report (e ∷ word) = let (none, all) = no_report word in (none, rw none (ap (λ w. e ∷ w) (marks_back word)))
   where
     marks_back : (word : List Event) → map (λ (m : Marked). m.event) (map (λ e. record { event = e; reported = false }) word) ≡ word
     marks_back [] = refl
@@ -109,11 +110,13 @@ or_none : (a : Option ℤ) → option_or a None ≡ a
 or_none None = refl
 or_none (Some x) = refl
 
+-- so it is what is due at the opening, where no action was done yet
 pub due-opening : (s : SessionState) → due (opening_of s) [] ≡ due_of (entries s.collected.streams)
 due-opening s =
     ap (since_last is_taken) (append-nil (due_of (entries s.collected.streams)))
     ∙ (no_frame (map (λ e. (e.0, word_of_facts e.1)) (entries s.collected.streams))).1
 
+-- a session stands at its own opening
 pub StandsAfter-opening : (s : SessionState) → AreHonest s.collected.streams → StandsAfter (opening_of s) [] s
 StandsAfter-opening s honest = record {
   num_threads = refl;

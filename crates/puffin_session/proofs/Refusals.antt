@@ -38,6 +38,7 @@ Continues-refused now c e idle may = (
   ),
 )
 
+-- a begin, a registration, an end and a report that are refused
 pub Continues-not_begun : (now : SessionState) (t : ℕ) (at : ℤ) (id : ℕ) (text : String Global) (e : Error)
     → ((e ≡ NoThread) × (length now.threads ≤ t)) ⊎ ((e ≡ Memory) × (t < length now.threads))
     → Continues now now (Begin t at id text) (reply.Refused e)

@@ -41,9 +41,9 @@ EachReply-more o done [] [] (k ∷ ls) c r l e f each last = absurd (omega arith
 EachReply-more o done [] (q ∷ rs) ls c r l e f each last = absurd (omega arith)
 EachReply-more o done (d ∷ cs) [] ls c r l e f each last = absurd (omega arith)
 EachReply-more o done (d ∷ cs) (q ∷ rs) [] c r l e f each last = absurd (omega arith)
-EachReply-more o done (d ∷ cs) (q ∷ rs) (k ∷ ls) c r l e f each last = (
-  each.0,
-  EachReply-more o (done ++ (action_of d q k ∷ [])) cs rs ls c r l (omega arith) (omega arith) each.1
+EachReply-more o done (d ∷ cs) (q ∷ rs) (k ∷ ls) c r l e f (first, others) last = (
+  first,
+  EachReply-more o (done ++ (action_of d q k ∷ [])) cs rs ls c r l (omega arith) (omega arith) others
       (subst (λ a. MayReply o a c r l) (sym (append_assoc done (action_of d q k ∷ []) (actions_of cs rs ls))) last),
 )
 
@@ -60,8 +60,9 @@ pub RunsTo-more : (old now new : SessionState) (cs : List Command) (rs : List Re
     → RunsTo old now cs rs → Continues now new c r → RunsTo old new (cs ++ (c ∷ [])) (rs ++ (r ∷ []))
 RunsTo-more old now new cs rs c r before continues =
     let led = before.leads in
-    let l = continues.0 in
-    let step = continues.1 (opening_of old) (actions_of cs rs led.learnt) (record { stands = led.stands; sums = before.sums }) in
+    let (l, continues_each) = continues in
+    let (continued, may_reply) = continues_each (opening_of old) (actions_of cs rs led.learnt)
+        (record { stands = led.stands; sums = before.sums }) in
     let actions = actions_of-more cs rs led.learnt c r l led.num_replies led.num_learnt in
     record {
       leads = record {
@@ -69,8 +70,9 @@ RunsTo-more old now new cs rs c r before continues =
         learnt = led.learnt ++ (l ∷ []);
         num_learnt = omega (arith, led.num_learnt, length-append led.learnt (l ∷ []), length-append cs (c ∷ []));
         opened = led.opened;
-        replies_stand = EachReply-more (opening_of old) [] cs rs led.learnt c r l led.num_replies led.num_learnt led.replies_stand step.1;
-        stands = subst (λ done. StandsAfter (opening_of old) done new) (sym actions) step.0.stands;
+        replies_stand = EachReply-more (opening_of old) [] cs rs led.learnt c r l led.num_replies led.num_learnt
+            led.replies_stand may_reply;
+        stands = subst (λ done. StandsAfter (opening_of old) done new) (sym actions) continued.stands;
       };
-      sums = subst (λ (done : List Action). SumsTo new.collected.streams (due (opening_of old) done)) (sym actions) step.0.sums;
+      sums = subst (λ (done : List Action). SumsTo new.collected.streams (due (opening_of old) done)) (sym actions) continued.sums;
     }

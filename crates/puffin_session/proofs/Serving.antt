@@ -44,6 +44,7 @@ use Rattle.puffin_session.proofs.DueSums.{SumsTo-reported, SumsTo-none, scopes_o
 -- ---- sums
 
 module _ (o : Opening) (done : List Action) (a : Action) (old new : Streams) (before : SumsTo old (due o done)) where
+  -- the sums after an action that delivers nothing, one that delivers a word, and a frame that takes all
   pub sums_same : deliveries_at o done a ≡ [] → new ≡ old → SumsTo new (due o (done ++ (a ∷ [])))
   sums_same none same = rw (same, due-same o done a none) before
 
@@ -65,6 +66,7 @@ pub record TellsSame (old new : Collected) : Type 0 where
   pub new_details : new.new_details ≡ old.new_details
   pub wants_all : new.wants_all ≡ old.wants_all
 
+-- what equals tells the same
 pub same_told : (old new : Collected) → new ≡ old → TellsSame old new
 same_told old new is = record {
   collection = ap (λ (c : Collected). c.collection) is;
@@ -73,6 +75,7 @@ same_told old new is = record {
 }
 
 module _ (o : Opening) (done : List Action) (a : Action) (old new : Collected) (before : TellsAfter o done old) where
+  -- an action of which nothing is noted
   pub tells_same : details_learnt_at o done a ≡ [] → due_notes_at o done a ≡ []
       → ((wanted : Bool) → wanted_at wanted a ≡ wanted) → TellsSame old new → TellsAfter o (done ++ (a ∷ [])) new
   tells_same none silent kept same =
@@ -89,11 +92,12 @@ spelled_in r f stream form same honest =
     subst (λ (form : Form). Spells form stream.bytes f) form
     (record { whole = sym same ∙ honest.stream.whole; fits = honest.stream.fits })
 
+-- an accepted report of a user's scopes continues each history
 pub Continues-handed : (now : SessionState) (collected : Collected) (info : ThreadInfo) (stream : StreamState)
     (r : StreamFacts) (f : Forest) → AreHonestFacts r f → r.form ≡ stream.form → r.bytes ≡ stream.bytes
     → AcceptsReport now.collected (key_of info) [] r collected
     → Continues now (session_with_collected now collected) (ReportUser info stream) reply.Reported
-Continues-handed now collected info stream r f honest form same accepts = (
+Continues-handed now collected info stream r f honest form same (is_after, ids, alike, fits, short) = (
   [],
   λ o done before.
       let word = word_in stream.form stream.bytes in
@@ -102,11 +106,11 @@ Continues-handed now collected info stream r f honest form same accepts = (
       let spells : SpellsWord r word = record { forest = f; honest = honest; form = form; toured = toured } in
       let new = session_with_collected now collected in
       let a : Action = hands (key_of info) word in
-      let streams = ap (λ (c : Collected). c.streams) accepts.0 in
+      let streams = ap (λ (c : Collected). c.streams) is_after in
       let told : TellsSame now.collected collected = record {
-        collection = ap (λ (c : Collected). c.collection) accepts.0;
-        new_details = ap (λ (c : Collected). c.new_details) accepts.0 ∙ append-nil now.collected.new_details;
-        wants_all = ap (λ (c : Collected). c.wants_all) accepts.0;
+        collection = ap (λ (c : Collected). c.collection) is_after;
+        new_details = ap (λ (c : Collected). c.new_details) is_after ∙ append-nil now.collected.new_details;
+        wants_all = ap (λ (c : Collected). c.wants_all) is_after;
       } in
       let toured_word : Word = record { form = stream.form; events = tour f } in
       let itself : SpellsWord r toured_word = record { forest = f; honest = honest; form = form; toured = refl } in (
@@ -114,10 +118,10 @@ Continues-handed now collected info stream r f honest form same accepts = (
           stands = StandsAfter-handed o done now new before.stands (key_of info) r word
               (record {
                 threads = refl;
-                raised = ap (λ (c : Collected). c.index) accepts.0;
-                reported = ap (λ (c : Collected). c.reported) accepts.0
+                raised = ap (λ (c : Collected). c.index) is_after;
+                reported = ap (λ (c : Collected). c.reported) is_after
                     ∙ ap (λ (n : ℕ). now.collected.reported + n) (scopes_of r word spells);
-              }) spells accepts.2 streams
+              }) spells alike streams
               (tells_same o done a now.collected collected before.stands.tells refl refl (λ w. refl) told);
           sums = sums_more o done a now.collected.streams collected.streams before.sums (key_of info) r word refl streams spells;
         },
@@ -125,8 +129,8 @@ Continues-handed now collected info stream r f honest form same accepts = (
           f,
           whole,
           sym toured,
-          MayReport-from o done now (key_of info) r toured_word before.stands before.sums itself accepts.2 accepts.3
-              accepts.4,
+          MayReport-from o done now (key_of info) r toured_word before.stands before.sums itself alike fits
+              short,
         ),
       ),
 )
@@ -153,6 +157,7 @@ adding now new o done before =
     (TellsAfter-more o done (adds new) now.collected (after_adding now.collected new) before.stands.tells refl
     (sym (waiting-noted now.collected.new_details new)) refl)
 
+-- a registration that is accepted, and one that stops early
 pub Continues-added : (now : SessionState) (collected : Collected) (names : Vec (String Global)) (ids : Vec ℕ)
     → Adds now.collected (user_details names.items) ids.items collected
     → Continues now (session_with_collected now collected) (RegisterUser names) (reply.RegisteredUser ids)
@@ -179,6 +184,7 @@ Continues-not_added now collected names e (new, registers_some, is) =
       ),
     )
 
+-- a wanted snapshot
 pub Continues-wanted : (now : SessionState)
     → Continues now (session_with_collected now (after_wanting now.collected)) Snapshot reply.Snapshot
 Continues-wanted now = (
@@ -252,31 +258,32 @@ Continues-unframed now more none = (
       ),
 )
 
+-- a new frame, or none
 pub Continues-taken : (now : SessionState) (new : Collected) (frame : Option (Arc FrameData Global))
     → now.collected.index ≢ 2 ^ 64 - 1 → Collects now.collected frame new
     → Continues now (session_with_collected now new) NewFrame (reply.Frame (record { frame = frame; refused = 0 }))
-Continues-taken now new None more collects =
+Continues-taken now new None more (no_scopes, is) =
     subst
     (λ (c : Collected). Continues now (session_with_collected now c) NewFrame
-    (reply.Frame (record { frame = None; refused = 0 }))) (sym collects.1)
-    (Continues-unframed now more collects.0)
-Continues-taken now new (Some f) more collects =
+    (reply.Frame (record { frame = None; refused = 0 }))) (sym is)
+    (Continues-unframed now more no_scopes)
+Continues-taken now new (Some f) more (holds, some, is) =
     subst
     (λ (c : Collected). Continues now (session_with_collected now c) NewFrame
-    (reply.Frame (record { frame = Some f; refused = 0 }))) (sym collects.2)
-    (Continues-framed now f more collects.0 collects.1)
+    (reply.Frame (record { frame = Some f; refused = 0 }))) (sym is)
+    (Continues-framed now f more holds some)
 
 -- a refused frame: nothing is learnt, or a prefix of the new details
 pub Continues-not_framed : (now : SessionState) (collected : Collected) (e : Error)
     → KeepsPending now.collected e collected
     → Continues now (session_with_collected now collected) NewFrame (reply.Refused e)
-Continues-not_framed now collected e (inl exhausted) =
-    subst (λ (c : Collected). Continues now (session_with_collected now c) NewFrame (reply.Refused e)) (sym exhausted.2) (
+Continues-not_framed now collected e (inl (exhausted, last_index, is)) =
+    subst (λ (c : Collected). Continues now (session_with_collected now c) NewFrame (reply.Refused e)) (sym is) (
       [],
       λ o done before. (
         quiet now now.collected o done (learns []) before (λ t. (refl, refl)) refl refl refl refl refl
             (TellsAfter-more o done (learns []) now.collected now.collected before.stands.tells refl refl refl),
-        inl (exhausted.0, sym before.stands.index ∙ exhausted.1, refl),
+        inl (exhausted, sym before.stands.index ∙ last_index, refl),
       ),
     )
 Continues-not_framed now collected e (inr (memory, (some, begins, is))) =

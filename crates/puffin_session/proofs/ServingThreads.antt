@@ -39,6 +39,7 @@ changes now new t changed scopes within same index reported = record {
   reported = reported;
 }
 
+-- a scope that begins
 pub Continues-began : (now : SessionState) (t : ℕ) (at : ℤ) (id : ℕ) (text : String Global) (offset : ℕ) → t < length now.threads
     → offset ≡ begun_place (session_thread now t) (string_bytes text)
     → Continues now
@@ -64,6 +65,7 @@ Continues-began now t at id text offset there place = (
       ),
 )
 
+-- a registration by a thread
 pub Continues-registered : (now : SessionState) (t : ℕ) (name : Option (String Global))
     (function file : String Global) (line id : ℕ) → t < length now.threads
     → Continues now
@@ -123,34 +125,34 @@ module _ (now : SessionState) (t : ℕ) (at : ℤ) (there : t < length now.threa
       → SpellsWord r (handed_at_end (session_thread now t) at)
       → AcceptsReport now.collected (key_of_thread (session_thread now t)) (session_thread now t).details r
       new.collected → ContinuesBy now new (End t at 0) (reply.Ended Reported) []
-  ended_reported new r last same spells accepts o done before =
+  ended_reported new r last same spells (is_after, ids, alike, fits, short) o done before =
       let within : t < length o.threads = omega (arith, before.stands.num_threads) in
       let th = before.stands.threads t within in
       let word = ap (λ (th : Thread). open_after 0 th.word) th in
       let handing = after_handing (after_end (session_thread now t) (clock_time at)) in
       let scopes = scopes_of r (handed_at_end (session_thread now t) at) spells in
       let a : Action = calls t (record { at = at; mark = ended true }) in
-      let streams = ap (λ (c : Collected). c.streams) accepts.0 in
-      let index = ap (λ (c : Collected). c.index) accepts.0 in
-      let reported = ap (λ (c : Collected). c.reported) accepts.0 ∙ ap (λ (n : ℕ). now.collected.reported + n) scopes in
+      let streams = ap (λ (c : Collected). c.streams) is_after in
+      let index = ap (λ (c : Collected). c.index) is_after in
+      let reported = ap (λ (c : Collected). c.reported) is_after ∙ ap (λ (n : ℕ). now.collected.reported + n) scopes in
       let here : SpellsWord r (handed_at_end (thread_after o done t) at) =
       subst (λ (v : Thread). SpellsWord r (handed_at_end v at)) th spells in
-      let like = subst (λ (v : Thread). ¬ IsUnlike now.collected (key_of_thread v) r) th accepts.2 in
+      let like = subst (λ (v : Thread). ¬ IsUnlike now.collected (key_of_thread v) r) th alike in
       let due_there : new.collected.streams
       ≡ reported_to now.collected.streams (key_of_thread (thread_after o done t)) r =
       streams ∙ ap (λ (v : Thread). reported_to now.collected.streams (key_of_thread v) r) th in
       let details =
-      ap (λ (c : Collected). c.new_details) accepts.0
+      ap (λ (c : Collected). c.new_details) is_after
       ∙ ap (λ (v : Thread). now.collected.new_details ++ v.details) th
       ∙ sym (waiting-noted now.collected.new_details (thread_after o done t).details) in (
         record {
           stands =
               StandsAfter-reported o done now new before.stands t at r within
               (changes now new t handing (num_begun (handed_at_end (session_thread now t) at).events) there same index
-              reported) spells accepts.2 streams
+              reported) spells alike streams
               (TellsAfter-more o done a now.collected new.collected before.stands.tells
-              (ap (λ (c : Collected). c.collection) accepts.0) details
-              (ap (λ (c : Collected). c.wants_all) accepts.0));
+              (ap (λ (c : Collected). c.collection) is_after) details
+              (ap (λ (c : Collected). c.wants_all) is_after));
           sums = sums_more o done a now.collected.streams new.collected.streams before.sums
               (key_of_thread (thread_after o done t)) r (handed_at_end (thread_after o done t) at)
               (deliveries_at-reported o t done at) due_there here;
@@ -161,7 +163,7 @@ module _ (now : SessionState) (t : ℕ) (at : ℤ) (there : t < length now.threa
           (
             sym word ∙ last,
             MayReport-from o done now (ending_key o done t) r (ending_word o done t at) before.stands before.sums here
-                like accepts.3 accepts.4,
+                like fits short,
           ),
         ),
       )
@@ -204,6 +206,7 @@ module _ (now : SessionState) (t : ℕ) (at : ℤ) (there : t < length now.threa
         ),
       )
 
+  -- a scope that ends: an inner one, or the last open one whose report is accepted or refused
   pub Continues-ended : (thread : Thread) (collected : Collected) (closed : Closed)
       → AllHaveIds (session_thread now t).details
       → EndsInnermost (session_thread now t) thread (clock_time at) now.collected collected closed

@@ -42,10 +42,12 @@ pub kept_ids : {R : Type 0} (accepts : R → ThreadKey → List Details → Stre
     (refuses : R → ThreadKey → List Details → StreamFacts → Error → R → Type 0) (old new : Thread) (t : ℤ)
     (before after : R) (closed : Closed)
     → Closes accepts refuses old new t before after closed → AllHaveIds old.details → AllHaveIds new.details
-kept_ids accepts refuses old new t before after Inner closes ids = subst (λ (th : Thread). AllHaveIds th.details) (sym closes.1) ids
-kept_ids accepts refuses old new t before after Reported closes ids =
-    subst (λ (th : Thread). AllHaveIds th.details) (sym closes.1) no_details_lack
-kept_ids accepts refuses old new t before after (Kept e) closes ids = subst (λ (th : Thread). AllHaveIds th.details) (sym closes.1) ids
+kept_ids accepts refuses old new t before after Inner (inner_left, is_after, kept) ids =
+    subst (λ (th : Thread). AllHaveIds th.details) (sym is_after) ids
+kept_ids accepts refuses old new t before after Reported (last, is_after, accepted) ids =
+    subst (λ (th : Thread). AllHaveIds th.details) (sym is_after) no_details_lack
+kept_ids accepts refuses old new t before after (Kept e) (last, is_after, refused) ids =
+    subst (λ (th : Thread). AllHaveIds th.details) (sym is_after) ids
 
 -- what a new frame gives
 pub Collects-from : (now seen : SessionState) (new : Collected)
@@ -65,6 +67,7 @@ Collects-from now seen new (Ok frame) same exhausted took =
     no_error : ◌≡◌ {A = Result (Option (Arc FrameData Global)) Error} (Ok frame) (Err IndexExhausted) → ⊥
     no_error e = cc
 
+-- what a refused frame keeps
 pub KeepsPending-from : (now seen : SessionState) (new : Collected)
     (result : Result (Option (Arc FrameData Global)) Error) → seen ≡ now
     → IfErr result (λ e. KeepsPending seen.collected e new)
@@ -75,12 +78,14 @@ KeepsPending-from now seen new (Err e) same keeps =
     (λ (s : SessionState). (session_with_collected seen new ≡ session_with_collected s new)
     × KeepsPending s.collected e new) same (refl, keeps)
 
+-- the index is exhausted only at its last value
 pub last-from : (now seen : SessionState) (result : Result (Option (Arc FrameData Global)) Error) → seen ≡ now
     → ((result ≡ Err IndexExhausted) ↔ (seen.collected.index ≡ 2 ^ 64 - 1))
     → IfErr result (λ e. e ≡ IndexExhausted → now.collected.index ≡ 2 ^ 64 - 1)
 last-from now seen (Ok frame) same exhausted = tt
 last-from now seen (Err e) same exhausted = λ last. ap (λ (s : SessionState). s.collected.index) (sym same) ∙ exhausted.0 (ap Err last)
 
+-- what is under an index of a list is the same for each default
 same_default : (xs : List Thread) (t : ℕ) (d e : Thread) → t < length xs → get_or xs t d ≡ get_or xs t e
 same_default [] t d e lt = absurd (omega arith)
 same_default (x ∷ xs) zero d e lt = refl
@@ -134,6 +139,7 @@ Accepts-from now seen after i given r lent f form bytes (Ok x) same honest in_fo
       ap (λ (s : SessionState). session_with_collected s after) same,
     )
 
+-- what a refused report gives
 pub Refuses-from : (now seen : SessionState) (after : Collected) (i given : ThreadKey) (r lent : StreamFacts)
     (f : Forest) (form : Form) (bytes : List ℕ) (result : Result (Unit {0}) Error) → seen ≡ now → AreHonestFacts r f
     → r.form ≡ form → r.bytes ≡ bytes → lent ≡ r → given ≡ i
@@ -143,7 +149,7 @@ pub Refuses-from : (now seen : SessionState) (after : Collected) (i given : Thre
     ⊎ ((r : StreamFacts) × (f : Forest) × AreHonestFacts r f × (r.form ≡ form) × (r.bytes ≡ bytes)
     × IsReportRefusal now.collected i [] r e))
 Refuses-from now seen after i given r lent f form bytes (Ok x) same honest in_form read lends names refused = tt
-Refuses-from now seen after i given r lent f form bytes (Err e) same honest in_form read lends names refused =
+Refuses-from now seen after i given r lent f form bytes (Err e) same honest in_form read lends names (refusal, unchanged) =
     inr
     (inr (
       r,
@@ -153,7 +159,7 @@ Refuses-from now seen after i given r lent f form bytes (Err e) same honest in_f
       read,
       subst (λ (s : SessionState). IsReportRefusal s.collected i [] r e) same
           (subst (λ (q : StreamFacts). IsReportRefusal seen.collected i [] q e) lends
-          (subst (λ (j : ThreadKey). IsReportRefusal seen.collected j [] lent e) names refused.0)),
+          (subst (λ (j : ThreadKey). IsReportRefusal seen.collected j [] lent e) names refusal)),
     ))
 
 -- what a wanted snapshot gives

@@ -56,6 +56,7 @@ module _ (streams : Streams) (ds : List Delivery) (i : ThreadKey) where
           get-insert key_cmp_total streams i (joined_facts (unwrap_or (get streams i) no_scopes) s) j ∙ rw e in
           rw (there, total_under-other ds i j word e) (before j)
 
+-- nothing spells nothing
 pub SpellsDue-none : SpellsDue empty []
 SpellsDue-none j = rw (get-empty {X = StreamFacts} key_cmp j) tt
 

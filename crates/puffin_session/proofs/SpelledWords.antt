@@ -13,6 +13,7 @@ use Rattle.puffin_session.specs.Session.Due.{no_word, joined_word, AreUnlikeWord
 use Rattle.puffin_session.specs.Session.{SpellsWord, SpellsIfAny}
 use Rattle.puffin_session.proofs.Laws.{tour-append, honest_joined, word_size-tour}
 
+-- a stream has as many bytes as its word takes
 pub size_of : (r : StreamFacts) (word : Word) → SpellsWord r word → length r.bytes ≡ word_size word.form word.events
 size_of r word h =
     ap length h.honest.stream.whole
@@ -54,6 +55,7 @@ same_none r word h = elim (cases_eq (length word.events) 0) [
 
 -- ---- one after another
 
+-- joined streams spell the joined words
 pub joined_spells : (a s : StreamFacts) (old word : Word) → (AreUnlike a s → ⊥) → SpellsWord a old → SpellsWord s word
     → SpellsWord (joined_facts a s) (joined_word old word)
 joined_spells a s old word like h k = record {
@@ -73,22 +75,23 @@ some_there n there some = elim (cases_eq n 0) [
 ]
 
 unlike_words : (a s : StreamFacts) (old word : Word) → SpellsWord a old → SpellsWord s word → AreUnlike a s → AreUnlikeWords old word
-unlike_words a s old word h k apart = (
-  events_some a old h apart.0,
-  events_some s word k apart.1,
-  λ same. apart.2 (h.form ∙ same ∙ sym k.form),
+unlike_words a s old word h k (some_old, some_new, other_form) = (
+  events_some a old h some_old,
+  events_some s word k some_new,
+  λ same. other_form (h.form ∙ same ∙ sym k.form),
 )
 
 unlike_records : (a s : StreamFacts) (old word : Word) → SpellsWord a old → SpellsWord s word → AreUnlikeWords old word → AreUnlike a s
-unlike_records a s old word h k apart = (
-  bytes_some a old h apart.0,
-  bytes_some s word k apart.1,
-  λ same. apart.2 (sym h.form ∙ same ∙ k.form),
+unlike_records a s old word h k (some_old, some_new, other_form) = (
+  bytes_some a old h some_old,
+  bytes_some s word k some_new,
+  λ same. other_form (sym h.form ∙ same ∙ k.form),
 )
 
+-- streams have unlike forms just if their words have
 pub unlike_due : (a : Option StreamFacts) (old : Option Word) (s : StreamFacts) (word : Word) → SpellsIfAny a old
     → SpellsWord s word → AreUnlike (unwrap_or a no_scopes) s → AreUnlikeWords (unwrap_or old no_word) word
-unlike_due None None s word there k apart = absurd (omega (arith, apart.0))
+unlike_due None None s word there k (some_old, some_new, other_form) = absurd (omega (arith, some_old))
 unlike_due None (Some old) s word there k apart = absurd there
 unlike_due (Some a) None s word there k apart = absurd there
 unlike_due (Some a) (Some old) s word there k apart = (
@@ -99,7 +102,7 @@ unlike_due (Some a) (Some old) s word there k apart = (
 
 pub unlike_pending : (a : Option StreamFacts) (old : Option Word) (s : StreamFacts) (word : Word) → SpellsIfAny a old
     → SpellsWord s word → AreUnlikeWords (unwrap_or old no_word) word → AreUnlike (unwrap_or a no_scopes) s
-unlike_pending None None s word there k apart = absurd (omega (arith, apart.0))
+unlike_pending None None s word there k (some_old, some_new, other_form) = absurd (omega (arith, some_old))
 unlike_pending None (Some old) s word there k apart = absurd there
 unlike_pending (Some a) None s word there k apart = absurd there
 unlike_pending (Some a) (Some old) s word there k apart = (

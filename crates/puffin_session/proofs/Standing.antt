@@ -51,6 +51,7 @@ other t u h = grind arith
 own_call : (t : ℕ) (c : Call) → call_of t (calls t c) ≡ Some (record { at = int_max (pos 0) c.at; mark = c.mark })
 own_call t c = rw (itself t)
 
+-- an action of another thread isn't one of this thread
 pub foreign_call : (t u : ℕ) (c : Call) → t ≢ u → call_of t (calls u c) ≡ None
 foreign_call t u c h = rw (other t u h)
 
@@ -128,6 +129,7 @@ pub record ChangesPending (now new : SessionState) (index scopes : ℕ) : Type 0
   pub raised : new.collected.index ≡ index
   pub reported : new.collected.reported ≡ now.collected.reported + scopes
 
+-- the index, and the number of reported scopes, after one more action
 pub index_after-more : (o : Opening) (done : List Action) (a : Action)
     → index_after o (done ++ (a ∷ [])) ≡ index_after o done + cond (is_numbered a) 1 0
 index_after-more o done a = omega (arith, sum_by-append (λ b. cond (is_numbered b) 1 0) done (a ∷ []))

@@ -23,6 +23,7 @@ waiting-one xs (noted d) =
     ∙ flat_map-append details_in (since_last is_sent xs) (noted d ∷ [])
 waiting-one xs sent = ap (flat_map details_in) (since_last-yes is_sent xs sent refl)
 
+-- what waits after more notes
 pub waiting-more : (xs ys : List Note) → details_waiting (xs ++ ys) ≡ fold waiting_with (details_waiting xs) ys
 waiting-more xs [] = ap details_waiting (append-nil xs)
 waiting-more xs (n ∷ ys) =
@@ -37,6 +38,7 @@ waiting-noted ds (d ∷ new) = waiting-noted (ds ++ (d ∷ [])) new ∙ append_a
 -- ---- one thread
 
 module _ (o : Opening) (t : ℕ) (done : List Action) (a : Action) where
+  -- what a thread has registered after one more action
   pub details_registered-more : details_registered o t (done ++ (a ∷ [])) ≡ fold waiting_with (details_registered o t done) (notes_at t a)
   details_registered-more =
       let before = map noted (thread_at o t).details in
@@ -48,6 +50,7 @@ module _ (o : Opening) (t : ℕ) (done : List Action) (a : Action) where
 
 -- ---- frames
 
+-- the notes, and the learnt details, after one more action are those before and its own
 pub due_notes_after-more : (o : Opening) (past later : List Action) (a : Action)
     → due_notes_after o past (later ++ (a ∷ [])) ≡ due_notes_after o past later ++ due_notes_at o (past ++ later) a
 due_notes_after-more o past [] a = append-nil (due_notes_at o past a) ∙ ap (λ d. due_notes_at o d a) (sym (append-nil past))
@@ -71,7 +74,8 @@ details_learnt_after-more o past (b ∷ later) a =
     (append_assoc (details_learnt_at o past b) (details_learnt_after o (past ++ (b ∷ [])) later)
     (details_learnt_at o (past ++ (b ∷ later)) a))
 
-with_all_details-append : (c : Collection) (xs ys : List Details) → with_all_details c (xs ++ ys) ≡ with_all_details (with_all_details c xs) ys
+with_all_details-append : (c : Collection) (xs ys : List Details) →
+    with_all_details c (xs ++ ys) ≡ with_all_details (with_all_details c xs) ys
 with_all_details-append c [] ys = refl
 with_all_details-append c (x ∷ xs) ys = with_all_details-append (with_details c x) xs ys
 
@@ -112,6 +116,7 @@ module _ (o : Opening) (done : List Action) (a : Action) where
 no_frame : (ds : List Details) → details_waiting (map noted ds) ≡ ds
 no_frame ds = waiting-more [] (map noted ds) ∙ waiting-noted [] ds
 
+-- at the opening what waits is what the session holds
 pub details_registered-opening : (o : Opening) (t : ℕ) → details_registered o t [] ≡ (thread_at o t).details
 details_registered-opening o t = ap details_waiting (append-nil (map noted (thread_at o t).details)) ∙ no_frame (thread_at o t).details
 

@@ -11,9 +11,10 @@ use Rattle.puffin_session.proofs.profiled.Profiled.end.Goals as goal
 pub returns-clause-back : goal.returns-clause-back
 returns-clause-back c =
     let items = c.self.inside.offsets.items in
+    let (places, ids) = c.self.invariant in
     let depth : c.len-depth.result ≡ length items = search rules in
     innermost_last items c.self.inside.profiler.state.form c.self.inside.profiler.state.word c.args.back c.index-offset.result.now
-    c.self.invariant.0
+    places
     (omega (arith, depth, c.if-depth-back.false))
     (c.index-offset.ensures ∙ ap (λ (n : ℕ). get_or items (n - 1 - c.args.back) c.index-offset.result.now) depth)
     c.in_ok-closed.ensures.innermost.innermost
@@ -27,10 +28,11 @@ returns-clause-ok c =
 pub returns-then-depth-back-clause-cause : goal.returns-then-depth-back-clause-cause
 returns-then-depth-back-clause-cause c =
     let items = c.self.inside.offsets.items in
+    let (places, ids) = c.self.invariant in
     let depth : c.len-depth.result ≡ length items = search rules in (
       refl,
       past_all items c.args.self.now.form c.args.self.now.word c.args.back
-          (c.self.invariant.0 ∙ ap (λ (th : Thread). reverse (offsets_of th)) c.self.view_is)
+          (places ∙ ap (λ (th : Thread). reverse (offsets_of th)) c.self.view_is)
           (omega (arith, depth, c.if-depth-back.true)),
     )
 
@@ -38,24 +40,26 @@ pub returns-in_err-closed-clause-cause : goal.returns-in_err-closed-clause-cause
 returns-in_err-closed-clause-cause c =
     let items = c.self.inside.offsets.items in
     let depth : c.len-depth.result ≡ length items = search rules in
-    let refused = c.in_err-closed.ensures.innermost.mismatched in
+    let (places, ids) = c.self.invariant in
+    let (is_mismatched, not_innermost) = c.in_err-closed.ensures.innermost.mismatched in
     let outer =
     outer_or_none items c.self.inside.profiler.state.form c.self.inside.profiler.state.word c.args.back
     c.index-offset.result.now
-    c.self.invariant.0
+    places
     (omega (arith, depth, c.if-depth-back.false))
     (c.index-offset.ensures ∙ ap (λ (n : ℕ). get_or items (n - 1 - c.args.back) c.index-offset.result.now) depth)
-    refused.1 in
-    let p = err_from_is_err_and c.from_residual.result c.from_residual.ensures.1 in
-    rw (p.1, p.2) (refused.0, inl outer)
+    not_innermost in
+    let (_, is_err, same_cause) = err_from_is_err_and c.from_residual.result c.from_residual.ensures.1 in
+    rw (is_err, same_cause) (is_mismatched, inl outer)
 
 pub invariant_of-self-2 : goal.invariant_of-self-2
 invariant_of-self-2 c =
     let items = c.self.inside.offsets.items in
-    let closed = c.in_ok-closed.ensures.closed in
+    let (time, answered, sound, closes) = c.in_ok-closed.ensures.closed in
+    let (places, ids) = c.self.invariant in
     let size : vec_len c.self.inside.offsets ≡ length items = search rules in (
       closed_places AcceptsReport RefusesReport items c.pop.new.self.items c.self.inside.profiler.state _ _ _ _ _
-          c.self.invariant.0
-          (c.pop.ensures.rest ∙ ap (λ (n : ℕ). take (n - 1) items) size) closed.3,
-      kept_ids AcceptsReport RefusesReport c.self.inside.profiler.state _ _ _ _ _ closed.3 c.self.invariant.1,
+          places
+          (c.pop.ensures.rest ∙ ap (λ (n : ℕ). take (n - 1) items) size) closes,
+      kept_ids AcceptsReport RefusesReport c.self.inside.profiler.state _ _ _ _ _ closes ids,
     )

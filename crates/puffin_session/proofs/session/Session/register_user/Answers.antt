@@ -7,5 +7,5 @@ use Rattle.puffin_session.proofs.session.Session.register_user.Goals as goal
 
 pub returns-in_err-details-clause-err : goal.returns-in_err-details-clause-err
 returns-in_err-details-clause-err c =
-    let p = err_from_is_err_and c.from_residual.result c.from_residual.ensures.1 in
-    rw (p.1, p.2 ∙ c.in_err-details.ensures.err) (AddsSome-none c.args.self.now.collected (user_details c.args.names.now))
+    let (_, is_err, same_cause) = err_from_is_err_and c.from_residual.result c.from_residual.ensures.1 in
+    rw (is_err, same_cause ∙ c.in_err-details.ensures.err) (AddsSome-none c.args.self.now.collected (user_details c.args.names.now))
