@@ -31,8 +31,8 @@ from .verdicts import Look, WrongBody, changes_a_shape, held_to_names, is_judged
 
 HERE = pathlib.Path(__file__).resolve().parent
 LANES = min(4, os.cpu_count() or 1)
-# How many wrong functions stand in one check, and how often answers of one are left out.
-TOGETHER, ROUNDS = 12, 4
+# How many wrong functions stand in one check, how often answers of one are left out, and how many bodies one lane tries in turn.
+TOGETHER, ROUNDS, IN_TURN = 24, 4, 40
 
 
 def texts_of(folder):
@@ -283,7 +283,8 @@ def main():
         if not has_libraries([crate for crate, _ in tasks], below):
             count.add(False)
             return count.end()
-        begun = [lanes.submit(tried, crate, bodies, below) for crate, bodies in tasks]
+        parts = [(crate, bodies[at : at + IN_TURN]) for crate, bodies in tasks for at in range(0, len(bodies), IN_TURN)]
+        begun = [lanes.submit(tried, *part, below) for part in parts]
         for ended in concurrent.futures.as_completed(begun):
             for is_well in ended.result():
                 count.add(is_well)

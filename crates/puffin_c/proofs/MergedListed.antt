@@ -93,7 +93,7 @@ rows_joined at [] ys = let same : at ≡ at + 0 = omega arith in ap (λ (n : ℕ
 rows_joined at (x ∷ xs) ys =
     let size = length-append x.node.label.text (merged_texts xs) in
     let same : (at + length x.node.label.text) + length (merged_texts xs)
-        ≡ at + length (x.node.label.text ++ merged_texts xs) = omega (arith, size) in
+    ≡ at + length (x.node.label.text ++ merged_texts xs) = omega (arith, size) in
     ap (λ (l : List PuffinMerged). merged_row at x ∷ l)
     (rows_joined (at + length x.node.label.text) xs ys
     ∙ ap (λ (n : ℕ). merged_rows (at + length x.node.label.text) xs ++ merged_rows n ys) same)

@@ -62,7 +62,7 @@ RunsTo-more old now new cs rs c r before continues =
     let led = before.leads in
     let (l, continues_each) = continues in
     let (continued, may_reply) = continues_each (opening_of old) (actions_of cs rs led.learnt)
-        (record { stands = led.stands; sums = before.sums }) in
+    (record { stands = led.stands; sums = before.sums }) in
     let actions = actions_of-more cs rs led.learnt c r l led.num_replies led.num_learnt in
     record {
       leads = record {

@@ -12,7 +12,7 @@ use Rattle.puffin_c.proofs.file.check.Goals as goal
 pub frames-init : goal.frames-init
 frames-init c =
     let given = subst (λ (bs : List ℕ). HasGiven (Some bs) (Some c.read_magic-begun.new.source.unread.now) [])
-        c.new-source.ensures c.in_ok-begun.ensures.begun in
+    c.new-source.ensures c.in_ok-begun.ensures.begun in
     ([], given, refl, refl, end_given _ _ _ _ given c.offset_in.ensures)
 
 pub returns-in_err-_frame : goal.returns-in_err-_frame

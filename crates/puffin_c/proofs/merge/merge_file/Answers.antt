@@ -32,7 +32,7 @@ pub returns : goal.returns
 returns c =
     let (left, summed_up) = c.in_ok-summary.ensures.ok in
     let is = subst (λ (scopes : List MergeScope). IsListOf (forest_in scopes) c.in_ok-made.made) c.deref.ensures.value
-        c.in_ok-made.ensures in (
+    c.in_ok-made.ensures in (
       c.in_ok-info.ensures.text,
       left,
       c.in_ok-summary.summary,

@@ -23,7 +23,7 @@ returns-in_err-merged-clause-err c =
     let (cause, is_err, same_cause) = err_from_is_err_and c.from_residual-in_err-merged.result c.from_residual-in_err-merged.ensures.1 in
     let info = key_of c.args.thread.now in
     let opened = c.in_ok-frames.ensures.ok info
-        ∙ ap (λ (fs : List (Arc UnpackedFrameData Global)). Ok (frames_bytes info fs)) (sym c.deref.ensures.value) in
+    ∙ ap (λ (fs : List (Arc UnpackedFrameData Global)). Ok (frames_bytes info fs)) (sym c.deref.ensures.value) in
     rw is_err (merge_refused info _ _ cause _ same_cause opened c.in_err-merged.ensures.refused)
 
 pub returns-clause-ok : goal.returns-clause-ok
@@ -31,7 +31,7 @@ returns-clause-ok c =
     let info = key_of c.args.thread.now in
     let forest = forest_in c.in_ok-merged.merged.items in
     let merged = subst (λ (fs : List (Arc UnpackedFrameData Global)). AreMerged (frames_bytes info fs) forest)
-        c.deref.ensures.value c.in_ok-merged.ensures.merged in
+    c.deref.ensures.value c.in_ok-merged.ensures.merged in
     let listed = subst (λ (scopes : List MergeScope). IsListOf (forest_in scopes) c.in_ok-list_of.field-0)
-        c.deref-2.ensures.value c.in_ok-list_of.ensures in
+    c.deref-2.ensures.value c.in_ok-list_of.ensures in
     (forest, (_, c.in_ok-frames.ensures.ok info, merged), listed)

@@ -8,13 +8,13 @@ use Rattle.puffin_c.proofs.merge.open_copy.Goals as goal
 pub returns-clause-ok : goal.returns-clause-ok
 returns-clause-ok c =
     let read = bytes_read (packet_fields c.in_ok-copy.copy) c.unpacked.result c.unpacked.ensures.unpacked
-        c.unpacked.ensures.meta in
+    c.unpacked.ensures.meta in
     let (opens, fails) = subst (λ (f : PacketFields). IsRead f c.unpacked.result) c.in_ok-copy.ensures.fields read in
     opens
 
 pub returns-clause-err : goal.returns-clause-err
 returns-clause-err c =
     let read = bytes_read (packet_fields c.in_ok-copy.copy) c.unpacked.result c.unpacked.ensures.unpacked
-        c.unpacked.ensures.meta in
+    c.unpacked.ensures.meta in
     let (opens, fails) = subst (λ (f : PacketFields). IsRead f c.unpacked.result) c.in_ok-copy.ensures.fields read in
     fails

@@ -34,7 +34,7 @@ returns c = (
       (with_collected q (after_naming q.collector (with_id (details_of c.args.details) c.in_ok-answer.field-0))))
       c.deref_mut.ensures.value
       ∙ ap (λ (id : ℕ). Some
-          (with_collected c.take-whole.result.value
-          (after_naming c.take-whole.result.value.collector (with_id (details_of c.args.details) id))))
-          (sym c.get.ensures.number),
+      (with_collected c.take-whole.result.value
+      (after_naming c.take-whole.result.value.collector (with_id (details_of c.args.details) id))))
+      (sym c.get.ensures.number),
 )

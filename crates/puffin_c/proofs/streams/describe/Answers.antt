@@ -14,7 +14,7 @@ pub returns-clause-ok : goal.returns-clause-ok
 returns-clause-ok c =
     let rows = c.in_ok-made.ensures.rows ∙ ap (λ (f : UnpackedFrameData). stream_rows 0 (map.entries (streams_held f))) c.deref.ensures in
     let bytes = c.in_ok-made.ensures.bytes
-        ∙ ap (λ (f : UnpackedFrameData). streams_bytes (map.entries (streams_held f))) c.deref.ensures in (
+    ∙ ap (λ (f : UnpackedFrameData). streams_bytes (map.entries (streams_held f))) c.deref.ensures in (
       streams_held (arc_value c.in_ok-data.data),
       c.in_ok-data.ensures.unpacked,
       c.of-list.ensures ∙ ap told_of (c.meta.ensures ∙ ap (λ (f : PacketFields). f.meta) c.unpacked.ensures.fields),

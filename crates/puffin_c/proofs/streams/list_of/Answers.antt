@@ -14,12 +14,12 @@ pub streams-preserved : goal.streams-preserved
 streams-preserved c =
     let left = rest_more deref_pair _ _ _ _ c.in-Some.is c.next.ensures.steps in
     let longer = c.in_ok-push.ensures.bytes
-        ∙ ap (λ i. c.streams.list.bytes.items ++ stream_bytes (key_of c.in-Some.thread.now, facts_of i))
-        c.deref.ensures in
+    ∙ ap (λ i. c.streams.list.bytes.items ++ stream_bytes (key_of c.in-Some.thread.now, facts_of i))
+    c.deref.ensures in
     let row = c.in_ok-push.ensures.rows
-        ∙ ap (λ i. c.streams.list.rows.items
-        ++ stream_row (length c.streams.list.bytes.items) (key_of c.in-Some.thread.now, facts_of i) ∷ [])
-        c.deref.ensures in
+    ∙ ap (λ i. c.streams.list.rows.items
+    ++ stream_row (length c.streams.list.bytes.items) (key_of c.in-Some.thread.now, facts_of i) ∷ [])
+    c.deref.ensures in
     let (rows_so_far, bytes_so_far) = c.streams.invariant in (
       rows_more _ _ _ _ _ _ _ _ left row longer rows_so_far,
       bytes_more _ _ _ _ _ _ left longer bytes_so_far,

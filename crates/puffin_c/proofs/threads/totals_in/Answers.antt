@@ -28,7 +28,7 @@ returns-in_default-clause-ok c =
 pub returns-in_err-add_packed-clause-err : goal.returns-in_err-add_packed-clause-err
 returns-in_err-add_packed-clause-err c =
     let (_, is_err, same_cause) = err_from_is_err_and c.from_residual-in_err-add_packed.result
-        c.from_residual-in_err-add_packed.ensures.1 in
+    c.from_residual-in_err-add_packed.ensures.1 in
     let (stored, opened, given, are_opened, are_totals, counted) = c.frames.invariant in
     rw is_err (not_added _ _ stored opened c.in-Some.frame c.in_err-add_packed.field-0.0 _ same_cause
     ((rw c.in-Some.is at c.in_ok-frame.ensures.given) _ stored given) are_opened

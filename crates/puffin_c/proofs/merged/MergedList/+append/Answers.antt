@@ -48,8 +48,8 @@ returns t c =
     } in
     let with_row : MergedList = record { rows = c.push.new.self; texts = c.extend_from_slice.new.self } in
     let children = subst
-        (λ (xs : List MergeScope). AppendsNodes with_row (nodes_of_all (depth + 1) xs) c.loop-child.self)
-        c.deref-child-items.ensures.value
+    (λ (xs : List MergeScope). AppendsNodes with_row (nodes_of_all (depth + 1) xs) c.loop-child.self)
+    c.deref-child-items.ensures.value
     (all_appended (depth + 1) with_row c.loop-child.self c.deref-child-items.result.now c.loop-child.child-index
     (omega arith) c.loop-child.invariant.children) in
     scope_appended depth s before with_row c.loop-child.self _ c.in_ok-push.ensures.items

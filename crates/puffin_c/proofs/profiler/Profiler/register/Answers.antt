@@ -20,7 +20,7 @@ returns-in_err-learn-clause-err c =
     ap (λ (d : ScopeDetails). details_of d ∷ []) c.in_ok-details.ensures.ok ∙ ap (λ (d : Details). d ∷ []) c.with_scope_id.ensures in
     let (_, is_err, same_cause) = err_from_is_err_and c.from_residual-in_err-learn.result c.from_residual-in_err-learn.ensures.1 in
     let memory = memory_alone c.learn.result c.in_err-learn.field-0.0
-        (list_any lacks_id (shared_details (c.in_ok-details.details ∷ []))) c.in_err-learn.was
+    (list_any lacks_id (shared_details (c.in_ok-details.details ∷ []))) c.in_err-learn.was
     (ap (list_any lacks_id) given) c.learn.ensures.missing c.in_err-learn.ensures.cause in
     rw is_err (inr (
       same_cause ∙ memory,

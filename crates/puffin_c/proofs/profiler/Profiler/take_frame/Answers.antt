@@ -32,9 +32,9 @@ returns-in_err-add_frame-clause-err c =
     let waits = sym c.in_ok-frame.ensures.ok ∙ ap (option_map arc_value) c.in-Some.is in
     let frame : FrameData = arc_value c.in-Some.frame in
     let (cause, is_err, same_cause) = err_from_is_err_and c.from_residual-in_err-add_frame.result
-        c.from_residual-in_err-add_frame.ensures.1 in
+    c.from_residual-in_err-add_frame.ensures.1 in
     let memory = memory_alone c.add_frame.result c.in_err-add_frame.field-0.0 (list_any lacks_id (frame_details frame))
-        c.in_err-add_frame.was
+    c.in_err-add_frame.was
     (rw c.in-Some.is at c.in_ok-frame.ensures.ids) c.add_frame.ensures.missing c.in_err-add_frame.ensures.cause in
     rw is_err (still_waits old mid new cause frame c.in_ok-collect.ensures.ok waits refl refl refl
     c.in_err-add_frame.ensures.err.frames (same_cause ∙ memory))

@@ -54,7 +54,7 @@ returns-in_ok-end-in-End-clause-accepted c =
 pub returns-in_err-end-in-End-clause-refused : goal.returns-in_err-end-in-End-clause-refused
 returns-in_err-end-in-End-clause-refused c =
     let (_, is_err, same_cause) = err_from_is_err_and c.from_residual-in_err-end-in-End.result
-        c.from_residual-in_err-end-in-End.ensures.1 in
+    c.from_residual-in_err-end-in-End.ensures.1 in
     let refused = c.in_err-end-in-End.ensures in
     rw (is_err, same_cause)
     (same c.args.self.now c.end.new.self _ _ _ _ c.in-End.is refused.err
@@ -88,7 +88,7 @@ returns-in_ok-frame-in-NewFrame-clause-accepted c =
 pub returns-in_err-frame-in-NewFrame-clause-refused : goal.returns-in_err-frame-in-NewFrame-clause-refused
 returns-in_err-frame-in-NewFrame-clause-refused c =
     let (_, is_err, same_cause) = err_from_is_err_and c.from_residual-in_err-frame-in-NewFrame.result
-        c.from_residual-in_err-frame-in-NewFrame.ensures.1 in
+    c.from_residual-in_err-frame-in-NewFrame.ensures.1 in
     let (is_after, keeps) = c.in_err-frame-in-NewFrame.ensures.err in
     rw (is_err, same_cause)
     (same c.args.self.now c.new_frame.new.self _ _ _ _ c.in-NewFrame.is is_after
@@ -105,7 +105,7 @@ returns-in_ok-register-in-Register-clause-accepted c =
 pub returns-in_err-register-in-Register-clause-refused : goal.returns-in_err-register-in-Register-clause-refused
 returns-in_err-register-in-Register-clause-refused c =
     let (_, is_err, same_cause) = err_from_is_err_and c.from_residual-in_err-register-in-Register.result
-        c.from_residual-in_err-register-in-Register.ensures.1 in
+    c.from_residual-in_err-register-in-Register.ensures.1 in
     let refused = c.in_err-register-in-Register.ensures in
     rw (is_err, same_cause)
     (same c.args.self.now c.register.new.self _ _ _ _ c.in-Register.is refused.err
@@ -127,7 +127,7 @@ returns-in_ok-ids-in-RegisterUser-clause-accepted c =
 pub returns-in_err-ids-in-RegisterUser-clause-refused : goal.returns-in_err-ids-in-RegisterUser-clause-refused
 returns-in_err-ids-in-RegisterUser-clause-refused c =
     let (_, is_err, same_cause) = err_from_is_err_and c.from_residual-in_err-ids-in-RegisterUser.result
-        c.from_residual-in_err-ids-in-RegisterUser.ensures.1 in
+    c.from_residual-in_err-ids-in-RegisterUser.ensures.1 in
     let registered = c.in_err-ids-in-RegisterUser.ensures in
     let now = c.args.self.now in
     let new = c.register_user.new.self in
