@@ -8,12 +8,12 @@ use crate::light::counted::CountedShare;
 use crate::light::leader::FrameTaker;
 use crate::light::outcome::{Failed, ThreadCounts};
 use crate::light::ready::AnyProgram;
-use crate::light::started::{ThreadPromise, ThreadReturn};
+use crate::light::started::{Started, ThreadReturn};
 use history::History;
 use std::io;
 use std::sync::Wait;
 use std::sync::ledger::Ledger;
-use std::thread::{PromisedHandle, Threads};
+use std::thread::Threads;
 
 /// What all threads returned: every share, what became of each thread's scopes, and what the leader counted.
 #[derive(Drop)]
@@ -53,7 +53,7 @@ pub(crate) fn join_all<
     W: AnyProgram<T>,
 >(
     rt: &R,
-    started: Vec<PromisedHandle<ThreadReturn<L, M>, ThreadPromise<T, W>>>,
+    started: Vec<Started<L, M, T, W>>,
     taker: FrameTaker<'_, L, M, R>,
     counted: CountedShare<L, M>,
     mut shares: Vec<Share<L, M>>,
@@ -86,7 +86,7 @@ pub(crate) fn join_all<
     shares.push(share)?;
     shares.push(own)?;
     for thread in started {
-        let ThreadReturn { counted, ended } = thread.join(rt);
+        let ThreadReturn { counted, ended } = thread.join(rt)?;
         failed = failed.or(failure(counts.len(), ended.result));
         shares.push(counted.share)?;
         counts.push(counted.counts)?;

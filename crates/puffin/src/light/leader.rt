@@ -34,7 +34,8 @@ pub(crate) fn lead<'p, L: Ledger + History, M: Ledger, R: Wait + Clock + Copy, T
     rt: R,
     shares: LeaderShares<L, M>,
     leader: T,
-    program: &'p W,
+    program: &W,
+    gate: &'p Gate,
 ) -> (FrameTaker<'p, L, M, R>, CountedShare<L, M>)
     ensures tells { W.leads leader program.now result.1.counts.unreported [] result.1.share.own }
     ensures takes { W.takes leader program.now result.0.share.own }
@@ -51,7 +52,7 @@ pub(crate) fn lead<'p, L: Ledger + History, M: Ledger, R: Wait + Clock + Copy, T
         share: taking,
         frames: 0,
         missed: 0,
-        gate: program.gate(),
+        gate,
     };
     let reporter = Counting::new(SharedReporter::new(rt, reports, reporting));
     let (left, reporter) = program.lead(&rt, leader, reporter, &mut taker);

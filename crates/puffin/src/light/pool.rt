@@ -5,7 +5,6 @@ ghost use Rattle.puffin.specs.Places.{details_in};
 ghost use Rattle.puffin.specs.Shown.{PoolShows};
 ghost use Rattle.puffin.specs.Telling.{Named};
 
-use crate::light::gate::Gate;
 use crate::light::guard::Records;
 use crate::light::meeting::{Gathers, Meets};
 use crate::light::outcome::{Outcome, ThreadCounts};
@@ -95,10 +94,10 @@ pub trait Pool {
         ensures takes { F.taken frames.old ≡ [] → takes self.now (F.taken frames.new) };
 }
 
-/// A pool whose threads wait at a gate.
+/// A pool whose threads do one job after the other.
+#[derive(Drop)]
 struct Jobs<'p, W> {
     pool: &'p W,
-    gate: Gate,
 }
 
 impl<C: Clock + Copy + Drop, W: Pool> AnyProgram<Ready<SystemClock<C>>> for Jobs<'_, W> {
@@ -119,10 +118,6 @@ impl<C: Clock + Copy + Drop, W: Pool> AnyProgram<Ready<SystemClock<C>>> for Jobs
 
     ghost takes = { λ ready jobs told. W.takes jobs.pool.now (frames_in told) };
 
-    fn gate(&self) -> &Gate {
-        &self.gate
-    }
-
     /// Does one job after the other, until there is none or one fails. The thread goes on under the name of each.
     fn run<R: Wait, P: Meets>(
         &self,
@@ -140,10 +135,6 @@ impl<C: Clock + Copy + Drop, W: Pool> AnyProgram<Ready<SystemClock<C>>> for Jobs
             max_bytes,
         } = thread;
         let mut left = ThreadCounts::none();
-        if !self.gate.may_begin(rt) {
-            let result = Err(io::Error::from(io::ErrorKind::Interrupted));
-            return (ThreadEnd { result, left }, reporter);
-        }
         for _ in rt.forever() {
             let (name, job) = match self.pool.next(rt) {
                 Ok(Some(next)) => next,
@@ -230,11 +221,5 @@ pub fn run_pool<R: AllocGlobal + Threads + Wait + Clock + Copy + Send + Sync, W:
         settings.now.leader.now outcome) }
 {
     let names = vec![in rt.alloc(); ""; workers]?;
-    let jobs = Jobs {
-        pool,
-        gate: Gate::new(workers),
-    };
-    let outcome = run_named(rt, &names, scopes, settings, &jobs);
-    let Jobs { pool: _, gate: _ } = jobs;
-    outcome
+    run_named(rt, &names, scopes, settings, &Jobs { pool })
 }

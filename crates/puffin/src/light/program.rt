@@ -8,7 +8,6 @@ ghost use Rattle.puffin.specs.Clocks.{StartsAt, AgreeWith};
 ghost use Rattle.puffin_threads.specs.Thread.Clock.{clock_start, clock_begun};
 
 use crate::global_profiler::Emitted;
-use crate::light::gate::Gate;
 use crate::light::guard::Records;
 use crate::light::meeting::{Gathers, Meets};
 use crate::light::outcome::{Outcome, ThreadCounts};
@@ -161,50 +160,31 @@ pub trait Program {
         ensures takes { F.taken frames.old ≡ [] → takes self.now (F.taken frames.new) };
 }
 
-/// A program whose threads wait at a gate.
-struct Gated<'p, W> {
+/// A program each of whose threads does its work in one go.
+#[derive(Drop)]
+struct InOneGo<'p, W> {
     program: &'p W,
-    gate: Gate,
 }
 
-impl<W: Program> Gated<'_, W> {
-    ghost use Rattle.puffin.specs.Telling.{RunsAs};
-
-    /// Does the work of one thread, once the gate is open.
-    fn work<R: Wait, T: Records>(&self, rt: &R, number: usize, thread: &mut T) -> io::Result<()>
-        ensures { RunsAs (W.states self.now.program.now) (W.runs self.now.program.now number)
-            T.begins T.ends thread.old result thread.new }
-    {
-        if !self.gate.may_begin(rt) {
-            return Err(io::Error::from(io::ErrorKind::Interrupted));
-        }
-        self.program.work(rt, number, thread)
-    }
-}
-
-impl<C: NsSource + Drop, W: Program> AnyProgram<Ready<C>> for Gated<'_, W> {
+impl<C: NsSource + Drop, W: Program> AnyProgram<Ready<C>> for InOneGo<'_, W> {
     ghost use Rattle.std.specs.Prelude.{string_bytes};
     ghost use Rattle.puffin_data.specs.declared.data.form.Form.{Form};
     ghost use Rattle.puffin.specs.Places.{num_known};
     ghost use Rattle.puffin.specs.Happenings.{frames_in};
     ghost use Rattle.puffin.specs.Telling.{HasRunAs, HasLedAs};
 
-    ghost tells = { λ ready gated number ended before after.
-        HasRunAs (W.states gated.program.now) (W.runs gated.program.now number)
+    ghost tells = { λ ready works number ended before after.
+        HasRunAs (W.states works.program.now) (W.runs works.program.now number)
         (string_bytes ready.name) Form.Short (num_known ready.scopes) ended.result before after
         ended.left.unreported };
 
-    ghost leads = { λ ready gated unreported before after.
-        HasLedAs (W.states gated.program.now) (W.leads gated.program.now)
+    ghost leads = { λ ready works unreported before after.
+        HasLedAs (W.states works.program.now) (W.leads works.program.now)
         (string_bytes ready.name) Form.Short (num_known ready.scopes) before after unreported };
 
-    ghost takes = { λ ready gated told. W.takes gated.program.now (frames_in told) };
+    ghost takes = { λ ready works told. W.takes works.program.now (frames_in told) };
 
-    fn gate(&self) -> &Gate {
-        &self.gate
-    }
-
-    /// Does the thread's work, once the gate is open, and reports what is left.
+    /// Does the thread's work, and reports what is left.
     fn run<R: Wait, P: Meets>(
         &self,
         rt: &R,
@@ -213,7 +193,7 @@ impl<C: NsSource + Drop, W: Program> AnyProgram<Ready<C>> for Gated<'_, W> {
         reporter: P,
     ) -> (ThreadEnd, P) {
         let mut thread = thread.start(reporter);
-        let result = self.work(rt, number, &mut thread);
+        let result = self.program.work(rt, number, &mut thread);
         let (left, reporter, _scopes) = end(thread);
         (ThreadEnd { result, left }, reporter)
     }
@@ -332,14 +312,5 @@ pub fn run_threads<R: AllocGlobal + Threads + Wait + Clock + Copy + Send + Sync,
         (leader_first (W.leads program.now) (W.runs program.now))
         (settings.now.leader.now ∷ map (λ name. name.now) names.now) outcome) }
 {
-    let gated = Gated {
-        program,
-        gate: Gate::new(names.len()),
-    };
-    let outcome = run_named(rt, names, scopes, settings, &gated);
-    let Gated {
-        program: _,
-        gate: _,
-    } = gated;
-    outcome
+    run_named(rt, names, scopes, settings, &InOneGo { program })
 }

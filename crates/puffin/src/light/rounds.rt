@@ -6,7 +6,6 @@ ghost use Rattle.puffin.specs.Places.{details_in};
 ghost use Rattle.puffin.specs.Rounds.{RoundsShow};
 
 use crate::global_profiler::Emitted;
-use crate::light::gate::Gate;
 use crate::light::guard::Records;
 use crate::light::meeting::{Gathers, Meeting, Meets};
 use crate::light::outcome::{Outcome, ThreadCounts};
@@ -84,6 +83,7 @@ pub trait Rounds {
 }
 
 /// A number of rounds of a program. All threads meet at the end of each.
+#[derive(Drop)]
 struct InRounds<'p, W> {
     program: &'p W,
     rounds: usize,
@@ -91,7 +91,6 @@ struct InRounds<'p, W> {
     failed: AtomicBool,
     /// Whether the round that was released last is the last one.
     over: AtomicBool,
-    gate: Gate,
     meeting: Meeting,
 }
 
@@ -113,10 +112,6 @@ impl<C: NsSource + Drop, W: Rounds> AnyProgram<Ready<C>> for InRounds<'_, W> {
 
     ghost takes = { λ ready rounds told. TakesTurns rounds.meeting.threads rounds.rounds told };
 
-    fn gate(&self) -> &Gate {
-        &self.gate
-    }
-
     /// Makes the thread's state, and does its part of each round until the leader has stored that the round was the last one. A
     /// thread that failed still arrives, so that the others don't wait for it.
     fn run<R: Wait, P: Meets>(
@@ -127,28 +122,25 @@ impl<C: NsSource + Drop, W: Rounds> AnyProgram<Ready<C>> for InRounds<'_, W> {
         reporter: P,
     ) -> (ThreadEnd, P) {
         let mut thread = thread.start(reporter);
-        let mut state = Err(io::Error::from(io::ErrorKind::Interrupted));
-        if self.gate.may_begin(rt) {
-            state = self.program.state(rt, number);
-            for round in 0..self.meeting.most_rounds(self.rounds) {
-                state = match state {
-                    Ok(mut values) => match self
-                        .program
-                        .part(rt, number, round, &mut values, &mut thread)
-                    {
-                        Ok(()) => Ok(values),
-                        Err(e) => Err(e),
-                    },
+        let mut state = self.program.state(rt, number);
+        for round in 0..self.meeting.most_rounds(self.rounds) {
+            state = match state {
+                Ok(mut values) => match self
+                    .program
+                    .part(rt, number, round, &mut values, &mut thread)
+                {
+                    Ok(()) => Ok(values),
                     Err(e) => Err(e),
-                };
-                if state.is_err() {
-                    self.failed.store(true, Ordering::SeqCst);
-                }
-                thread.arrive(&self.meeting);
-                thread.wait_released(&self.meeting, round as u64 + 1);
-                if self.over.load(Ordering::SeqCst) {
-                    break;
-                }
+                },
+                Err(e) => Err(e),
+            };
+            if state.is_err() {
+                self.failed.store(true, Ordering::SeqCst);
+            }
+            thread.arrive(&self.meeting);
+            thread.wait_released(&self.meeting, round as u64 + 1);
+            if self.over.load(Ordering::SeqCst) {
+                break;
             }
         }
         let (left, reporter, _scopes) = end(thread);
@@ -221,17 +213,7 @@ pub fn run_rounds<R: AllocGlobal + Threads + Wait + Clock + Copy + Send + Sync, 
         rounds,
         failed: AtomicBool::new(false),
         over: AtomicBool::new(false),
-        gate: Gate::new(names.len()),
         meeting: Meeting::new(threads),
     };
-    let outcome = run_named(rt, names, scopes, settings, &program);
-    let InRounds {
-        program: _,
-        rounds: _,
-        failed: _,
-        over: _,
-        gate: _,
-        meeting: _,
-    } = program;
-    outcome
+    run_named(rt, names, scopes, settings, &program)
 }

@@ -14,6 +14,7 @@ use crate::global_profiler::{
     Event, GlobalFrameView, GlobalProfiler, Share, SharedProfiler, SharedReporter,
 };
 use crate::light::counted::{CountedShare, Counting};
+use crate::light::gate::Gate;
 use crate::light::joined::{Joined, join_all};
 use crate::light::leader::{LeaderShares, lead};
 use crate::light::outcome::Outcome;
@@ -35,7 +36,7 @@ pub(crate) struct ThreadReturn<L: Ledger + History, M: Ledger> {
     pub(crate) ended: ThreadEnd,
 }
 
-/// What a thread that was started returns: what it tells is all that happened through its share.
+/// What a thread that was started returns, if it has begun: what it tells is all that happened through its share.
 #[derive(Drop)]
 pub(crate) struct ThreadPromise<T, W> {
     thread: Snapshot<T>,
@@ -43,40 +44,51 @@ pub(crate) struct ThreadPromise<T, W> {
     program: Snapshot<W>,
 }
 
-impl<L: Ledger + History, M: Ledger, T, W: AnyProgram<T>> Promise<ThreadReturn<L, M>>
+impl<L: Ledger + History, M: Ledger, T, W: AnyProgram<T>> Promise<io::Result<ThreadReturn<L, M>>>
     for ThreadPromise<T, W> {
-    ghost use Rattle.std.specs.Prelude.{◌≡◌, []};
+    ghost use Rattle.std.specs.Prelude.{◌≡◌, [], IfOk};
 
     ghost kept_by = { λ works worked.
-        W.tells works.thread.value works.program.value works.number worked.ended []
-        worked.counted.share.own
-        × (worked.counted.counts.unreported ≡ worked.ended.left.unreported) };
+        IfOk worked (λ back.
+        W.tells works.thread.value works.program.value works.number back.ended []
+        back.counted.share.own
+        × (back.counted.counts.unreported ≡ back.ended.left.unreported)) };
 }
 
-/// Does a thread's work, tells the gate that the thread has ended, and returns its share.
-fn work<L: Ledger + History, M: Ledger, R: Wait + Copy, T, W: AnyProgram<T>>(
+/// A thread that was started.
+pub(crate) type Started<L, M, T, W> = PromisedHandle<
+    io::Result<ThreadReturn<L, M>>,
+    ThreadPromise<T, W>,
+>;
+
+/// Waits at the gate, does a thread's work, and returns its share. Fails if the thread can't begin.
+fn work<L: Ledger + History, M: Ledger, R: Wait + Copy, T: Drop, W: AnyProgram<T>>(
     rt: R,
     number: usize,
     profiler: SharedProfiler<L, M>,
     share: Share<L, M>,
     thread: T,
     program: &W,
-) -> ThreadReturn<L, M>
+    gate: &Gate,
+) -> io::Result<ThreadReturn<L, M>>
     requires { IsNewMember share }
-    ensures tells { W.tells thread program.now number result.ended []
-        result.counted.share.own }
-    ensures unreported { result.counted.counts.unreported ≡ result.ended.left.unreported }
+    ensures tells { IfOk result (λ back.
+        W.tells thread program.now number back.ended [] back.counted.share.own) }
+    ensures unreported { IfOk result (λ back.
+        back.counted.counts.unreported ≡ back.ended.left.unreported) }
 {
+    if !gate.may_begin(&rt) {
+        return Err(io::Error::from(io::ErrorKind::Interrupted));
+    }
     let reporter = Counting::new(SharedReporter::new(rt, profiler, share));
     let (ended, reporter) = program.run(&rt, number, thread, reporter);
-    program.gate().leave(&rt);
-    ThreadReturn {
+    Ok(ThreadReturn {
         counted: reporter.into_share(ended.left),
         ended,
-    }
+    })
 }
 
-/// Starts a thread that calls [`work`].
+/// Starts a thread that calls [`work`], and then tells the gate that it has ended.
 fn start<
     's,
     E,
@@ -93,7 +105,8 @@ fn start<
     share: Share<L, M>,
     thread: T,
     program: &'s W,
-) -> io::Result<PromisedHandle<ThreadReturn<L, M>, ThreadPromise<T, W>>>
+    gate: &'s Gate,
+) -> io::Result<Started<L, M, T, W>>
     requires { IsNewMember share }
     ensures thread { IfOk result (λ handle. handle.promise.thread.value ≡ thread) }
     ensures number { IfOk result (λ handle. handle.promise.number ≡ number) }
@@ -106,13 +119,17 @@ fn start<
     };
     Ok(scope.spawn_with(
         works,
-        move || -> ThreadReturn<L, M>
+        move || -> io::Result<ThreadReturn<L, M>>
             requires { IsNewMember share }
-            ensures tells { W.tells thread program.entry.now number result.ended []
-                result.counted.share.own }
-            ensures unreported { result.counted.counts.unreported
-                ≡ result.ended.left.unreported }
-        { work(rt, number, profiler, share, thread, program) },
+            ensures tells { IfOk result (λ back.
+                W.tells thread program.entry.now number back.ended [] back.counted.share.own) }
+            ensures unreported { IfOk result (λ back.
+                back.counted.counts.unreported ≡ back.ended.left.unreported) }
+        {
+            let back = work(rt, number, profiler, share, thread, program, gate);
+            gate.leave(&rt);
+            back
+        },
     )?)
 }
 
@@ -121,7 +138,7 @@ fn no_memory() -> io::Error {
     io::Error::from(io::ErrorKind::OutOfMemory)
 }
 
-/// Starts the program's threads, each with a share of its own. They wait at the program's gate.
+/// Starts the program's threads, each with a share of its own. They wait at the gate.
 fn start_all<
     's,
     E,
@@ -137,7 +154,8 @@ fn start_all<
     shares: Vec<Share<L, M>>,
     threads: Vec<T>,
     program: &'s W,
-) -> io::Result<Vec<PromisedHandle<ThreadReturn<L, M>, ThreadPromise<T, W>>>>
+    gate: &'s Gate,
+) -> io::Result<Vec<Started<L, M, T, W>>>
     requires { All IsNewMember shares.items }
     ensures started { IfOk result (λ started. vec_len started ≡ vec_len threads) }
     ensures each { IfOk result (λ started.
@@ -153,12 +171,12 @@ fn start_all<
             return Err(no_memory());
         };
         let number = started.len();
-        started.push(start(rt, scope, number, profiler, share, thread, program)?)?;
+        started.push(start(rt, scope, number, profiler, share, thread, program, gate)?)?;
     }
     Ok(started)
 }
 
-/// Starts the program's threads, opens its gate, runs its leader, and returns all shares.
+/// Starts the program's threads, opens the gate, runs the program's leader, and returns all shares.
 ///
 /// Fails if a thread can't be started or memory runs out; the threads that were started then end without having begun.
 fn run_all<
@@ -177,6 +195,7 @@ fn run_all<
     shares: Vec<Share<L, M>>,
     crew: ReadyThreads<T>,
     program: &'s W,
+    gate: &'s Gate,
 ) -> io::Result<Joined<L, M>>
     requires { All IsNewMember shares.items }
     ensures threads { IfOk result (λ joined. vec_len joined.counts ≡ vec_len crew.threads) }
@@ -187,14 +206,14 @@ fn run_all<
     let ReadyThreads { leader, threads } = crew;
     let back = Vec::with_capacity(rt.alloc(), threads.len().saturating_add(2))?;
     let counts = Vec::with_capacity(rt.alloc(), threads.len())?;
-    let started = start_all(rt, scope, profiler, shares, threads, program);
-    program.gate().open(&rt, started.is_ok());
+    let started = start_all(rt, scope, profiler, shares, threads, program, gate);
+    gate.open(&rt, started.is_ok());
     let started = started?;
-    let (taker, counted) = lead(rt, leader_shares, leader, program);
+    let (taker, counted) = lead(rt, leader_shares, leader, program, gate);
     join_all(&rt, started, taker, counted, back, counts)
 }
 
-/// Calls [`run_all`] in a thread scope.
+/// Calls [`run_all`] in a thread scope, with a closed gate.
 fn run_in_scope<
     L: Ledger + History + Send + Sync,
     M: Ledger + Send + Sync,
@@ -215,6 +234,8 @@ fn run_in_scope<
         AreTold W.tells W.leads W.takes crew.threads.items crew.leader program.now joined.failed
         joined.counts.items joined.leader joined.frames joined.shares.items) }
 {
+    let gate = Gate::new(crew.threads.len());
+    let gate = &gate;
     thread::scope(
         thread::scope_env(),
         &rt,
@@ -226,7 +247,18 @@ fn run_in_scope<
                 AreTold W.tells W.leads W.takes crew.threads.items crew.leader
                 program.entry.now joined.failed joined.counts.items joined.leader
                 joined.frames joined.shares.items) }
-        { run_all(rt, scope, profiler, leader_shares, shares, crew, program) },
+        {
+            run_all(
+                rt,
+                scope,
+                profiler,
+                leader_shares,
+                shares,
+                crew,
+                program,
+                gate,
+            )
+        },
     )
 }
 

@@ -13,4 +13,4 @@ returns-clause-shows g c =
     (λ (jobs : Jobs g.row.W.Denot). Named (W.names jobs.pool.now) (W.runs jobs.pool.now))
     (λ (jobs : Jobs g.row.W.Denot). W.leads jobs.pool.now) (λ (jobs : Jobs g.row.W.Denot). W.takes jobs.pool.now)
     (length (details_in c.args.scopes.now)) c.args.settings.now.leader.now (map (λ name. name.now) c.deref.result.now)
-    (record { pool = c.args.pool; gate = c.new.result }) c.run_named-outcome.result c.run_named-outcome.ensures.told
+    (record { pool = c.args.pool }) c.run_named.result c.run_named.ensures.told

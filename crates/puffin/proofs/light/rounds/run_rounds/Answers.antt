@@ -19,7 +19,6 @@ returns-clause-shows g c =
       rounds = c.args.rounds;
       failed = c.new.result;
       over = c.new-2.result;
-      gate = c.new-3.result;
-      meeting = c.new-4.result;
-    }) c.run_named-outcome.result
-    (omega (arith, c.new-4.ensures, length-map names (λ name. name.now))) c.run_named-outcome.ensures.told
+      meeting = c.new-3.result;
+    }) c.run_named.result
+    (omega (arith, c.new-3.ensures, length-map names (λ name. name.now))) c.run_named.ensures.told

@@ -2,14 +2,16 @@
 use denote.Exit.{no}
 use denote.Param.{param, copied}
 use denote.Param.Object.{Vt, ghosts_of}
-use denote.Param.Send.{IsSend, sendable, param_send, arg_send, shr_send}
+use denote.Param.Send.{IsSend, IsSync, sendable, param_send, arg_send, shr_send}
 use denote.Ref.{ShrRef}
 use denote.Plain.{UInt}
 use Rattle.std.proofs.Common.{[], ◌∷◌}
 use Rattle.std.specs.Int.{w64}
+use Rattle.std.proofs.Crossing.{crosses}
 use Rattle.puffin.specs.contracts.global_profiler.shared_profiler.SharedProfiler as Shared
 use Rattle.puffin.specs.contracts.global_profiler.share.Share as Share
 use Rattle.puffin.proofs.lemmas.Sending.{shared_row_send, share_send, captures_send}
+use Rattle.puffin.specs.contracts.light.gate.Gate as Gate
 use Rattle.puffin.specs.contracts.light.started.start.dyn-1 as dyn
 use Rattle.puffin.proofs.light.started.start.Goals as goal
 
@@ -23,8 +25,9 @@ spawn_with-requires-send-F g c κs within =
     let share : IsSend (Share.the_row (param 1 g.row.L) (param 2 g.row.M) g.L.Ledger g.L.History g.M.Ledger) =
     share_send (param 1 g.row.L) (param 2 g.row.M) g.L.Ledger g.L.History g.M.Ledger in
     let number : IsSend (UInt w64) = search sendable depth 5 in
+    let gate : IsSync Gate.the_row = search (crosses, sendable) depth 30 fits 10000 in
     let captured = copied 3 g.row.R ∷ UInt w64 ∷ Shared.the_row (param 1 g.row.L)
     (param 2 g.row.M) D g.L.Ledger g.L.History g.M.Ledger gh ∷ Share.the_row (param 1 g.row.L)
-    (param 2 g.row.M) g.L.Ledger g.L.History g.M.Ledger ∷ param 4 g.row.T ∷ ShrRef _ _ (param 5 g.row.W) ∷ [] in
+    (param 2 g.row.M) g.L.Ledger g.L.History g.M.Ledger ∷ param 4 g.row.T ∷ ShrRef _ _ (param 5 g.row.W) ∷ ShrRef _ _ Gate.the_row ∷ [] in
     param_send 2 _ (arg_send _ no _ (captures_send _ captured
-    (c.type_bounds.send-R, (number, (shared, (share, (c.type_bounds.send-T, (shr_send _ _ _ c.type_bounds.sync-W, tt))))))))
+    (c.type_bounds.send-R, (number, (shared, (share, (c.type_bounds.send-T, (shr_send _ _ _ c.type_bounds.sync-W, (shr_send _ _ _ gate, tt)))))))))

@@ -6,8 +6,8 @@ use Rattle.puffin.specs.Rounds.{HasRunRounds}
 use Rattle.puffin.proofs.RunningRounds.{AfterRounds, first_turn, part_ran, has_run_rounds, if_well}
 use Rattle.puffin.proofs.light.rounds.InRoundsAnyProgramReady.run.Goals as goal
 use Rattle.puffin.proofs.light.rounds.InRoundsAnyProgramReady.run.Goals.{in-Ok+in-Ok-part, in-Ok+in-Err-part, in-Err, in-Ok-state}
-use Rattle.puffin.proofs.light.rounds.InRoundsAnyProgramReady.run.Goals.{in-Err-state, then-may_begin+else-loop-round-test}
-use Rattle.puffin.proofs.light.rounds.InRoundsAnyProgramReady.run.Goals.{then-may_begin+then-loop-round-test+then-load, else-may_begin}
+use Rattle.puffin.proofs.light.rounds.InRoundsAnyProgramReady.run.Goals.{in-Err-state, else-loop-round-test}
+use Rattle.puffin.proofs.light.rounds.InRoundsAnyProgramReady.run.Goals.{then-loop-round-test+then-load}
 
 pub loop-round-init : goal.loop-round-init
 loop-round-init g c stated well none =
@@ -36,7 +36,8 @@ returns g c none =
     let told = g.P.Meets.told in let W = g.W.Rounds in let program = c.args.self.now.program.now in
     let is = W.runs program c.args.number in let name = string_bytes c.args.thread.name in
     let known = num_known c.args.thread.scopes in
-    let e = c.end-reporter.ensures.reports in let thread = c.if-may_begin.thread in
+    let round = c.loop-round.round in
+    let e = c.end-reporter.ensures.reports in let thread = c.loop-round-test.thread in
     let ends : (turn : ℕ) → turn ≤ c.args.self.now.rounds → AfterRounds told is name known turn thread
     → HasRunRounds is c.args.self.now.rounds name known (told c.end-reporter.result.1) c.end-reporter.result.0.unreported =
     λ turn within p. has_run_rounds told is name known g.C.NsSource.answers g.P.Reporter.accepts g.P.Reporter.refuses
@@ -44,27 +45,26 @@ returns g c none =
     within p e.2 e.3 in
     if_well (W.states program) is c.args.self.now.rounds name known c.match-state-3.result
     (told c.end-reporter.result.1) c.end-reporter.result.0.unreported (λ well stated.
-    let state : IsOk c.if-may_begin.state = elim c.match-state-3.branch [
+    let state : IsOk c.loop-round-test.state = elim c.match-state-3.branch [
       | in-Ok-state w ↦ ap is_ok w.in-Ok-state.is
       | in-Err-state w ↦ absurd (let no = subst IsOk w.result-is well in cc)
     ] in
-    elim c.if-may_begin.branch [
-      | then-may_begin+else-loop-round-test w ↦
-          ends w.loop-round.round (omega (arith, w.loop-round.auto.round-end, w.most_rounds-round-end.ensures.within))
-          (subst (λ t. AfterRounds told is name known w.loop-round.round t) (sym w.thread-is)
-          (w.loop-round.invariant stated (subst IsOk w.state-is state) none))
-      | then-may_begin+then-loop-round-test+then-load w ↦
+    elim c.loop-round-test.branch [
+      | else-loop-round-test w ↦
+          ends round (omega (arith, c.loop-round.auto.round-end, c.most_rounds-round-end.ensures.within))
+          (subst (λ t. AfterRounds told is name known round t) (sym w.thread-is)
+          (c.loop-round.invariant stated (subst IsOk w.state-is state) none))
+      | then-loop-round-test+then-load w ↦
           let its = subst IsOk w.state-is state in
-          ends (w.loop-round.round + 1) (omega (arith, w.loop-round-test.true, w.most_rounds-round-end.ensures.within))
-          (subst (λ t. AfterRounds told is name known (w.loop-round.round + 1) t) (sym w.thread-is) (elim w.match-state-2.branch [
+          ends (round + 1) (omega (arith, w.loop-round-test.true, c.most_rounds-round-end.ensures.within))
+          (subst (λ t. AfterRounds told is name known (round + 1) t) (sym w.thread-is) (elim w.match-state-2.branch [
             | in-Ok+in-Ok-part v ↦
                 part_ran told is name known g.C.NsSource.answers g.P.Reporter.accepts g.P.Reporter.refuses g.met.P.Meets.keeps
-                (W.states program) w.loop-round.round w.loop-round.thread v.part.new.thread w.match-state-2.thread
+                (W.states program) round c.loop-round.thread v.part.new.thread w.match-state-2.thread
                 w.arrive.new.self w.wait_released.new.self
                 v.part.result v.in-Ok-part.field-0 stated v.in-Ok-part.is v.part.ensures v.thread-is
-                (w.loop-round.invariant stated (ap is_ok v.in-Ok.is) none) w.arrive.ensures w.wait_released.ensures
+                (c.loop-round.invariant stated (ap is_ok v.in-Ok.is) none) w.arrive.ensures w.wait_released.ensures
             | in-Ok+in-Err-part v ↦ absurd (let no = subst IsOk v.state-is its in cc)
             | in-Err v ↦ absurd (let no = subst IsOk v.state-is its in cc)
           ]))
-      | else-may_begin w ↦ absurd (let no = subst IsOk w.state-is state in cc)
     ])

@@ -6,7 +6,7 @@ use Rattle.puffin.specs.LightThread.{reporter_of, scopes_of}
 use Rattle.puffin.specs.Places.{num_known}
 use Rattle.puffin.specs.Telling.{HasLedAs}
 use Rattle.puffin.proofs.TellingCode.{keeps_unmarked, has_led_as}
-use Rattle.puffin.proofs.light.program.GatedAnyProgramReady.lead.Goals as goal
+use Rattle.puffin.proofs.light.program.InOneGoAnyProgramReady.lead.Goals as goal
 
 pub returns-clause-tells : goal.returns-clause-tells
 returns-clause-tells g c =

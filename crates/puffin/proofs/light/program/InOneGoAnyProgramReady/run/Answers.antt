@@ -6,7 +6,7 @@ use Rattle.puffin.specs.LightThread.{reporter_of, scopes_of}
 use Rattle.puffin.specs.Places.{num_known}
 use Rattle.puffin.specs.Telling.{HasRunAs}
 use Rattle.puffin.proofs.TellingCode.{keeps_unmarked, has_run_as}
-use Rattle.puffin.proofs.light.program.GatedAnyProgramReady.run.Goals as goal
+use Rattle.puffin.proofs.light.program.InOneGoAnyProgramReady.run.Goals as goal
 
 pub returns : goal.returns
 returns g c =
