@@ -76,7 +76,7 @@ module _ {A T W : Type 0} (tells : T → W → ℕ → ThreadEnd → List Happen
       (count : ThreadCounts) (share : Member) (ended : ThreadEnd)
       → AreJoined tells handles taker leader before counts shares
       → length counts ≡ length handles
-      → (after ≡ None → before ≡ None) → (after ≡ None → IsOk ended.result) → count.unreported ≡ ended.left.unreported
+      → (after ≡ None → before ≡ None) → (after ≡ None → IsOk ended.result) → count.unreported ≡ ended.unreported
       → tells handle.promise.thread.value handle.promise.program.value handle.promise.number ended [] share.own
       → AreJoined tells (handles ++ handle ∷ []) taker leader after (counts ++ count ∷ []) (shares ++ share ∷ [])
   joined_more handles handle taker leader before after counts shares count share ended was counted failed well unreported told =

@@ -55,7 +55,7 @@ module _ (C : Type 0) {W : Type 0} (states : W → Bool) (does : W → List ℕ 
     (takes : W → List Streams → Type 0) where
   abbrev tells : Ready C → W → ℕ → ThreadEnd → List Happening → List Happening → Type 0
   tells ready pool number ended before after =
-      OnOk ended.result (HaveRunAs (states pool) (does pool) (num_known ready.scopes) before after ended.left.unreported)
+      OnOk ended.result (HaveRunAs (states pool) (does pool) (num_known ready.scopes) before after ended.unreported)
 
   abbrev led_tells : Ready C → W → ℕ → List Happening → List Happening → Type 0
   led_tells ready pool unreported before after =
@@ -109,8 +109,8 @@ module _ (C : Type 0) {W : Type 0} (states : W → Bool) (does : W → List ℕ 
           let thread = there told.threads k below in
           let it = a.each k thread.0 thread.1 in
           let known_there = num_known thread.0.scopes in
-          let ran = subst (λ (b : Bool). HaveRunAs b (does pool) known_there [] it.share.own it.ended.left.unreported) stated
-          (well_so (HaveRunAs (states pool) (does pool) known_there [] it.share.own it.ended.left.unreported) it.ended.result
+          let ran = subst (λ (b : Bool). HaveRunAs b (does pool) known_there [] it.share.own it.ended.unreported) stated
+          (well_so (HaveRunAs (states pool) (does pool) known_there [] it.share.own it.ended.unreported) it.ended.result
           (it.went_well none) it.told) in (
             ran.0,
             record {

@@ -27,7 +27,7 @@ module _ (C : Type 0) {W : Type 0} (states : W → Bool) (runs : W → ℕ → �
   abbrev tells : Ready C → W → ℕ → ThreadEnd → List Happening → List Happening → Type 0
   tells ready program number ended before after =
       before ≡ [] → HasRunRoundsAs (states program) (runs program number) (rounds program) (string_bytes ready.name)
-      (num_known ready.scopes) ended.result after ended.left.unreported
+      (num_known ready.scopes) ended.result after ended.unreported
 
   abbrev led_tells : Ready C → W → ℕ → List Happening → List Happening → Type 0
   led_tells ready program unreported before after =
@@ -80,18 +80,18 @@ module _ (C : Type 0) {W : Type 0} (states : W → Bool) (runs : W → ℕ → �
         let its_name : string_bytes thread.0.name ≡ name =
         at_most_one (slice_get names k) (string_bytes thread.0.name) name named.0 at in
         let so = well_so (HasLedRoundsAs (states program) (runs program k) (rounds program) (string_bytes thread.0.name)
-        (num_known thread.0.scopes) it.share.own it.ended.left.unreported) it.ended.result (it.went_well none) (it.told refl) in
+        (num_known thread.0.scopes) it.share.own it.ended.unreported) it.ended.result (it.went_well none) (it.told refl) in
         let l = subst (λ (b : Bool). HasLedRoundsAs b (runs program k) (rounds program) (string_bytes thread.0.name)
-        (num_known thread.0.scopes) it.share.own it.ended.left.unreported) stated so in (
+        (num_known thread.0.scopes) it.share.own it.ended.unreported) stated so in (
           it.share,
           it.count,
           it.share_is,
           it.count_is,
           subst (λ (w : ℕ). HasRunRounds (runs program k) (rounds program) name known it.share.own w) (sym it.unreported)
-              (subst (λ (m : ℕ). HasRunRounds (runs program k) (rounds program) name m it.share.own it.ended.left.unreported)
+              (subst (λ (m : ℕ). HasRunRounds (runs program k) (rounds program) name m it.share.own it.ended.unreported)
               named.1
               (subst (λ (x : List ℕ). HasRunRounds (runs program k) (rounds program) x
-              (num_known thread.0.scopes) it.share.own it.ended.left.unreported) its_name l)),
+              (num_known thread.0.scopes) it.share.own it.ended.unreported) its_name l)),
         )
 
     all_ran : RanEach known (leader_first (AreRounds (rounds program) (leads program))

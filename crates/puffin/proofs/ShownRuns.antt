@@ -38,7 +38,7 @@ module _ (C : Type 0) {W : Type 0} (states : W → Bool) (runs : W → ℕ → C
   abbrev tells : Ready C → W → ℕ → ThreadEnd → List Happening → List Happening → Type 0
   tells ready program number ended before after =
       HasRunAs (states program) (runs program number) (string_bytes ready.name) Short
-      (num_known ready.scopes) ended.result before after ended.left.unreported
+      (num_known ready.scopes) ended.result before after ended.unreported
 
   abbrev led_tells : Ready C → W → ℕ → List Happening → List Happening → Type 0
   led_tells ready program unreported before after =
@@ -57,9 +57,9 @@ module _ (C : Type 0) {W : Type 0} (states : W → Bool) (runs : W → ℕ → C
       let its = named k t.0 t.1 in
       let its_name : string_bytes t.0.name ≡ name = at_most_one (slice_get names k) (string_bytes t.0.name) name its.0 at in
       let ran = ran_well (runs program k) (string_bytes t.0.name)
-      (num_known t.0.scopes) told.ended.result told.share.own told.ended.left.unreported (told.went_well none)
+      (num_known t.0.scopes) told.ended.result told.share.own told.ended.unreported (told.went_well none)
       (subst (λ (b : Bool). HasRunAs b (runs program k) (string_bytes t.0.name) Short
-      (num_known t.0.scopes) told.ended.result [] told.share.own told.ended.left.unreported) stated told.told) in
+      (num_known t.0.scopes) told.ended.result [] told.share.own told.ended.unreported) stated told.told) in
       record {
         share = told.share;
         count = told.count;
@@ -68,8 +68,8 @@ module _ (C : Type 0) {W : Type 0} (states : W → Bool) (runs : W → ℕ → C
         count_is = told.count_is;
         right = ran.1;
         ran = subst (λ (n : ℕ). HasRun name Short known ran.0 [] told.share.own n) (sym told.unreported)
-            (subst (λ (n : ℕ). HasRun name Short n ran.0 [] told.share.own told.ended.left.unreported) its.1
-            (subst (λ (x : List ℕ). HasRun x Short (num_known t.0.scopes) ran.0 [] told.share.own told.ended.left.unreported)
+            (subst (λ (n : ℕ). HasRun name Short n ran.0 [] told.share.own told.ended.unreported) its.1
+            (subst (λ (x : List ℕ). HasRun x Short (num_known t.0.scopes) ran.0 [] told.share.own told.ended.unreported)
             its_name ran.2));
       }
 

@@ -25,7 +25,7 @@ pub record TellsAt {T W : Type 0} (tells : T → W → ℕ → ThreadEnd → Lis
   pub share : Member
   pub count_is : slice_get counts place ≡ Some count
   pub share_is : slice_get shares place ≡ Some share
-  pub unreported : count.unreported ≡ ended.left.unreported
+  pub unreported : count.unreported ≡ ended.unreported
   pub went_well : failed ≡ None → IsOk ended.result
   pub told : tells thread program number ended [] share.own
 

@@ -4,6 +4,7 @@ ghost use Rattle.std.specs.Prelude.{◌≡◌, ◌<◌, ◌^◌};
 use crate::global_profiler::{Share, SharedReporter};
 use crate::light::meeting::{Meeting, Meets};
 use crate::light::outcome::ThreadCounts;
+use crate::light::ready::ThreadEnd;
 use crate::scope_details::ScopeDetails;
 use crate::thread_profiler::{Reporter, ThreadInfo};
 use history::History;
@@ -48,17 +49,22 @@ impl<L: Ledger + History, M: Ledger, R: Wait> Counting<L, M, R> {
 }
 
 impl<L: Ledger + History, M: Ledger, R: Wait + Drop> Counting<L, M, R> {
-    /// Returns the share, with the number of scopes that were reported and these numbers of those that weren't.
-    pub(crate) fn into_share(self, left: ThreadCounts) -> CountedShare<L, M>
+    /// Returns the share, with the number of scopes that were reported and those of the others of a thread that ended so.
+    pub(crate) fn into_share(self, ended: ThreadEnd) -> CountedShare<L, M>
         ensures share { result.share ≡ self.reporter.share }
-        ensures counts { (result.counts.unreported ≡ left.unreported)
-            × (result.counts.refused ≡ left.refused)
-            × (result.counts.left_open ≡ left.left_open) }
+        ensures counts { (result.counts.unreported ≡ ended.unreported)
+            × (result.counts.refused ≡ ended.refused)
+            × (result.counts.left_open ≡ ended.left_open) }
     {
         let Counting { reporter, reported } = self;
         CountedShare {
             share: reporter.into_share(),
-            counts: ThreadCounts { reported, ..left },
+            counts: ThreadCounts {
+                reported,
+                unreported: ended.unreported,
+                refused: ended.refused,
+                left_open: ended.left_open,
+            },
         }
     }
 }

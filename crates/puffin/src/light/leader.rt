@@ -55,8 +55,8 @@ pub(crate) fn lead<'p, L: Ledger + History, M: Ledger, R: Wait + Clock + Copy, T
         gate,
     };
     let reporter = Counting::new(SharedReporter::new(rt, reports, reporting));
-    let (left, reporter) = program.lead(&rt, leader, reporter, &mut taker);
-    (taker, reporter.into_share(left))
+    let (ended, reporter) = program.lead(&rt, leader, reporter, &mut taker);
+    (taker, reporter.into_share(ended))
 }
 
 /// Takes frames of a shared profiler, whose only sink is a view, while the threads of a program work, and counts them.

@@ -1,5 +1,5 @@
 //! The result of a program whose threads are profiled.
-ghost use Rattle.std.specs.Prelude.{◌≡◌, ◌+◌, ◌-◌, ◌^◌, ◌≤◌, min, sum_by};
+ghost use Rattle.std.specs.Prelude.{◌≡◌, ◌+◌, ◌≤◌, sum_by};
 
 use crate::global_profiler::{GlobalFrameView, Settled};
 use std::io;
@@ -18,36 +18,6 @@ pub struct ThreadCounts {
     /// [`Records::begin`](crate::light::Records::begin), or their guards were forgotten, and nothing ended them. They are in no
     /// frame.
     pub left_open: u64,
-}
-
-impl ThreadCounts {
-    /// Returns the counts of a thread that has begun no scope.
-    pub(crate) fn none() -> ThreadCounts
-        ensures { result.unreported ≡ 0 }
-    {
-        ThreadCounts {
-            reported: 0,
-            unreported: 0,
-            refused: 0,
-            left_open: 0,
-        }
-    }
-
-    /// Adds these counts to others. A sum that doesn't fit is the largest `u64`.
-    pub(crate) fn and(self, other: ThreadCounts) -> ThreadCounts
-        ensures reported { result.reported ≡ min (self.reported + other.reported) (2 ^ 64 - 1) }
-        ensures unreported { result.unreported
-            ≡ min (self.unreported + other.unreported) (2 ^ 64 - 1) }
-        ensures refused { result.refused ≡ min (self.refused + other.refused) (2 ^ 64 - 1) }
-        ensures left_open { result.left_open ≡ min (self.left_open + other.left_open) (2 ^ 64 - 1) }
-    {
-        ThreadCounts {
-            reported: self.reported.saturating_add(other.reported),
-            unreported: self.unreported.saturating_add(other.unreported),
-            refused: self.refused.saturating_add(other.refused),
-            left_open: self.left_open.saturating_add(other.left_open),
-        }
-    }
 }
 
 /// A thread that failed.

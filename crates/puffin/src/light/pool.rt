@@ -7,7 +7,7 @@ ghost use Rattle.puffin.specs.Telling.{Named};
 
 use crate::light::guard::Records;
 use crate::light::meeting::{Gathers, Meets};
-use crate::light::outcome::{Outcome, ThreadCounts};
+use crate::light::outcome::Outcome;
 use crate::light::program::{Frames, run_named};
 use crate::light::ready::{AnyProgram, Ready, ThreadEnd, end};
 use crate::light::scopes::Scopes;
@@ -110,7 +110,7 @@ impl<C: Clock + Copy + Drop, W: Pool> AnyProgram<Ready<SystemClock<C>>> for Jobs
     ghost tells = { λ ready jobs number ended before after.
         OnOk ended.result (HaveRunAs (W.states jobs.pool.now)
         (Named (W.names jobs.pool.now) (W.runs jobs.pool.now)) (num_known ready.scopes) before
-        after ended.left.unreported) };
+        after ended.unreported) };
 
     ghost leads = { λ ready jobs unreported before after.
         HasLedAs (W.states jobs.pool.now) (W.leads jobs.pool.now) (string_bytes ready.name)
@@ -134,24 +134,15 @@ impl<C: Clock + Copy + Drop, W: Pool> AnyProgram<Ready<SystemClock<C>>> for Jobs
             mut scopes,
             max_bytes,
         } = thread;
-        let mut left = ThreadCounts::none();
+        let mut ended = ThreadEnd::of_nothing();
         for _ in rt.forever() {
             let (name, job) = match self.pool.next(rt) {
                 Ok(Some(next)) => next,
-                Ok(None) => return (
-                    ThreadEnd {
-                        result: Ok(()),
-                        left,
-                    },
-                    reporter,
-                ),
-                Err(e) => return (
-                    ThreadEnd {
-                        result: Err(e),
-                        left,
-                    },
-                    reporter,
-                ),
+                Ok(None) => return (ended, reporter),
+                Err(e) => {
+                    ended.result = Err(e);
+                    return (ended, reporter);
+                }
             };
             let ready = Ready {
                 alloc,
@@ -162,19 +153,12 @@ impl<C: Clock + Copy + Drop, W: Pool> AnyProgram<Ready<SystemClock<C>>> for Jobs
             };
             let mut thread = ready.start(reporter);
             let result = self.pool.work(rt, job, &mut thread);
-            let (of_job, back, known) = end(thread);
-            left = left.and(of_job);
+            let (of_job, back, known) = end(thread, result);
+            ended = ended.followed_by(of_job);
             reporter = back;
             scopes = known;
-            match result {
-                Ok(()) => {}
-                Err(e) => return (
-                    ThreadEnd {
-                        result: Err(e),
-                        left,
-                    },
-                    reporter,
-                ),
+            if result.is_err() {
+                return (ended, reporter);
             }
         }
         unreachable!()
@@ -187,11 +171,11 @@ impl<C: Clock + Copy + Drop, W: Pool> AnyProgram<Ready<SystemClock<C>>> for Jobs
         thread: Ready<SystemClock<C>>,
         reporter: P,
         frames: &mut F,
-    ) -> (ThreadCounts, P) {
+    ) -> (ThreadEnd, P) {
         let mut thread = thread.start(reporter);
         self.pool.lead(rt, &mut thread, frames);
-        let (left, reporter, _scopes) = end(thread);
-        (left, reporter)
+        let (ended, reporter, _scopes) = end(thread, Ok(()));
+        (ended, reporter)
     }
 }
 

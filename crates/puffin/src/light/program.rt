@@ -10,7 +10,7 @@ ghost use Rattle.puffin_threads.specs.Thread.Clock.{clock_start, clock_begun};
 use crate::global_profiler::Emitted;
 use crate::light::guard::Records;
 use crate::light::meeting::{Gathers, Meets};
-use crate::light::outcome::{Outcome, ThreadCounts};
+use crate::light::outcome::Outcome;
 use crate::light::ready::{AnyProgram, Ready, ReadyThreads, ThreadEnd, end};
 use crate::light::scopes::Scopes;
 use crate::light::settings::Settings;
@@ -176,7 +176,7 @@ impl<C: NsSource + Drop, W: Program> AnyProgram<Ready<C>> for InOneGo<'_, W> {
     ghost tells = { λ ready works number ended before after.
         HasRunAs (W.states works.program.now) (W.runs works.program.now number)
         (string_bytes ready.name) Form.Short (num_known ready.scopes) ended.result before after
-        ended.left.unreported };
+        ended.unreported };
 
     ghost leads = { λ ready works unreported before after.
         HasLedAs (W.states works.program.now) (W.leads works.program.now)
@@ -194,8 +194,8 @@ impl<C: NsSource + Drop, W: Program> AnyProgram<Ready<C>> for InOneGo<'_, W> {
     ) -> (ThreadEnd, P) {
         let mut thread = thread.start(reporter);
         let result = self.program.work(rt, number, &mut thread);
-        let (left, reporter, _scopes) = end(thread);
-        (ThreadEnd { result, left }, reporter)
+        let (ended, reporter, _scopes) = end(thread, result);
+        (ended, reporter)
     }
 
     /// Runs the program's leader, and reports what is left.
@@ -205,11 +205,11 @@ impl<C: NsSource + Drop, W: Program> AnyProgram<Ready<C>> for InOneGo<'_, W> {
         thread: Ready<C>,
         reporter: P,
         frames: &mut F,
-    ) -> (ThreadCounts, P) {
+    ) -> (ThreadEnd, P) {
         let mut thread = thread.start(reporter);
         self.program.lead(rt, &mut thread, frames);
-        let (left, reporter, _scopes) = end(thread);
-        (left, reporter)
+        let (ended, reporter, _scopes) = end(thread, Ok(()));
+        (ended, reporter)
     }
 }
 

@@ -8,7 +8,7 @@ ghost use Rattle.puffin.specs.Rounds.{RoundsShow};
 use crate::global_profiler::Emitted;
 use crate::light::guard::Records;
 use crate::light::meeting::{Gathers, Meeting, Meets};
-use crate::light::outcome::{Outcome, ThreadCounts};
+use crate::light::outcome::Outcome;
 use crate::light::program::{Frames, run_named};
 use crate::light::ready::{AnyProgram, Ready, ThreadEnd, end};
 use crate::light::scopes::Scopes;
@@ -103,7 +103,7 @@ impl<C: NsSource + Drop, W: Rounds> AnyProgram<Ready<C>> for InRounds<'_, W> {
     ghost tells = { λ ready rounds number ended before after. before ≡ [] →
         HasRunRoundsAs (W.states rounds.program.now) (W.runs rounds.program.now number)
         rounds.rounds (string_bytes ready.name) (num_known ready.scopes) ended.result after
-        ended.left.unreported };
+        ended.unreported };
 
     ghost leads = { λ ready rounds unreported before after. before ≡ [] →
         HasLedRoundsAs (W.states rounds.program.now)
@@ -143,12 +143,12 @@ impl<C: NsSource + Drop, W: Rounds> AnyProgram<Ready<C>> for InRounds<'_, W> {
                 break;
             }
         }
-        let (left, reporter, _scopes) = end(thread);
         let result = match state {
             Ok(_) => Ok(()),
             Err(e) => Err(e),
         };
-        (ThreadEnd { result, left }, reporter)
+        let (ended, reporter, _scopes) = end(thread, result);
+        (ended, reporter)
     }
 
     /// Leads each round: does the leader's part, waits until all have arrived, takes the frame, and releases the round.
@@ -158,7 +158,7 @@ impl<C: NsSource + Drop, W: Rounds> AnyProgram<Ready<C>> for InRounds<'_, W> {
         thread: Ready<C>,
         reporter: P,
         frames: &mut F,
-    ) -> (ThreadCounts, P) {
+    ) -> (ThreadEnd, P) {
         let mut thread = thread.start(reporter);
         for round in 0..self.meeting.most_rounds(self.rounds) {
             self.program.lead(rt, round, &mut thread);
@@ -175,8 +175,8 @@ impl<C: NsSource + Drop, W: Rounds> AnyProgram<Ready<C>> for InRounds<'_, W> {
                 break;
             }
         }
-        let (left, reporter, _scopes) = end(thread);
-        (left, reporter)
+        let (ended, reporter, _scopes) = end(thread, Ok(()));
+        (ended, reporter)
     }
 }
 

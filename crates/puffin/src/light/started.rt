@@ -52,7 +52,7 @@ impl<L: Ledger + History, M: Ledger, T, W: AnyProgram<T>> Promise<io::Result<Thr
         IfOk worked (λ back.
         W.tells works.thread.value works.program.value works.number back.ended []
         back.counted.share.own
-        × (back.counted.counts.unreported ≡ back.ended.left.unreported)) };
+        × (back.counted.counts.unreported ≡ back.ended.unreported)) };
 }
 
 /// A thread that was started.
@@ -75,7 +75,7 @@ fn work<L: Ledger + History, M: Ledger, R: Wait + Copy, T: Drop, W: AnyProgram<T
     ensures tells { IfOk result (λ back.
         W.tells thread program.now number back.ended [] back.counted.share.own) }
     ensures unreported { IfOk result (λ back.
-        back.counted.counts.unreported ≡ back.ended.left.unreported) }
+        back.counted.counts.unreported ≡ back.ended.unreported) }
 {
     if !gate.may_begin(&rt) {
         return Err(io::Error::from(io::ErrorKind::Interrupted));
@@ -83,7 +83,7 @@ fn work<L: Ledger + History, M: Ledger, R: Wait + Copy, T: Drop, W: AnyProgram<T
     let reporter = Counting::new(SharedReporter::new(rt, profiler, share));
     let (ended, reporter) = program.run(&rt, number, thread, reporter);
     Ok(ThreadReturn {
-        counted: reporter.into_share(ended.left),
+        counted: reporter.into_share(ended),
         ended,
     })
 }
@@ -124,7 +124,7 @@ fn start<
             ensures tells { IfOk result (λ back.
                 W.tells thread program.entry.now number back.ended [] back.counted.share.own) }
             ensures unreported { IfOk result (λ back.
-                back.counted.counts.unreported ≡ back.ended.left.unreported) }
+                back.counted.counts.unreported ≡ back.ended.unreported) }
         {
             let back = work(rt, number, profiler, share, thread, program, gate);
             gate.leave(&rt);

@@ -7,7 +7,7 @@ use Rattle.puffin.specs.LightThread.{reporter_of, scopes_of}
 use Rattle.puffin.specs.Places.{num_known}
 use Rattle.puffin.specs.Telling.{HasRunAs, HaveRunAs, Named}
 use Rattle.puffin.proofs.TellingCode.{keeps_unmarked, has_run_as}
-use Rattle.puffin.proofs.TellingJobs.{none_run, job_run, scopes_stay}
+use Rattle.puffin.proofs.TellingJobs.{none_run, job_run, scopes_stay, unless_failed}
 use Rattle.puffin.proofs.light.pool.JobsAnyProgramReadySystemClock.run.Goals as goal
 
 pub loop-init : goal.loop-init
@@ -17,12 +17,12 @@ loop-init g c =
     record {
       known = λ stated. refl;
       ran = let told = g.P.Meets.told in subst
-          (λ (n : ℕ). HaveRunAs (W.states pool) is known (told c.args.reporter) (told c.args.reporter) n) (sym c.none-left.ensures)
+          (λ (n : ℕ). HaveRunAs (W.states pool) is known (told c.args.reporter) (told c.args.reporter) n) (sym (ap (λ e. e.unreported) c.of_nothing-ended.ensures))
           (none_run is known (W.states pool) (told c.args.reporter));
     }
 
 pub returns-in-Ok-None : goal.returns-in-Ok-None
-returns-in-Ok-None g c = c.loop.invariant.ran
+returns-in-Ok-None g c = unless_failed c.loop.ended.result c.loop.invariant.ran
 
 pub loop-preserved : goal.loop-preserved
 loop-preserved g c =
@@ -49,7 +49,7 @@ loop-preserved g c =
           (W.states pool) its c.start-thread.result c.work-result.new.thread e.1 c.end-back.result.1 name Short r e.0 own
           (told (reporter_of c.start-thread.result)) after s.thread c.work-result.ensures e.2 e.3 refl refl) in
           job_run is known (W.states pool) name its r (num_known (scopes_of c.start-thread.result)) (told c.args.reporter)
-          (told c.loop.reporter) after c.loop.left.unreported own c.and-left.result.unreported
+          (told c.loop.reporter) after c.loop.ended.unreported own c.followed_by-ended.result.unreported
           (λ code it. (next.1, named, it)) well
-          (λ stated. ap num_known (at_first stated)) c.loop.invariant.ran has c.and-left.ensures.unreported;
+          (λ stated. ap num_known (at_first stated)) c.loop.invariant.ran has c.followed_by-ended.ensures.unreported;
     }

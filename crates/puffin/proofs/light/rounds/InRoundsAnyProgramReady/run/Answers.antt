@@ -2,7 +2,7 @@
 use Rattle.std.proofs.Common.{ℕ, ◌+◌, ◌≤◌, string_bytes, ap, sym, subst, ◌∙◌, arith}
 use Rattle.std.specs.Prelude.{IsOk, is_ok}
 use Rattle.puffin.specs.Places.{num_known}
-use Rattle.puffin.specs.Rounds.{HasRunRounds}
+use Rattle.puffin.specs.Rounds.{HasRunRounds, HasRunRoundsAs}
 use Rattle.puffin.proofs.RunningRounds.{AfterRounds, first_turn, part_ran, has_run_rounds, if_well}
 use Rattle.puffin.proofs.light.rounds.InRoundsAnyProgramReady.run.Goals as goal
 use Rattle.puffin.proofs.light.rounds.InRoundsAnyProgramReady.run.Goals.{in-Ok+in-Ok-part, in-Ok+in-Err-part, in-Err, in-Ok-state}
@@ -43,7 +43,9 @@ returns g c none =
     λ turn within p. has_run_rounds told is name known g.C.NsSource.answers g.P.Reporter.accepts g.P.Reporter.refuses
     g.met.P.Meets.keeps turn c.args.self.now.rounds thread e.1 c.end-reporter.result.1 e.0 c.end-reporter.result.0.unreported
     within p e.2 e.3 in
-    if_well (W.states program) is c.args.self.now.rounds name known c.match-state-3.result
+    subst (λ r. HasRunRoundsAs (W.states program) is c.args.self.now.rounds name known r (told c.end-reporter.result.1)
+    c.end-reporter.result.0.unreported) (sym c.end-reporter.ensures.returned)
+    (if_well (W.states program) is c.args.self.now.rounds name known c.match-state-3.result
     (told c.end-reporter.result.1) c.end-reporter.result.0.unreported (λ well stated.
     let state : IsOk c.loop-round-test.state = elim c.match-state-3.branch [
       | in-Ok-state w ↦ ap is_ok w.in-Ok-state.is
@@ -67,4 +69,4 @@ returns g c none =
             | in-Ok+in-Err-part v ↦ absurd (let no = subst IsOk v.state-is its in cc)
             | in-Err v ↦ absurd (let no = subst IsOk v.state-is its in cc)
           ]))
-    ])
+    ]))
