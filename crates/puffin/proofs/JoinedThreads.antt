@@ -9,7 +9,7 @@ use Rattle.std.specs.declared.thread.PromisedHandle.{PromisedHandle}
 use Rattle.puffin.specs.declared.light.outcome.Failed.{Failed}
 use Rattle.puffin.specs.declared.light.outcome.ThreadCounts.{ThreadCounts}
 use Rattle.puffin.specs.declared.light.ready.ThreadEnd.{ThreadEnd}
-use Rattle.puffin.specs.declared.light.started.ThreadPromise.{ThreadPromise}
+use Rattle.puffin.specs.declared.light.shares.ThreadPromise.{ThreadPromise}
 use Rattle.puffin.specs.Happenings.{Happening}
 use Rattle.puffin.specs.Members.{Member, all_handed}
 use Rattle.puffin.specs.Taking.{TookAll}

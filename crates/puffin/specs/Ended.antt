@@ -9,7 +9,7 @@ use Rattle.puffin_threads.specs.Thread.Closing.{Reports}
 use Rattle.puffin_threads.specs.Details.{Details}
 use Rattle.puffin_scopes.specs.declared.guard_state.GuardState.{GuardState}
 use Rattle.puffin_scopes.specs.Guards.Ending.{innermost_of}
-use Rattle.puffin.specs.declared.light.place.Place.{Place}
+use Rattle.puffin.specs.declared.light.scopes.Place.{Place}
 use Rattle.puffin.specs.declared.light.thread.Thread.{Thread}
 use Rattle.puffin.specs.LightThread.{profiler_of, reporter_of}
 use Rattle.puffin.specs.Guards.{BeginsAt, EndsIn}

@@ -8,7 +8,7 @@ use Rattle.puffin.specs.declared.light.outcome.Failed.{Failed}
 use Rattle.puffin.specs.declared.light.outcome.Outcome.{Outcome}
 use Rattle.puffin.specs.declared.light.outcome.ThreadCounts.{ThreadCounts}
 use Rattle.puffin.specs.declared.light.ready.ThreadEnd.{ThreadEnd}
-use Rattle.puffin.specs.declared.light.started.ThreadPromise.{ThreadPromise}
+use Rattle.puffin.specs.declared.light.shares.ThreadPromise.{ThreadPromise}
 use Rattle.puffin.specs.Happenings.{Happening, History}
 use Rattle.puffin.specs.Leaving.{accounts_of}
 use Rattle.puffin.specs.Members.{Member, all_handed}

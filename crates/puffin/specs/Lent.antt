@@ -2,7 +2,7 @@
 use Rattle.std.specs.Prelude.{◌≡◌, ◌++◌, ◌∷◌, [], List}
 use Rattle.std.specs.Borrow.{GName}
 use Rattle.puffin_scopes.specs.declared.guard_state.GuardState.{GuardState}
-use Rattle.puffin.specs.declared.light.guard.Guard.{Guard}
+use Rattle.puffin.specs.declared.light.scopes.Guard.{Guard}
 use Rattle.puffin.specs.declared.light.thread.Thread.{Thread}
 use Rattle.puffin.specs.Happenings.{Happening, Mark, marked}
 use Rattle.puffin.specs.LightThread.{reporter_of}

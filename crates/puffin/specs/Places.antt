@@ -6,7 +6,7 @@ use Rattle.puffin_threads.specs.Details.{Details, default_details, with_id, shar
 use Rattle.puffin_threads.specs.Details.Collection.{first_with_id}
 use Rattle.puffin_scopes.specs.Names.Files.{short_file}
 use Rattle.puffin_scopes.specs.Names.Functions.{clean}
-use Rattle.puffin.specs.declared.light.place.Place.{Place}
+use Rattle.puffin.specs.declared.light.scopes.Place.{Place}
 use Rattle.puffin.specs.declared.light.scopes.Scopes.{Scopes}
 use Rattle.puffin.specs.declared.light.scopes.ThreadScopes.{ThreadScopes}
 

@@ -9,7 +9,7 @@ use Rattle.puffin_data.specs.Honesty.{StreamFacts}
 use Rattle.puffin_threads.specs.Thread.ThreadKey.{ThreadKey}
 use Rattle.puffin_threads.specs.Details.{Details}
 use Rattle.puffin_scopes.specs.declared.guard_state.GuardState.{GuardState}
-use Rattle.puffin.specs.declared.light.place.Place.{Place}
+use Rattle.puffin.specs.declared.light.scopes.Place.{Place}
 use Rattle.puffin.specs.Code.{Code, Runs, AreScopesOf}
 use Rattle.puffin.specs.Happenings.{Happening, reported, unmarked}
 use Rattle.puffin.specs.Recounted.{SpellInTurn}

@@ -18,35 +18,24 @@
 //! | profile a server or a pool, each of whose jobs has a name of its own | [`Pool`], [`run_pool`] |
 //! | name the leader of several threads, limit what their scopes may take, or set what their view keeps | [`Settings`] |
 
-mod counted;
 pub mod files;
-mod gate;
-pub mod guard;
-mod joined;
 pub mod laws;
-mod leader;
-mod macros;
-mod meeting;
 pub mod outcome;
-pub mod place;
 pub mod pool;
 pub mod program;
 mod ready;
 pub mod rotation;
 pub mod rounds;
 pub mod scopes;
-pub mod settings;
+mod shares;
 mod started;
 pub mod thread;
 
 pub use files::{SaveCause, SaveError, save};
-pub use guard::{Guard, GuardState, Records};
-pub use outcome::{Failed, Outcome, ThreadCounts};
-pub use place::Place;
+pub use outcome::{Failed, Outcome, Settings, ThreadCounts};
 pub use pool::{Pool, run_pool};
 pub use program::{Frames, Program, run_threads};
 pub use rotation::{Rotation, RotationLimits};
 pub use rounds::{Rounds, run_rounds};
-pub use scopes::{Scopes, ThreadScopes};
-pub use settings::Settings;
+pub use scopes::{Guard, GuardState, Place, Records, Scopes, ThreadScopes};
 pub use thread::Thread;

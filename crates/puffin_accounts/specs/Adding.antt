@@ -10,7 +10,7 @@ use Rattle.puffin_threads.specs.Thread.ThreadKey.{ThreadKey, has_same_key}
 use Rattle.puffin_threads.specs.Details.{Details}
 use Rattle.puffin_collector.specs.Collector.State.{no_scopes}
 use Rattle.puffin_scopes.specs.declared.guard_state.GuardState.{GuardState}
-use Rattle.puffin.specs.declared.light.place.Place.{Place}
+use Rattle.puffin.specs.declared.light.scopes.Place.{Place}
 use Rattle.puffin_accounts.specs.Moments.{Moment, num_open, key_at}
 use Rattle.puffin_accounts.specs.Times.{Timed}
 

@@ -1,7 +1,7 @@
 -- Code that runs after other code.
 use Rattle.std.proofs.Common.{◌≡◌, ℕ, zero, suc, List, ap, subst, ◌∙◌}
 use Rattle.puffin_scopes.specs.declared.guard_state.GuardState.{GuardState}
-use Rattle.puffin.specs.declared.light.place.Place.{Place}
+use Rattle.puffin.specs.declared.light.scopes.Place.{Place}
 use Rattle.puffin.specs.Code.{Code, nothing, scope, Runs, followed_by, in_turn, AreTurns}
 
 -- one piece of code ran after another

@@ -5,13 +5,11 @@ ghost use Rattle.puffin.specs.Places.{details_in};
 ghost use Rattle.puffin.specs.Shown.{PoolShows};
 ghost use Rattle.puffin.specs.Telling.{Named};
 
-use crate::light::guard::Records;
-use crate::light::meeting::{Gathers, Meets};
-use crate::light::outcome::Outcome;
+use crate::light::outcome::{Outcome, Settings};
 use crate::light::program::{Frames, run_named};
 use crate::light::ready::{AnyProgram, Ready, ThreadEnd, end};
-use crate::light::scopes::Scopes;
-use crate::light::settings::Settings;
+use crate::light::rounds::{Gathers, Meets};
+use crate::light::scopes::{Records, Scopes};
 use crate::thread_profiler::SystemClock;
 use std::io;
 use std::rt::Clock;

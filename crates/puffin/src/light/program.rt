@@ -8,12 +8,10 @@ ghost use Rattle.puffin.specs.Clocks.{StartsAt, AgreeWith};
 ghost use Rattle.puffin_threads.specs.Thread.Clock.{clock_start, clock_begun};
 
 use crate::global_profiler::Emitted;
-use crate::light::guard::Records;
-use crate::light::meeting::{Gathers, Meets};
-use crate::light::outcome::Outcome;
+use crate::light::outcome::{Outcome, Settings};
 use crate::light::ready::{AnyProgram, Ready, ReadyThreads, ThreadEnd, end};
-use crate::light::scopes::Scopes;
-use crate::light::settings::Settings;
+use crate::light::rounds::{Gathers, Meets};
+use crate::light::scopes::{Records, Scopes};
 use crate::light::started::{Blanks, run};
 use crate::thread_profiler::{NsSource, SystemClock};
 use history::NewLog;

@@ -13,53 +13,19 @@ ghost use Rattle.puffin.specs.Joined.{AreStarted, AreTold, HasTold};
 use crate::global_profiler::{
     Event, GlobalFrameView, GlobalProfiler, Share, SharedProfiler, SharedReporter,
 };
-use crate::light::counted::{CountedShare, Counting};
-use crate::light::gate::Gate;
-use crate::light::joined::{Joined, join_all};
-use crate::light::leader::{LeaderShares, lead};
-use crate::light::outcome::Outcome;
-use crate::light::ready::{AnyProgram, ReadyThreads, ThreadEnd};
+use crate::light::outcome::{Outcome, Settings};
+use crate::light::ready::{AnyProgram, Gate, ReadyThreads};
 use crate::light::scopes::Scopes;
-use crate::light::settings::Settings;
+use crate::light::shares::{
+    Counting, Joined, LeaderShares, Started, ThreadPromise, ThreadReturn, join_all, lead,
+};
 use history::{History, NewLog};
 use std::rt::Clock;
 use std::snapshot::Snapshot;
 use std::sync::Wait;
 use std::sync::ledger::{Blank, Ledger};
-use std::thread::{Promise, PromisedHandle, Scope, Threads};
+use std::thread::{Scope, Threads};
 use std::{io, thread};
-
-/// What a thread returned: its share and what became of its scopes, and what its work returned.
-#[derive(Drop)]
-pub(crate) struct ThreadReturn<L: Ledger + History, M: Ledger> {
-    pub(crate) counted: CountedShare<L, M>,
-    pub(crate) ended: ThreadEnd,
-}
-
-/// What a thread that was started returns, if it has begun: what it tells is all that happened through its share.
-#[derive(Drop)]
-pub(crate) struct ThreadPromise<T, W> {
-    thread: Snapshot<T>,
-    number: usize,
-    program: Snapshot<W>,
-}
-
-impl<L: Ledger + History, M: Ledger, T, W: AnyProgram<T>> Promise<io::Result<ThreadReturn<L, M>>>
-    for ThreadPromise<T, W> {
-    ghost use Rattle.std.specs.Prelude.{◌≡◌, [], IfOk};
-
-    ghost kept_by = { λ works worked.
-        IfOk worked (λ back.
-        W.tells works.thread.value works.program.value works.number back.ended []
-        back.counted.share.own
-        × (back.counted.counts.unreported ≡ back.ended.unreported)) };
-}
-
-/// A thread that was started.
-pub(crate) type Started<L, M, T, W> = PromisedHandle<
-    io::Result<ThreadReturn<L, M>>,
-    ThreadPromise<T, W>,
->;
 
 /// Waits at the gate, does a thread's work, and returns its share. Fails if the thread can't begin.
 fn work<L: Ledger + History, M: Ledger, R: Wait + Copy, T: Drop, W: AnyProgram<T>>(

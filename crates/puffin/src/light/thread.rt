@@ -13,10 +13,8 @@ ghost use Rattle.puffin.specs.Profiler.Calls.{HandsOutFrame};
 
 use crate::Switch;
 use crate::global_profiler::{Emitted, FrameSink, GlobalProfiler};
-use crate::light::guard::{GuardState, Records};
-use crate::light::meeting::{Meeting, Meets};
-use crate::light::place::Place;
-use crate::light::scopes::{Scopes, ThreadScopes};
+use crate::light::rounds::{Meeting, Meets};
+use crate::light::scopes::{GuardState, Place, Records, Scopes, ThreadScopes};
 use crate::thread_profiler::{NsSource, Reporter, SystemClock, ThreadProfiler};
 use puffin_data::{Error, Result};
 use std::io;

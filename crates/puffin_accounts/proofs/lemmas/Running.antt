@@ -17,7 +17,7 @@ use Rattle.puffin_scopes.specs.declared.guard_state.GuardState.{GuardState}
 use Rattle.puffin_scopes.specs.declared.guard_state.GuardState.TheVariants.{On, Off, Refused}
 use Rattle.puffin.specs.declared.global_profiler.profiler.GlobalProfiler.{GlobalProfiler}
 use Rattle.puffin.specs.declared.light.thread.Thread.{Thread}
-use Rattle.puffin.specs.declared.light.place.Place.{Place}
+use Rattle.puffin.specs.declared.light.scopes.Place.{Place}
 use Rattle.puffin.specs.Profiler.{collected_of}
 use Rattle.puffin.specs.LightThread.{profiler_of, scopes_of}
 use Rattle.puffin.specs.Places.{num_known}

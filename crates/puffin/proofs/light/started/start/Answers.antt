@@ -11,7 +11,7 @@ use Rattle.std.proofs.Crossing.{crosses}
 use Rattle.puffin.specs.contracts.global_profiler.shared_profiler.SharedProfiler as Shared
 use Rattle.puffin.specs.contracts.global_profiler.share.Share as Share
 use Rattle.puffin.proofs.lemmas.Sending.{shared_row_send, share_send, captures_send}
-use Rattle.puffin.specs.contracts.light.gate.Gate as Gate
+use Rattle.puffin.specs.contracts.light.ready.Gate as Gate
 use Rattle.puffin.specs.contracts.light.started.start.dyn-1 as dyn
 use Rattle.puffin.proofs.light.started.start.Goals as goal
 
