@@ -13,7 +13,7 @@ use Rattle.puffin.specs.declared.light.shares.ThreadPromise.{ThreadPromise}
 use Rattle.puffin.specs.Happenings.{Happening}
 use Rattle.puffin.specs.Members.{Member, all_handed}
 use Rattle.puffin.specs.Taking.{TookAll}
-use Rattle.puffin.specs.Joined.{TellsAt, EachJoined, AreJoined, EachTells, StartedAt, AreStarted, AreTold}
+use Rattle.puffin.specs.Joined.{counts_after, TellsAt, EachJoined, AreJoined, EachTells, StartedAt, AreStarted, AreTold}
 
 -- if none failed with one more, neither it failed nor those before it
 pub none_failed : (before own after : Option Failed) → after ≡ option_or before own → after ≡ None
@@ -60,11 +60,10 @@ module _ {T W : Type 0} (tells : T → W → ℕ → ThreadEnd → List Happenin
       → TellsAt tells thread program number after (counts ++ count ∷ []) (shares ++ share ∷ []) k
   tells_still thread program number before after counts shares k count share failed t = record {
     ended = t.ended;
-    count = t.count;
+    reported = t.reported;
     share = t.share;
-    count_is = still_there counts count k t.count t.count_is;
+    count_is = still_there counts count k (counts_after t.reported t.ended) t.count_is;
     share_is = still_there shares share k t.share t.share_is;
-    unreported = t.unreported;
     went_well = λ none. t.went_well (failed none);
     told = t.told;
   }
@@ -73,14 +72,14 @@ module _ {A T W : Type 0} (tells : T → W → ℕ → ThreadEnd → List Happen
   -- one thread more is joined
   pub joined_more : (handles : List (PromisedHandle A (ThreadPromise T W))) (handle : PromisedHandle A (ThreadPromise T W))
       (taker leader : Member) (before after : Option Failed) (counts : List ThreadCounts) (shares : List Member)
-      (count : ThreadCounts) (share : Member) (ended : ThreadEnd)
+      (reported : ℕ) (ended : ThreadEnd) (share : Member)
       → AreJoined tells handles taker leader before counts shares
       → length counts ≡ length handles
-      → (after ≡ None → before ≡ None) → (after ≡ None → IsOk ended.result) → count.unreported ≡ ended.unreported
+      → (after ≡ None → before ≡ None) → (after ≡ None → IsOk ended.result)
       → tells handle.promise.thread.value handle.promise.program.value handle.promise.number ended [] share.own
-      → AreJoined tells (handles ++ handle ∷ []) taker leader after (counts ++ count ∷ []) (shares ++ share ∷ [])
-  joined_more handles handle taker leader before after counts shares count share ended was counted failed well unreported told =
-      record {
+      → AreJoined tells (handles ++ handle ∷ []) taker leader after (counts ++ counts_after reported ended ∷ []) (shares ++ share ∷ [])
+  joined_more handles handle taker leader before after counts shares reported ended share was counted failed well told =
+      let count = counts_after reported ended in record {
         rest = was.rest ++ share ∷ [];
         shares_are = ap (λ (xs : List Member). xs ++ share ∷ []) was.shares_are;
         as_many = length-append was.rest (share ∷ []) ∙ ap (λ (n : ℕ). n + 1) was.as_many
@@ -91,12 +90,11 @@ module _ {A T W : Type 0} (tells : T → W → ℕ → ThreadEnd → List Happen
             k count share failed (was.each k h e))
             (record {
               ended = ended;
-              count = count;
+              reported = reported;
               share = share;
               count_is = subst (λ (n : ℕ). slice_get (counts ++ count ∷ []) n ≡ Some count) counted (last_there counts count);
               share_is = subst (λ (n : ℕ). slice_get (was.rest ++ share ∷ []) n ≡ Some share) was.as_many
                   (last_there was.rest share);
-              unreported = unreported;
               went_well = well;
               told = told;
             });
@@ -111,11 +109,10 @@ module _ {A T W : Type 0} (tells : T → W → ℕ → ThreadEnd → List Happen
       let j = joined k s.handle s.handle_is in
       record {
         ended = j.ended;
-        count = j.count;
+        reported = j.reported;
         share = j.share;
         count_is = j.count_is;
         share_is = j.share_is;
-        unreported = j.unreported;
         went_well = j.went_well;
         told =
             let promise = s.handle.promise in

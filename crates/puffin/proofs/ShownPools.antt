@@ -10,7 +10,7 @@ use Rattle.puffin.specs.declared.light.ready.ThreadEnd.{ThreadEnd}
 use Rattle.puffin.specs.declared.light.ready.Ready.{Ready}
 use Rattle.puffin.specs.Code.{Code}
 use Rattle.puffin.specs.Happenings.{Happening, frames_in}
-use Rattle.puffin.specs.Joined.{AreTold, HasTold}
+use Rattle.puffin.specs.Joined.{counts_after, AreTold, HasTold}
 use Rattle.puffin.specs.Leaving.{accounts_of}
 use Rattle.puffin.specs.Members.{Member}
 use Rattle.puffin.specs.Places.{num_known}
@@ -115,11 +115,11 @@ module _ (C : Type 0) {W : Type 0} (states : W → Bool) (does : W → List ℕ 
             ran.0,
             record {
               share = it.share;
-              count = it.count;
+              count = counts_after it.reported it.ended;
               share_is = it.share_is;
               count_is = it.count_is;
               ran = subst (λ (n : ℕ). HaveRun (does pool) n ran.0 [] it.share.own) (told.named k thread.0 thread.1).1 ran.1;
-              unreported = it.unreported ∙ ran.2;
+              unreported = ran.2;
             },
           )
 

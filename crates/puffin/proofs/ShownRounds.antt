@@ -9,7 +9,7 @@ use Rattle.puffin.specs.declared.light.ready.ThreadEnd.{ThreadEnd}
 use Rattle.puffin.specs.declared.light.ready.Ready.{Ready}
 use Rattle.puffin.specs.Code.{Code, AreRounds}
 use Rattle.puffin.specs.Happenings.{Happening, frames_in, num_released}
-use Rattle.puffin.specs.Joined.{AreTold, HasTold}
+use Rattle.puffin.specs.Joined.{counts_after, AreTold, HasTold}
 use Rattle.puffin.specs.Leaving.{accounts_of}
 use Rattle.puffin.specs.Members.{Member}
 use Rattle.puffin.specs.Places.{num_known}
@@ -84,14 +84,12 @@ module _ (C : Type 0) {W : Type 0} (states : W → Bool) (runs : W → ℕ → �
         let l = subst (λ (b : Bool). HasLedRoundsAs b (runs program k) (rounds program) (string_bytes thread.0.name)
         (num_known thread.0.scopes) it.share.own it.ended.unreported) stated so in (
           it.share,
-          it.count,
+          counts_after it.reported it.ended,
           it.share_is,
           it.count_is,
-          subst (λ (w : ℕ). HasRunRounds (runs program k) (rounds program) name known it.share.own w) (sym it.unreported)
-              (subst (λ (m : ℕ). HasRunRounds (runs program k) (rounds program) name m it.share.own it.ended.unreported)
-              named.1
+          subst (λ (m : ℕ). HasRunRounds (runs program k) (rounds program) name m it.share.own it.ended.unreported) named.1
               (subst (λ (x : List ℕ). HasRunRounds (runs program k) (rounds program) x
-              (num_known thread.0.scopes) it.share.own it.ended.unreported) its_name l)),
+              (num_known thread.0.scopes) it.share.own it.ended.unreported) its_name l),
         )
 
     all_ran : RanEach known (leader_first (AreRounds (rounds program) (leads program))

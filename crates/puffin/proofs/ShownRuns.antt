@@ -16,7 +16,7 @@ use Rattle.puffin.specs.Members.{Member}
 use Rattle.puffin.specs.Places.{num_known}
 use Rattle.puffin.specs.Recounted.{Recounts}
 use Rattle.puffin.specs.Telling.{HasRun, HasRunAs, HasLedAs}
-use Rattle.puffin.specs.Joined.{EachTells, HasTold}
+use Rattle.puffin.specs.Joined.{counts_after, EachTells, HasTold}
 use Rattle.puffin_frames.specs.Frame.Contents.{Streams}
 use Rattle.puffin.specs.Shown.{AreNamed, NamedTold, RanEach, ShowsProgram, Shows, leader_first}
 use Rattle.puffin.proofs.ShownCode.{frames_show, at_most_one}
@@ -62,15 +62,14 @@ module _ (C : Type 0) {W : Type 0} (states : W → Bool) (runs : W → ℕ → C
       (num_known t.0.scopes) told.ended.result [] told.share.own told.ended.unreported) stated told.told) in
       record {
         share = told.share;
-        count = told.count;
+        count = counts_after told.reported told.ended;
         code = ran.0;
         share_is = told.share_is;
         count_is = told.count_is;
         right = ran.1;
-        ran = subst (λ (n : ℕ). HasRun name Short known ran.0 [] told.share.own n) (sym told.unreported)
-            (subst (λ (n : ℕ). HasRun name Short n ran.0 [] told.share.own told.ended.unreported) its.1
+        ran = subst (λ (n : ℕ). HasRun name Short n ran.0 [] told.share.own told.ended.unreported) its.1
             (subst (λ (x : List ℕ). HasRun x Short (num_known t.0.scopes) ran.0 [] told.share.own told.ended.unreported)
-            its_name ran.2));
+            its_name ran.2);
       }
 
   -- the leader and the threads

@@ -15,17 +15,25 @@ use Rattle.puffin.specs.Members.{Member, all_handed}
 use Rattle.puffin.specs.Recounted.{Recounts}
 use Rattle.puffin.specs.Taking.{TookAll}
 
+-- what became of the scopes of a thread that ended so, if this many were reported
+abbrev pub counts_after : ℕ → ThreadEnd → ThreadCounts
+counts_after reported ended = record {
+  reported = reported;
+  unreported = ended.unreported;
+  refused = ended.refused;
+  left_open = ended.left_open;
+}
+
 -- The thread with this number told what `tells` relates, through the share at this place among `shares`; the counts at this place
 -- are its own. If no thread failed, its work didn't.
 pub record TellsAt {T W : Type 0} (tells : T → W → ℕ → ThreadEnd → List Happening → List Happening → Type 0)
     (thread : T) (program : W) (number : ℕ) (failed : Option Failed) (counts : List ThreadCounts)
     (shares : List Member) (place : ℕ) : Type 0 where
   pub ended : ThreadEnd
-  pub count : ThreadCounts
+  pub reported : ℕ
   pub share : Member
-  pub count_is : slice_get counts place ≡ Some count
+  pub count_is : slice_get counts place ≡ Some (counts_after reported ended)
   pub share_is : slice_get shares place ≡ Some share
-  pub unreported : count.unreported ≡ ended.unreported
   pub went_well : failed ≡ None → IsOk ended.result
   pub told : tells thread program number ended [] share.own
 

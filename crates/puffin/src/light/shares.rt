@@ -2,7 +2,7 @@
 //! threads return at its end.
 
 ghost use Rattle.std.specs.Prelude.{◌≡◌, ◌+◌, ◌<◌, ◌≤◌, ◌^◌, [], Some, None, OnOk, IfOk, IfErr, vec_len, sum_by};
-ghost use Rattle.puffin.specs.Joined.{AreJoined};
+ghost use Rattle.puffin.specs.Joined.{AreJoined, counts_after};
 ghost use Rattle.puffin.specs.Members.{IsNewMember, all_reported, all_handed};
 ghost use Rattle.puffin.specs.Taking.{CountsTaken, TookAll};
 
@@ -24,13 +24,14 @@ use std::sync::ledger::Ledger;
 use std::thread::{Promise, PromisedHandle, Threads};
 use std::time::Duration;
 
-/// A share that its thread has returned, with what became of the thread's scopes.
+/// What a thread returned: its share, the number of scopes that it reported, and how it ended.
 #[derive(Drop)]
-pub(crate) struct CountedShare<L: Ledger + History, M: Ledger> {
+pub(crate) struct ThreadReturn<L: Ledger + History, M: Ledger> {
     pub(crate) share: Share<L, M>,
-    pub(crate) counts: ThreadCounts,
+    pub(crate) reported: u64,
+    pub(crate) ended: ThreadEnd,
     ghost counted: { share.counts.reported < 2 ^ 64
-        → counts.reported ≡ share.counts.reported },
+        → reported ≡ share.counts.reported },
     ghost none_handed: { share.counts.handed ≡ 0 },
 }
 
@@ -60,22 +61,16 @@ impl<L: Ledger + History, M: Ledger, R: Wait> Counting<L, M, R> {
 }
 
 impl<L: Ledger + History, M: Ledger, R: Wait + Drop> Counting<L, M, R> {
-    /// Returns the share, with the number of scopes that were reported and those of the others of a thread that ended so.
-    pub(crate) fn into_share(self, ended: ThreadEnd) -> CountedShare<L, M>
+    /// Returns what the thread returns, which ended so.
+    pub(crate) fn into_return(self, ended: ThreadEnd) -> ThreadReturn<L, M>
         ensures share { result.share ≡ self.reporter.share }
-        ensures counts { (result.counts.unreported ≡ ended.unreported)
-            × (result.counts.refused ≡ ended.refused)
-            × (result.counts.left_open ≡ ended.left_open) }
+        ensures ended { result.ended ≡ ended }
     {
         let Counting { reporter, reported } = self;
-        CountedShare {
+        ThreadReturn {
             share: reporter.into_share(),
-            counts: ThreadCounts {
-                reported,
-                unreported: ended.unreported,
-                refused: ended.refused,
-                left_open: ended.left_open,
-            },
+            reported,
+            ended,
         }
     }
 }
@@ -146,15 +141,15 @@ pub(crate) struct LeaderShares<L: Ledger + History, M: Ledger> {
     ghost reporting_new: { IsNewMember reporting },
 }
 
-/// Runs a program's leader on this thread, with its shares. Returns what it took frames with, and its thread's share.
+/// Runs a program's leader on this thread, with its shares. Returns what it took frames with, and what its thread returns.
 pub(crate) fn lead<'p, L: Ledger + History, M: Ledger, R: Wait + Clock + Copy, T, W: AnyProgram<T>>(
     rt: R,
     shares: LeaderShares<L, M>,
     leader: T,
     program: &W,
     gate: &'p Gate,
-) -> (FrameTaker<'p, L, M, R>, CountedShare<L, M>)
-    ensures tells { W.leads leader program.now result.1.counts.unreported [] result.1.share.own }
+) -> (FrameTaker<'p, L, M, R>, ThreadReturn<L, M>)
+    ensures tells { W.leads leader program.now result.1.ended.unreported [] result.1.share.own }
     ensures takes { W.takes leader program.now result.0.share.own }
 {
     let LeaderShares {
@@ -173,7 +168,7 @@ pub(crate) fn lead<'p, L: Ledger + History, M: Ledger, R: Wait + Clock + Copy, T
     };
     let reporter = Counting::new(SharedReporter::new(rt, reports, reporting));
     let (ended, reporter) = program.lead(&rt, leader, reporter, &mut taker);
-    (taker, reporter.into_share(ended))
+    (taker, reporter.into_return(ended))
 }
 
 /// Takes frames of a shared profiler, whose only sink is a view, while the threads of a program work, and counts them.
@@ -281,13 +276,6 @@ impl<L: Ledger + History, M: Ledger, R: Wait + Clock> Gathers for FrameTaker<'_,
     ghost taken_is = { λ frames. refl };
 }
 
-/// What a thread returned: its share and what became of its scopes, and what its work returned.
-#[derive(Drop)]
-pub(crate) struct ThreadReturn<L: Ledger + History, M: Ledger> {
-    pub(crate) counted: CountedShare<L, M>,
-    pub(crate) ended: ThreadEnd,
-}
-
 /// What a thread that was started returns, if it has begun: what it tells is all that happened through its share.
 #[derive(Drop)]
 pub(crate) struct ThreadPromise<T, W> {
@@ -303,8 +291,7 @@ impl<L: Ledger + History, M: Ledger, T, W: AnyProgram<T>> Promise<io::Result<Thr
     ghost kept_by = { λ works worked.
         IfOk worked (λ back.
         W.tells works.thread.value works.program.value works.number back.ended []
-        back.counted.share.own
-        × (back.counted.counts.unreported ≡ back.ended.unreported)) };
+        back.share.own) };
 }
 
 /// A thread that was started.
@@ -353,17 +340,17 @@ pub(crate) fn join_all<
     rt: &R,
     started: Vec<Started<L, M, T, W>>,
     taker: FrameTaker<'_, L, M, R>,
-    counted: CountedShare<L, M>,
+    led: ThreadReturn<L, M>,
     mut shares: Vec<Share<L, M>>,
     mut counts: Vec<ThreadCounts>,
 ) -> io::Result<Joined<L, M>>
     requires none { (shares.items ≡ []) × (counts.items ≡ []) }
     ensures threads { IfOk result (λ joined. vec_len joined.counts ≡ vec_len started) }
-    ensures leader { IfOk result (λ joined. joined.leader ≡ counted.counts) }
+    ensures leader { IfOk result (λ joined. joined.leader ≡ counts_after led.reported led.ended) }
     ensures frames { IfOk result (λ joined.
         (joined.frames ≡ taker.entry.frames) × (joined.missed ≡ taker.entry.missed)) }
     ensures each { IfOk result (λ joined.
-        AreJoined W.tells started.items taker.entry.share counted.share joined.failed
+        AreJoined W.tells started.items taker.entry.share led.share joined.failed
         joined.counts.items joined.shares.items) }
     ensures handed { IfOk result (λ joined.
         all_handed joined.shares.items ≡ taker.entry.share.counts.handed) }
@@ -378,17 +365,17 @@ pub(crate) fn join_all<
     } = taker;
     let mut failed = None;
     shares.push(share)?;
-    shares.push(counted.share)?;
+    shares.push(led.share)?;
     for thread in started {
         let back = thread.join(rt)?;
         failed = failed.or(failure(counts.len(), back.ended.result));
-        shares.push(back.counted.share)?;
-        counts.push(back.counted.counts)?;
+        shares.push(back.share)?;
+        counts.push(back.ended.counts(back.reported))?;
     }
     Ok(Joined {
         shares,
         counts,
-        leader: counted.counts,
+        leader: led.ended.counts(led.reported),
         failed,
         frames,
         missed,

@@ -38,20 +38,15 @@ fn work<L: Ledger + History, M: Ledger, R: Wait + Copy, T: Drop, W: AnyProgram<T
     gate: &Gate,
 ) -> io::Result<ThreadReturn<L, M>>
     requires { IsNewMember share }
-    ensures tells { IfOk result (λ back.
-        W.tells thread program.now number back.ended [] back.counted.share.own) }
-    ensures unreported { IfOk result (λ back.
-        back.counted.counts.unreported ≡ back.ended.unreported) }
+    ensures { IfOk result (λ back.
+        W.tells thread program.now number back.ended [] back.share.own) }
 {
     if !gate.may_begin(&rt) {
         return Err(io::Error::from(io::ErrorKind::Interrupted));
     }
     let reporter = Counting::new(SharedReporter::new(rt, profiler, share));
     let (ended, reporter) = program.run(&rt, number, thread, reporter);
-    Ok(ThreadReturn {
-        counted: reporter.into_share(ended),
-        ended,
-    })
+    Ok(reporter.into_return(ended))
 }
 
 /// Starts a thread that calls [`work`], and then tells the gate that it has ended.
@@ -87,10 +82,8 @@ fn start<
         works,
         move || -> io::Result<ThreadReturn<L, M>>
             requires { IsNewMember share }
-            ensures tells { IfOk result (λ back.
-                W.tells thread program.entry.now number back.ended [] back.counted.share.own) }
-            ensures unreported { IfOk result (λ back.
-                back.counted.counts.unreported ≡ back.ended.unreported) }
+            ensures { IfOk result (λ back.
+                W.tells thread program.entry.now number back.ended [] back.share.own) }
         {
             let back = work(rt, number, profiler, share, thread, program, gate);
             gate.leave(&rt);
@@ -175,8 +168,8 @@ fn run_all<
     let started = start_all(rt, scope, profiler, shares, threads, program, gate);
     gate.open(&rt, started.is_ok());
     let started = started?;
-    let (taker, counted) = lead(rt, leader_shares, leader, program, gate);
-    join_all(&rt, started, taker, counted, back, counts)
+    let (taker, led) = lead(rt, leader_shares, leader, program, gate);
+    join_all(&rt, started, taker, led, back, counts)
 }
 
 /// Calls [`run_all`] in a thread scope, with a closed gate.

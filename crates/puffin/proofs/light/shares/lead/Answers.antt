@@ -1,5 +1,6 @@
 -- What the leader's thread told is all that happened through its share.
 use Rattle.std.proofs.Common.{◌≡◌, ℕ, List, [], ap, sym, subst, ◌∙◌}
+use Rattle.puffin.specs.declared.light.ready.ThreadEnd.{ThreadEnd}
 use Rattle.puffin.specs.Happenings.{Happening}
 use Rattle.puffin.specs.Members.{Member}
 use Rattle.puffin.proofs.TellingShares.{nothing_told}
@@ -10,9 +11,9 @@ returns-clause-tells g c =
     let tells = g.W.AnyProgram.leads c.args.leader c.args.program.now in
     let first : c.new-reporter.result.reporter.share.own ≡ [] = ap (λ r. r.share.own) c.new-reporter.ensures
     ∙ ap (λ (m : Member). m.own) c.new.ensures ∙ nothing_told c.args.shares.reporting c.args.shares.reporting_new in
-    subst (λ (n : ℕ). tells n [] c.into_share.result.share.own) (sym c.into_share.ensures.counts.0)
+    subst (λ (ended : ThreadEnd). tells ended.unreported [] c.into_return.result.share.own) (sym c.into_return.ensures.ended)
     (subst (λ (own : List Happening). tells c.lead-reporter.result.0.unreported [] own)
-    (sym (ap (λ (m : Member). m.own) c.into_share.ensures.share))
+    (sym (ap (λ (m : Member). m.own) c.into_return.ensures.share))
     (subst (λ (before : List Happening). tells c.lead-reporter.result.0.unreported
     before c.lead-reporter.result.1.reporter.share.own) first
     c.lead-reporter.ensures.tells))
