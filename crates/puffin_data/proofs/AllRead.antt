@@ -11,105 +11,90 @@ use Rattle.puffin_data.specs.Reader.ReadScopes.{scope_seen, IsNextRead, ReadsSco
 abbrev items : List Scope → List (Result ReadScope Error)
 items scopes = map (λ scope. Ok scope) (map scope_seen scopes)
 
--- after these scopes a reader stands at a place, and gives what is given from there
+-- After these scopes the reader, which began as `from`, stands as `now`: what is given from there on is what it gives after them.
 pub record HasRead (from now : ReaderState) (scopes : List Scope) : Type 0 where
   pub same_form : now.form ≡ from.form
   pub same_bytes : now.bytes ≡ from.bytes
   pub reads : (later : List (Result ReadScope Error)) → ReaderGives from.form from.bytes now.at later
       → ReaderGives from.form from.bytes from.at (items scopes ++ later)
 
--- ---- what was read, from what the reader returned
+-- ---- what was read, from the item that the reader returned and from its place afterwards
 
-after_some : (from : ReaderState) (read : Result (Option ReadScope) Error) (scope : ReadScope) (at : ℕ)
-    → (Some (Ok scope), at) ≡ next_after from read → (read ≡ Ok (Some scope)) × (at ≡ scope.next_sibling)
-after_some from (Ok None) scope at is = absurd (some_none _ (ap (λ both. both.0) is))
-  where
-    some_none : (any : Result ReadScope Error) → Some any ≡ None → ⊥
-    some_none any is = cc
-after_some from (Ok (Some found)) scope at is =
-    let same : scope ≡ found = same_scope scope found (ap (λ both. both.0) is) in
-    (ap (λ (any : ReadScope). Ok (Some any)) (sym same), ap (λ both. both.1) is ∙ ap (λ (any : ReadScope). any.next_sibling) (sym same))
-  where
-    same_scope : (one other : ReadScope) → ◌≡◌ {A = Option (Result ReadScope Error)} (Some (Ok one)) (Some (Ok other)) → one ≡ other
-    same_scope one other is = cc
-after_some from (Err fault) scope at is = absurd (ok_err scope fault (ap (λ both. both.0) is))
-  where
-    ok_err : (one : ReadScope) (other : Error) → ◌≡◌ {A = Option (Result ReadScope Error)} (Some (Ok one)) (Some (Err other)) → ⊥
-    ok_err one other is = cc
+-- where a scope was returned, that scope was read, and the reader stands at its next sibling
+scope_was_read : (from : ReaderState) (read : Result (Option ReadScope) Error) (scope : ReadScope) (at : ℕ)
+    → Some (Ok scope) ≡ (next_after from read).0 → at ≡ (next_after from read).1
+    → (read ≡ Ok (Some scope)) × (at ≡ scope.next_sibling)
+scope_was_read from (Ok None) scope at item place = absurd cc
+scope_was_read from (Ok (Some found)) scope at item place =
+    let same : found ≡ scope = cc in
+    (ap (λ (any : ReadScope). Ok (Some any)) same, place ∙ ap (λ (any : ReadScope). any.next_sibling) same)
+scope_was_read from (Err fault) scope at item place = absurd cc
 
-after_fault : (from : ReaderState) (read : Result (Option ReadScope) Error) (fault : Error) (at : ℕ)
-    → (Some (Err fault), at) ≡ next_after from read → read ≡ Err fault
-after_fault from (Ok None) fault at is = absurd (some_none _ (ap (λ both. both.0) is))
-  where
-    some_none : (any : Result ReadScope Error) → Some any ≡ None → ⊥
-    some_none any is = cc
-after_fault from (Ok (Some found)) fault at is = absurd (err_ok fault found (ap (λ both. both.0) is))
-  where
-    err_ok : (other : Error) (one : ReadScope) → ◌≡◌ {A = Option (Result ReadScope Error)} (Some (Err other)) (Some (Ok one)) → ⊥
-    err_ok other one is = cc
-after_fault from (Err other) fault at is = same_fault fault other (ap (λ both. both.0) is)
-  where
-    same_fault : (one other : Error) → ◌≡◌ {A = Option (Result ReadScope Error)} (Some (Err one)) (Some (Err other))
-        → ◌≡◌ {A = Result (Option ReadScope) Error} (Err other) (Err one)
-    same_fault one other is = cc
+-- where a fault was returned, that fault was read
+fault_was_read : (from : ReaderState) (read : Result (Option ReadScope) Error) (fault : Error)
+    → Some (Err fault) ≡ (next_after from read).0 → read ≡ Err fault
+fault_was_read from (Ok None) fault item = absurd cc
+fault_was_read from (Ok (Some found)) fault item = absurd cc
+fault_was_read from (Err other) fault item = cc
 
-after_none : (from : ReaderState) (read : Result (Option ReadScope) Error) (at : ℕ) → (None, at) ≡ next_after from read → read ≡ Ok None
-after_none from (Ok None) at is = refl
-after_none from (Ok (Some found)) at is = absurd (none_some _ (ap (λ both. both.0) is))
-  where
-    none_some : (any : Result ReadScope Error) → None ≡ Some any → ⊥
-    none_some any is = cc
-after_none from (Err other) at is = absurd (none_some _ (ap (λ both. both.0) is))
-  where
-    none_some : (any : Result ReadScope Error) → None ≡ Some any → ⊥
-    none_some any is = cc
+-- where nothing was returned, no scope was there to be read
+end_was_read : (from : ReaderState) (read : Result (Option ReadScope) Error) → None ≡ (next_after from read).0 → read ≡ Ok None
+end_was_read from (Ok None) item = refl
+end_was_read from (Ok (Some found)) item = absurd cc
+end_was_read from (Err other) item = absurd cc
 
 -- ---- what a loop has read
 
--- what is read at the reader's place, as read from the bytes where it began
-read_there : (from now : ReaderState) (read : Result (Option ReadScope) Error) → now.form ≡ from.form → now.bytes ≡ from.bytes
-    → scope_read now.form now.bytes now.at (length now.bytes) ≡ read
-    → scope_read from.form from.bytes now.at (length from.bytes) ≡ read
-read_there from now read same_form same_bytes is =
-    subst (λ (bytes : List ℕ). scope_read from.form bytes now.at (length bytes) ≡ read) same_bytes
-    (subst (λ (form : Form). scope_read form now.bytes now.at (length now.bytes) ≡ read) same_form is)
+-- what is at the reader's place
+abbrev found_at : ReaderState → Result (Option ReadScope) Error
+found_at now = scope_read now.form now.bytes now.at (length now.bytes)
 
--- one scope more was read
+-- The loop changes neither form nor bytes: what is at the reader's place now is there in the form and the bytes with which it began.
+read_from_start : (from now : ReaderState) (read : Result (Option ReadScope) Error) → now.form ≡ from.form → now.bytes ≡ from.bytes
+    → found_at now ≡ read
+    → scope_read from.form from.bytes now.at (length from.bytes) ≡ read
+read_from_start from now read same_form same_bytes found =
+    subst (λ (bytes : List ℕ). scope_read from.form bytes now.at (length bytes) ≡ read) same_bytes
+    (subst (λ (form : Form). scope_read form now.bytes now.at (length now.bytes) ≡ read) same_form found)
+
+-- the items of the scopes up to one more: those before it, and then it
+items_and_one : (scopes : List Scope) (scope : Scope) → items (scopes ++ scope ∷ []) ≡ items scopes ++ (Ok (scope_seen scope) ∷ [])
+items_and_one scopes scope =
+    ap (map (λ (any : ReadScope). Ok any)) (map-append scope_seen scopes (scope ∷ []))
+    ∙ map-append (λ (any : ReadScope). Ok any) (map scope_seen scopes) (scope_seen scope ∷ [])
+
+-- One scope more was read. What is given from its next sibling on is, after that scope, what was given from the scope's own place on.
 pub one_more : (from now to : ReaderState) (scopes all : List Scope) (scope : Scope) → HasRead from now scopes
     → IsNextRead now (Some (Ok scope)) to → all ≡ scopes ++ scope ∷ [] → HasRead from to all
 one_more from now to scopes all scope so_far step grown =
-    let read = scope_read now.form now.bytes now.at (length now.bytes) in
-    let told = after_some now read (scope_seen scope) to.at step.next in
-    let there = read_there from now (Ok (Some (scope_seen scope))) so_far.same_form so_far.same_bytes told.0 in
-    let split : items all ≡ items scopes ++ (Ok (scope_seen scope) ∷ []) =
-    ap items grown
-    ∙ ap (map (λ (any : ReadScope). Ok any)) (map-append scope_seen scopes (scope ∷ []))
-    ∙ map-append (λ (any : ReadScope). Ok any) (map scope_seen scopes) (scope_seen scope ∷ []) in
+    let (found, moved) =
+    scope_was_read now (found_at now) (scope_seen scope) to.at (ap (λ both. both.0) step.next) (ap (λ both. both.1) step.next) in
+    let here = read_from_start from now (Ok (Some (scope_seen scope))) so_far.same_form so_far.same_bytes found in
+    let split : items all ≡ items scopes ++ (Ok (scope_seen scope) ∷ []) = ap items grown ∙ items_and_one scopes scope in
     record {
       same_form = step.same_form ∙ so_far.same_form;
       same_bytes = step.same_bytes ∙ so_far.same_bytes;
-      reads = λ later any.
-          let whole =
-          so_far.reads (Ok (scope_seen scope) ∷ later)
-          (goes_on there (subst (λ (any : ℕ). ReaderGives from.form from.bytes any later) told.1 any)) in
-          subst (ReaderGives from.form from.bytes from.at)
-          (sym (ap (λ (any : List (Result ReadScope Error)). any ++ later) split
-          ∙ append_assoc (items scopes) (Ok (scope_seen scope) ∷ []) later)) whole;
+      reads = λ later gives.
+          let from_sibling = subst (λ (place : ℕ). ReaderGives from.form from.bytes place later) moved gives in
+          let from_scope = so_far.reads (Ok (scope_seen scope) ∷ later) (goes_on here from_sibling) in
+          let same_items : items all ++ later ≡ items scopes ++ (Ok (scope_seen scope) ∷ later) =
+          ap (λ (given : List (Result ReadScope Error)). given ++ later) split
+          ∙ append_assoc (items scopes) (Ok (scope_seen scope) ∷ []) later in
+          subst (ReaderGives from.form from.bytes from.at) (sym same_items) from_scope;
     }
 
--- the reader came to its end, or to a fault
+-- the reader came to its end: it gives what was read, and nothing else
 pub all_read : (from now to : ReaderState) (scopes : List Scope) → HasRead from now scopes → IsNextRead now None to
     → ReadsScopes from scopes
 all_read from now to scopes so_far step =
-    let there =
-    read_there from now (Ok None) so_far.same_form so_far.same_bytes
-    (after_none now (scope_read now.form now.bytes now.at (length now.bytes)) to.at step.next) in
-    subst (ReaderGives from.form from.bytes from.at) (append-nil (items scopes)) (so_far.reads [] (ends there))
+    let found = end_was_read now (found_at now) (ap (λ both. both.0) step.next) in
+    let here = read_from_start from now (Ok None) so_far.same_form so_far.same_bytes found in
+    subst (ReaderGives from.form from.bytes from.at) (append-nil (items scopes)) (so_far.reads [] (ends here))
 
+-- the reader came to a fault: it gives what was read, and then the fault
 pub fault_read : (from now to : ReaderState) (scopes : List Scope) (fault : Error) → HasRead from now scopes
     → IsNextRead now (Some (Err fault)) to → ReadsFault from fault
 fault_read from now to scopes fault so_far step =
-    let there =
-    read_there from now (Err fault) so_far.same_form so_far.same_bytes
-    (after_fault now (scope_read now.form now.bytes now.at (length now.bytes)) fault to.at step.next) in
-    (map scope_seen scopes, so_far.reads (Err fault ∷ []) (stops there))
+    let found = fault_was_read now (found_at now) fault (ap (λ both. both.0) step.next) in
+    let here = read_from_start from now (Err fault) so_far.same_form so_far.same_bytes found in
+    (map scope_seen scopes, so_far.reads (Err fault ∷ []) (stops here))

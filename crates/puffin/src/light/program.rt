@@ -226,14 +226,11 @@ fn prepare<R: AllocGlobal + Clock + Copy>(
         num_known thread.scopes ≡ length (details_in scopes.now)) }
 {
     let name = String::from_str(rt.alloc(), name)?;
-    let Ok(scopes) = scopes.for_thread() else {
-        return Err(io::Error::from(io::ErrorKind::OutOfMemory));
-    };
     Ok(Ready {
         alloc: rt.alloc(),
         name,
         clock: clock.another(),
-        scopes,
+        scopes: scopes.for_thread()?,
         max_bytes: settings.max_thread_bytes,
     })
 }

@@ -20,6 +20,7 @@ use crate::light::shares::{
     Counting, Joined, LeaderShares, Started, ThreadPromise, ThreadReturn, join_all, lead,
 };
 use history::{History, NewLog};
+use puffin_data::Error;
 use std::rt::Clock;
 use std::snapshot::Snapshot;
 use std::sync::Wait;
@@ -92,11 +93,6 @@ fn start<
     )?)
 }
 
-/// Returns the error of a call that ran out of memory.
-fn no_memory() -> io::Error {
-    io::Error::from(io::ErrorKind::OutOfMemory)
-}
-
 /// Starts the program's threads, each with a share of its own. They wait at the gate.
 fn start_all<
     's,
@@ -123,12 +119,8 @@ fn start_all<
     let mut shares = shares;
     let mut started = Vec::new(rt.alloc());
     for thread in threads {
-        let Some(share) = shares.pop() else {
-            return Err(no_memory());
-        };
-        let Ok(profiler) = profiler.clone() else {
-            return Err(no_memory());
-        };
+        let share = shares.pop().ok_or(Error::Memory)?;
+        let profiler = profiler.clone()?;
         let number = started.len();
         started.push(start(rt, scope, number, profiler, share, thread, program, gate)?)?;
     }
@@ -260,33 +252,14 @@ impl<L: Ledger + History, M: Ledger> Opened<L, M> {
             log,
         } = blanks;
         let mut profiler = GlobalProfiler::new(rt.alloc());
-        let Ok(()) = profiler.add_scopes(scopes.details()) else {
-            return Err(no_memory());
-        };
+        profiler.add_scopes(scopes.details())?;
         profiler.set_max_pending(settings.max_pending_bytes);
-        let opened = SharedProfiler::<L, M>::open(
-            rt.alloc(),
-            profiler,
-            shares,
-            reported,
-            handed,
-            log,
-        );
-        let Ok((profiler, mut shares)) = opened else {
-            return Err(no_memory());
-        };
-        let Some(taking) = shares.pop() else {
-            return Err(no_memory());
-        };
-        let Some(reporting) = shares.pop() else {
-            return Err(no_memory());
-        };
-        let (Ok(frames), Ok(reports)) = (profiler.clone(), profiler.clone()) else {
-            return Err(no_memory());
-        };
-        let Ok(view) = GlobalFrameView::attach(rt, rt.alloc(), &profiler) else {
-            return Err(no_memory());
-        };
+        let opened = SharedProfiler::open(rt.alloc(), profiler, shares, reported, handed, log);
+        let (profiler, mut shares) = opened?;
+        let taking = shares.pop().ok_or(Error::Memory)?;
+        let reporting = shares.pop().ok_or(Error::Memory)?;
+        let (frames, reports) = (profiler.clone()?, profiler.clone()?);
+        let view = GlobalFrameView::attach(rt, rt.alloc(), &profiler)?;
         settings.set(&mut view.lock(rt));
         Ok(Opened {
             profiler,

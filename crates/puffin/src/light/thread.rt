@@ -65,10 +65,8 @@ impl<R: Clock + AllocGlobal + Copy> Thread<SystemClock<R>, GlobalProfiler> {
         ensures refused { IfOk result (λ thread. refused_of thread ≡ 0) }
     {
         let mut reporter = profiler;
-        let (Ok(()), Ok(known)) = (reporter.add_scopes(scopes.details()), scopes.for_thread())
-        else {
-            return Err(io::Error::from(io::ErrorKind::OutOfMemory));
-        };
+        reporter.add_scopes(scopes.details())?;
+        let known = scopes.for_thread()?;
         let alloc = rt.alloc();
         let name = String::from_str(alloc, name)?;
         let profiler = ThreadProfiler::new(alloc, name, SystemClock::new(rt)?);

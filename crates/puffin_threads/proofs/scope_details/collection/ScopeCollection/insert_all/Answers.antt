@@ -25,14 +25,15 @@ returns-in_err-clone-clause-err c =
 
 pub returns-in_err-_kept-clause-missing : goal.returns-in_err-_kept-clause-missing
 returns-in_err-_kept-clause-missing c =
-    let failed = err_from_is_err_and c.from_residual-in_err-_kept.result c.from_residual-in_err-_kept.ensures.1 in
+    let (cause, is_err, same_cause) =
+    err_from_is_err_and c.from_residual-in_err-_kept.result c.from_residual-in_err-_kept.ensures.1 in
     let none = tested _ c.args.details.now c.any_lacks_id.ensures ∙ c.if-any_lacks_id.false in
     let memory =
     memory_alone c.insert.result c.in_err-_kept.field-0.0 (details_of (arc_value c.in_ok-clone.field-0))
     (id_at c.args.details.now c.loop-details.details-index c.details-item.result c.in_ok-clone.field-0 none
     c.loop-details-test.true c.details-item.is c.in_ok-clone.ensures.cases) c.in_err-_kept.was
     c.insert.ensures.missing c.in_err-_kept.ensures.cause in
-    rw failed.1 (never_missing (Err failed.0) _ (failed.2 ∙ memory) none)
+    rw is_err (never_missing (Err cause) _ (same_cause ∙ memory) none)
 
 pub returns-in_err-_kept-clause-err : goal.returns-in_err-_kept-clause-err
 returns-in_err-_kept-clause-err c =
