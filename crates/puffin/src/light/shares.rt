@@ -376,19 +376,20 @@ pub(crate) fn join_all<
         missed,
         gate: _,
     } = taker;
+    let leader = counted.counts;
     let mut failed = None;
     shares.push(share)?;
     shares.push(counted.share)?;
     for thread in started {
-        let back = thread.join(rt)?;
-        failed = failed.or(failure(counts.len(), back.ended.result));
-        shares.push(back.counted.share)?;
-        counts.push(back.counted.counts)?;
+        let ThreadReturn { counted, ended } = thread.join(rt)?;
+        failed = failed.or(failure(counts.len(), ended.result));
+        shares.push(counted.share)?;
+        counts.push(counted.counts)?;
     }
     Ok(Joined {
         shares,
         counts,
-        leader: counted.counts,
+        leader,
         failed,
         frames,
         missed,

@@ -9,7 +9,7 @@ invariant-loop-thread g l = record {
   shares : vec_len l.shares ≡ length l.yielded + 2;
   counts : vec_len l.counts ≡ length l.yielded;
   counted : all_reported l.shares.items < 2 ^ 64
-      → l.fn.counted.counts.reported + sum_by (λ t. t.reported) l.counts.items ≡ all_reported l.shares.items;
+      → l.leader.reported + sum_by (λ t. t.reported) l.counts.items ≡ all_reported l.shares.items;
   handed : all_handed l.shares.items ≡ l.fn.taker.share.counts.handed;
   each : AreJoined g.W.AnyProgram.tells l.yielded l.fn.taker.share l.fn.counted.share l.failed l.counts.items l.shares.items;
 }
