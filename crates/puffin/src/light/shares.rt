@@ -363,19 +363,20 @@ pub(crate) fn join_all<
         missed,
         gate: _,
     } = taker;
+    let leader = led.ended.counts(led.reported);
     let mut failed = None;
     shares.push(share)?;
     shares.push(led.share)?;
     for thread in started {
         let back = thread.join(rt)?;
         failed = failed.or(failure(counts.len(), back.ended.result));
-        shares.push(back.share)?;
         counts.push(back.ended.counts(back.reported))?;
+        shares.push(back.share)?;
     }
     Ok(Joined {
         shares,
         counts,
-        leader: led.ended.counts(led.reported),
+        leader,
         failed,
         frames,
         missed,

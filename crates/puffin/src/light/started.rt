@@ -255,7 +255,9 @@ impl<L: Ledger + History, M: Ledger> Opened<L, M> {
         profiler.add_scopes(scopes.details())?;
         profiler.set_max_pending(settings.max_pending_bytes);
         let opened = SharedProfiler::open(rt.alloc(), profiler, shares, reported, handed, log);
-        let (profiler, mut shares) = opened?;
+        let Ok((profiler, mut shares)) = opened else {
+            return Err(io::Error::from(io::ErrorKind::OutOfMemory));
+        };
         let taking = shares.pop().ok_or(Error::Memory)?;
         let reporting = shares.pop().ok_or(Error::Memory)?;
         let (frames, reports) = (profiler.clone()?, profiler.clone()?);

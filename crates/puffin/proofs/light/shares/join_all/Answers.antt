@@ -11,10 +11,10 @@ loop-thread-preserved g c =
     let so_far = c.loop-thread in let i = so_far.invariant in let w = c.in_ok-back.back in let kept = c.in_ok-back.ensures in
     let taker = c.args.taker in let leader = c.args.led in
     let failed = none_failed so_far.failed c.failure.result c.or-failed.result c.or-failed.ensures in
-    let shares = c.in_ok-push-3.ensures.items in let counts = c.in_ok-push-4.ensures.items in
+    let counts = c.in_ok-push-3.ensures.items in let shares = c.in_ok-push-4.ensures.items in
     record {
-      shares = omega (arith, c.in_ok-push-3.ensures.len, i.shares, length-append so_far.yielded (c.in-Some.thread ∷ []));
-      counts = omega (arith, c.in_ok-push-4.ensures.len, i.counts, length-append so_far.yielded (c.in-Some.thread ∷ []));
+      shares = omega (arith, c.in_ok-push-4.ensures.len, i.shares, length-append so_far.yielded (c.in-Some.thread ∷ []));
+      counts = omega (arith, c.in_ok-push-3.ensures.len, i.counts, length-append so_far.yielded (c.in-Some.thread ∷ []));
       counted = rw (shares, counts) (counted_more leader.reported so_far.shares.items so_far.counts.items w.share
           (counts_after w.reported w.ended) i.counted w.counted);
       handed = rw shares (handed_more so_far.shares.items w.share taker.share.counts.handed i.handed w.none_handed);

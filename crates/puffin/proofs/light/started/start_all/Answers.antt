@@ -1,5 +1,6 @@
 -- One thread more is started, with a share that counts nothing.
-use Rattle.std.proofs.Common.{◌≡◌, ◌∷◌, ◌++◌, [], ℕ, ◌+◌, Some, length, rules, ap, sym, subst, ◌∙◌}
+use Rattle.std.proofs.Common.{◌≡◌, ◌∷◌, ◌++◌, [], ℕ, ◌+◌, length, rules, ap, sym, subst, ◌∙◌}
+use Rattle.std.specs.Prelude.{IfSome}
 use Rattle.std.proofs.lemmas.Iterator.Consumers.{YieldsList-end}
 use Rattle.std.proofs.lemmas.Iterator.Adapters.{YieldsList-from_vec}
 use Rattle.std.proofs.lemmas.List.{length-append, map-id}
@@ -11,9 +12,8 @@ use Rattle.puffin.proofs.light.started.start_all.Goals as goal
 
 pub start-requires-after_bounds : goal.start-requires-after_bounds
 start-requires-after_bounds g c κs within =
-    let taken = All-pop IsNewMember c.loop-thread.shares.items _
-    (Some c.in-Some-pop.share) c.in-Some-pop.ensures.items c.loop-thread.invariant.new in
-    taken.1
+    subst (λ o. IfSome o IsNewMember) c.in_ok-share.ensures.ok_part
+    (All-pop IsNewMember _ _ c.pop.result c.pop.ensures.items c.loop-thread.invariant.new).1
 
 pub loop-thread-init : goal.loop-thread-init
 loop-thread-init g c = record {
@@ -37,8 +37,7 @@ loop-thread-preserved g c =
           (started_more c.loop-thread.started.items c.loop-thread.yielded c.args.program.now handle c.in-Some.thread
           c.loop-thread.invariant.each c.loop-thread.invariant.started c.in_ok-start.ensures.thread
           its_number c.in_ok-start.ensures.program);
-      new = (All-pop IsNewMember c.loop-thread.shares.items _
-          (Some c.in-Some-pop.share) c.in-Some-pop.ensures.items c.loop-thread.invariant.new).0;
+      new = (All-pop IsNewMember _ _ c.pop.result c.pop.ensures.items c.loop-thread.invariant.new).0;
     }
 
 pub returns-clause-each : goal.returns-clause-each
