@@ -15,11 +15,11 @@ loop-thread-preserved g c =
     record {
       shares = omega (arith, c.in_ok-push-4.ensures.len, i.shares, length-append so_far.yielded (c.in-Some.thread ∷ []));
       counts = omega (arith, c.in_ok-push-3.ensures.len, i.counts, length-append so_far.yielded (c.in-Some.thread ∷ []));
-      counted = rw (shares, counts) (counted_more leader.reported so_far.shares.items so_far.counts.items w.share
+      counted = rw (shares, counts, c.counts.ensures) (counted_more leader.reported so_far.shares.items so_far.counts.items w.share
           (counts_after w.reported w.ended) i.counted w.counted);
       handed = rw shares (handed_more so_far.shares.items w.share taker.share.counts.handed i.handed w.none_handed);
       each =
-          rw (shares, counts) (joined_more g.W.AnyProgram.tells so_far.yielded c.in-Some.thread taker.share leader.share
+          rw (shares, counts, c.counts.ensures) (joined_more g.W.AnyProgram.tells so_far.yielded c.in-Some.thread taker.share leader.share
           so_far.failed c.or-failed.result so_far.counts.items so_far.shares.items w.reported w.ended w.share
           i.each (sym so_far.counts.ok.0 ∙ i.counts)
           (λ none. (failed none).0) (λ none. is_well
