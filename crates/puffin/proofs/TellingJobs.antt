@@ -1,7 +1,7 @@
 -- Jobs that run one after the other on a thread.
 use Rattle.std.proofs.Common.{◌≡◌, ◌⊎◌, ℕ, ℤ, ◌+◌, ◌-◌, ◌^◌, Bool, true, false, List, [], ◌∷◌, ◌++◌}
 use Rattle.std.proofs.Common.{Option, Some, None, Result, Ok, Err, inl, inr, refl, ap, subst, ◌∙◌, arith}
-use Rattle.std.specs.Prelude.{min, IsOk, IsErr, OnOk}
+use Rattle.std.specs.Prelude.{min, IsOk, OnOk}
 use Rattle.std.proofs.lemmas.List.Sums.{sum_by_push}
 use Rattle.puffin_data.specs.declared.data.form.Form.TheVariants.{Short}
 use Rattle.puffin_data.specs.declared.error.Error.{Error as Failure}
@@ -57,10 +57,6 @@ module _ (is : List ℕ → Code → Type 0) (known : ℕ) where
 pub unless_failed : {X E P : Type 0} (r : Result X E) → P → OnOk r P
 unless_failed (Ok x) so = so
 unless_failed (Err e) so = tt
-
-pub failed : {X E P : Type 0} (r : Result X E) → IsErr r → OnOk r P
-failed (Ok x) err = absurd cc
-failed (Err e) err = tt
 
 -- code leaves a thread the scopes that it knows
 module _ {C R : Type 0} (answers : C → ℤ → C → Type 0)

@@ -1,6 +1,6 @@
 -- Each job is one more that ran.
 use Rattle.std.proofs.Common.{◌≡◌, ℕ, true, List, string_bytes, refl, ap, sym, subst, ◌∙◌}
-use Rattle.std.specs.Prelude.{is_ok, IfSome}
+use Rattle.std.specs.Prelude.{not, IfSome}
 use Rattle.puffin_data.specs.declared.data.form.Form.TheVariants.{Short}
 use Rattle.puffin.specs.Happenings.{Happening, unmarked}
 use Rattle.puffin.specs.LightThread.{reporter_of, scopes_of}
@@ -34,7 +34,7 @@ loop-preserved g c =
     λ stated. s.scopes ∙ c.loop.invariant.known stated in
     let named =
     subst (λ found. IfSome found (λ job. W.names pool job.1 (string_bytes job.0))) c.in-Ok-Some.field-0-is c.in-Ok-Some.ensures in
-    let well = ap is_ok c.in-Ok.is in
+    let well = c.is_err.ensures.negation ∙ ap not c.if-is_err.false in
     record {
       known = λ stated. c.end-back.ensures.scopes
           ∙ scopes_stay _ g.P.Reporter.accepts g.P.Reporter.refuses

@@ -19,11 +19,11 @@ pub loop-round-preserved : goal.loop-round-preserved
 loop-round-preserved g c stated well none =
     let told = g.P.Meets.told in let W = g.W.Rounds in let program = c.args.self.now.program.now in
     let round = c.loop-round.round in
-    elim c.match-state-2.branch [
+    elim c.match-state.branch [
       | in-Ok+in-Ok-part w ↦
           part_ran told (W.runs program c.args.number) (string_bytes c.args.thread.name)
           (num_known c.args.thread.scopes) g.C.NsSource.answers g.P.Reporter.accepts g.P.Reporter.refuses g.met.P.Meets.keeps
-          (W.states program) round c.loop-round.thread w.part.new.thread c.match-state-2.thread c.arrive.new.self
+          (W.states program) round c.loop-round.thread w.part.new.thread c.match-state.thread c.arrive.new.self
           c.wait_released.new.self
           w.part.result w.in-Ok-part.field-0 stated w.in-Ok-part.is w.part.ensures w.thread-is
           (c.loop-round.invariant stated (ap is_ok w.in-Ok.is) none) c.arrive.ensures c.wait_released.ensures
@@ -45,9 +45,9 @@ returns g c none =
     within p e.2 e.3 in
     subst (λ r. HasRunRoundsAs (W.states program) is c.args.self.now.rounds name known r (told c.end-reporter.result.1)
     c.end-reporter.result.0.unreported) (sym c.end-reporter.ensures.returned)
-    (if_well (W.states program) is c.args.self.now.rounds name known c.match-state-3.result
+    (if_well (W.states program) is c.args.self.now.rounds name known c.match-state-2.result
     (told c.end-reporter.result.1) c.end-reporter.result.0.unreported (λ well stated.
-    let state : IsOk c.loop-round-test.state = elim c.match-state-3.branch [
+    let state : IsOk c.loop-round-test.state = elim c.match-state-2.branch [
       | in-Ok-state w ↦ ap is_ok w.in-Ok-state.is
       | in-Err-state w ↦ absurd (let no = subst IsOk w.result-is well in cc)
     ] in
@@ -59,10 +59,10 @@ returns g c none =
       | then-loop-round-test+then-load w ↦
           let its = subst IsOk w.state-is state in
           ends (round + 1) (omega (arith, w.loop-round-test.true, c.most_rounds-round-end.ensures.within))
-          (subst (λ t. AfterRounds told is name known (round + 1) t) (sym w.thread-is) (elim w.match-state-2.branch [
+          (subst (λ t. AfterRounds told is name known (round + 1) t) (sym w.thread-is) (elim w.match-state.branch [
             | in-Ok+in-Ok-part v ↦
                 part_ran told is name known g.C.NsSource.answers g.P.Reporter.accepts g.P.Reporter.refuses g.met.P.Meets.keeps
-                (W.states program) round c.loop-round.thread v.part.new.thread w.match-state-2.thread
+                (W.states program) round c.loop-round.thread v.part.new.thread w.match-state.thread
                 w.arrive.new.self w.wait_released.new.self
                 v.part.result v.in-Ok-part.field-0 stated v.in-Ok-part.is v.part.ensures v.thread-is
                 (c.loop-round.invariant stated (ap is_ok v.in-Ok.is) none) w.arrive.ensures w.wait_released.ensures
