@@ -85,11 +85,12 @@ fn rotate<R: AllocGlobal + Files<File = File> + Abort + Copy + Drop>(
     rt: R,
     prefix: &str,
     frames: usize,
+    max_files: u64,
 ) -> Option<io::ErrorKind> {
     let view = two_frames(&rt);
     let limits = RotationLimits {
         max_frames: 2,
-        max_files: 2,
+        max_files,
         ..RotationLimits::default()
     };
     let mut files = Rotation::new(rt, prefix, limits).expect(&rt, "a folder");
@@ -131,11 +132,11 @@ fn holds(rt: &(impl Files + AllocGlobal + Abort), name: &str) -> Option<(usize, 
 #[test]
 fn files_replace_each_other_and_go_on(rt: HostRuntime) {
     fs::create_dir(&rt, "rotation").expect(&rt, "a folder");
-    equal(&rt, rotate(rt, "rotation/r", 5), None);
+    equal(&rt, rotate(rt, "rotation/r", 5, 2), None);
     equal(&rt, holds(&rt, "rotation/r0.puffin"), None);
     equal(&rt, holds(&rt, "rotation/r1.puffin"), Some((2, 1)));
     equal(&rt, holds(&rt, "rotation/r2.puffin"), Some((1, 1)));
-    equal(&rt, rotate(rt, "rotation/r", 1), None);
+    equal(&rt, rotate(rt, "rotation/r", 1, 2), None);
     equal(&rt, holds(&rt, "rotation/r1.puffin"), None);
     equal(&rt, holds(&rt, "rotation/r2.puffin"), Some((1, 1)));
     equal(&rt, holds(&rt, "rotation/r3.puffin"), Some((1, 1)));
@@ -146,7 +147,20 @@ fn files_replace_each_other_and_go_on(rt: HostRuntime) {
 fn a_file_that_cannot_be_removed_ends_a_rotation(rt: HostRuntime) {
     fs::create_dir(&rt, "kept").expect(&rt, "a folder");
     fs::create_dir(&rt, "kept/0.puffin").expect(&rt, "a folder");
-    equal(&rt, rotate(rt, "kept/", 2), None);
-    equal(&rt, rotate(rt, "kept/", 2).is_some(), true);
+    equal(&rt, rotate(rt, "kept/", 2, 2), None);
+    equal(&rt, rotate(rt, "kept/", 2, 2).is_some(), true);
     fs::remove_dir_all(&rt, "kept").expect(&rt, "a folder");
+}
+
+#[test]
+fn fewer_files_are_kept_than_before(rt: HostRuntime) {
+    fs::create_dir(&rt, "fewer").expect(&rt, "a folder");
+    equal(&rt, rotate(rt, "fewer/", 9, 9), None);
+    equal(&rt, rotate(rt, "fewer/", 1, 2), None);
+    for name in &["fewer/0.puffin", "fewer/2.puffin", "fewer/3.puffin"] {
+        equal(&rt, holds(&rt, name), None);
+    }
+    equal(&rt, holds(&rt, "fewer/4.puffin"), Some((1, 1)));
+    equal(&rt, holds(&rt, "fewer/5.puffin"), Some((1, 1)));
+    fs::remove_dir_all(&rt, "fewer").expect(&rt, "a folder");
 }

@@ -4,8 +4,8 @@ use crate::frame_data::FrameData;
 use crate::global_profiler::Emitted;
 use crate::light::files::{SaveCause, SaveError, cause_of, no_memory};
 use crate::profile_view::FrameWriter;
-use puffin_data::Result;
 use puffin_data::data::Counted;
+use puffin_data::{Result, parse_number};
 use std::fs::{File, OpenFile};
 use std::io::ErrorKind;
 use std::rt::Files;
@@ -22,7 +22,8 @@ pub struct RotationLimits {
     pub max_frames: usize,
     /// The number of bytes with which a file is full. Its last frame may exceed it. `u64::MAX` is no limit.
     pub max_bytes: u64,
-    /// The number of files that are kept, among them the one that is written. At least one is kept.
+    /// The number of files that are kept, among them the one that is written. At least one is kept. Files with lower numbers are
+    /// removed, also those of an earlier recording.
     pub max_files: u64,
 }
 
@@ -45,7 +46,8 @@ impl Default for RotationLimits {
 }
 
 /// Writes frames to the files `PREFIX0.puffin`, `PREFIX1.puffin` and so on, so that a recording may go on for days. When a file
-/// is full, the next one begins, and one is removed if there are too many. Each file has the names of all its scopes.
+/// is full, the next one begins, and the oldest are removed if there are too many. Each file has the names of all its scopes. No
+/// other recording may have a prefix that is this one and digits: its files would count as this one's.
 ///
 /// ```
 /// let mut files = Rotation::new(rt, "frames/", RotationLimits::default())?;
@@ -71,30 +73,30 @@ pub struct Rotation<R> {
 
 /// Returns the number in the name of a file that begins so, if it is the name of a file of a rotation.
 fn number_in(name: &str, start: &str) -> Option<u64> {
-    let number = name.strip_prefix(start)?.strip_suffix(".puffin")?;
-    number.parse().ok()
+    parse_number(name.strip_prefix(start)?.strip_suffix(".puffin")?)
 }
 
-/// Returns the number behind those of all files with this prefix.
-fn next_number<R: Files + AllocGlobal + Copy + Drop>(rt: &R, prefix: &str) -> io::Result<u64> {
+/// Returns the numbers of all files with this prefix.
+fn numbers<R: Files + AllocGlobal + Copy + Drop>(rt: &R, prefix: &str) -> io::Result<Vec<u64>> {
     let (folder, start) = match prefix.rsplit_once('/') {
         Some(("", start)) => ("/", start),
         Some((folder, start)) => (folder, start),
         None => (".", prefix),
     };
-    let mut next = 0_u64;
+    let mut numbers = Vec::new(rt.alloc());
     for entry in fs::read_dir(rt, folder)? {
         match entry {
             Ok(entry) => {
-                let number = number_in(entry.file_name(), start);
-                next = next.max(number.map_or(0, |number| number.saturating_add(1)));
+                if let Some(number) = number_in(entry.file_name(), start) {
+                    numbers.push(number)?;
+                }
             }
             // Another program's file, whose name isn't UTF-8.
             Err(e) if e.kind() == ErrorKind::InvalidFilename => {}
             Err(e) => return Err(e),
         }
     }
-    Ok(next)
+    Ok(numbers)
 }
 
 impl<R: Files<File = File> + AllocGlobal + Copy + Drop> Rotation<R> {
@@ -122,11 +124,12 @@ impl<R: Files<File = File> + AllocGlobal + Copy + Drop> Rotation<R> {
         prefix: &str,
         limits: RotationLimits,
     ) -> result::Result<Rotation<R>, SaveCause> {
+        let last = numbers(&rt, prefix)?.iter().copied().max();
         Ok(Rotation {
             rt,
             prefix: String::from_str(rt.alloc(), prefix).map_err(|_| no_memory())?,
             limits,
-            next: next_number(&rt, prefix)?,
+            next: last.map_or(0, |number| number.saturating_add(1)),
             frames: 0,
             path: String::new(rt.alloc()),
             writer: None,
@@ -230,13 +233,20 @@ impl<R: Files<File = File> + AllocGlobal + Copy + Drop> Rotation<R> {
         Ok(())
     }
 
-    /// Removes the file that is one too many, if it is there.
+    /// Removes the files with the lowest numbers, if there are too many.
     fn remove_oldest(&mut self) -> result::Result<(), SaveCause> {
-        let kept = self.limits.max_files.max(1).saturating_add(1);
-        let Some(oldest) = self.next.checked_sub(kept) else {
-            return Ok(());
-        };
-        let name = self.file_name(oldest)?;
+        let first = self.next.saturating_sub(self.limits.max_files.max(1));
+        for number in numbers(&self.rt, self.prefix.as_str())? {
+            if number < first {
+                self.remove(number)?;
+            }
+        }
+        Ok(())
+    }
+
+    /// Removes the file with this number, if it is there.
+    fn remove(&mut self, number: u64) -> result::Result<(), SaveCause> {
+        let name = self.file_name(number)?;
         match fs::remove_file(&self.rt, name.as_str()) {
             Err(e) if e.kind() != ErrorKind::NotFound => {
                 self.path = name;
