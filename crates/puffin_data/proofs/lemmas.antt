@@ -1,6 +1,7 @@
 -- Lemmas that the crates above cite too: about definitions alone, and on what may be sent to another thread. Nothing else of these
 -- proofs is seen from there.
 pub mod Numbers
+pub mod Decimals
 pub mod Lengths
 pub mod Unique
 pub mod ForestRanges

@@ -1,6 +1,8 @@
 -- The numbers and texts of `Error` and `FileError`.
 use Rattle.std.specs.Prelude.{ℕ, List, [], ◌∷◌, ◌++◌, codes}
 use Rattle.std.specs.Fmt.{decimal}
+use Rattle.std.specs.declared.io.ErrorKind.{ErrorKind}
+use Rattle.std.specs.declared.io.ErrorKind.TheVariants as kind
 use Rattle.puffin_data.specs.declared.error.Error.{Error}
 use Rattle.puffin_data.specs.declared.error.Error.TheVariants as error
 use Rattle.puffin_data.specs.declared.file_error.FileError.{FileError}
@@ -50,6 +52,11 @@ error_name error.UnlikeForms = codes "UnlikeForms"
 abbrev pub file_error_of : Error → FileError
 file_error_of error.Memory = file.Memory
 file_error_of cause = file.Refused cause
+
+-- the kind of an error of the system that stands for a cause
+abbrev pub io_kind_of : Error → ErrorKind
+io_kind_of error.Memory = kind.OutOfMemory
+io_kind_of cause = kind.Other
 
 -- the number of a file error: 1 for the first variant, and so on
 abbrev pub file_error_number : FileError → ℕ

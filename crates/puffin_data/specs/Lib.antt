@@ -10,3 +10,4 @@ pub mod Device
 pub mod Cause
 pub mod inner
 pub mod Range
+pub mod Number

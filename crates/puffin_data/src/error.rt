@@ -1,9 +1,10 @@
 ghost use Rattle.std.specs.Prelude.{◌≡◌};
+ghost use Rattle.std.specs.IoError.{error_kind};
 ghost use Rattle.puffin_data.specs.declared.error.Error.TheVariants.{Memory};
-ghost use Rattle.puffin_data.specs.Cause.{error_number, error_name};
+ghost use Rattle.puffin_data.specs.Cause.{error_number, error_name, io_kind_of};
 
 use std::alloc::{AllocError, AllocFailed};
-use std::fmt;
+use std::{fmt, io};
 
 /// A point in time or a duration, in nanoseconds.
 pub type NanoSecond = i64;
@@ -114,5 +115,17 @@ impl<T: Drop> From<AllocFailed<T>> for Error {
 
     fn from(_e: AllocFailed<T>) -> Error {
         Error::Memory
+    }
+}
+
+/// `Memory` is an `OutOfMemory`. Any other cause is an `Other`, whose message is the cause's name.
+impl From<Error> for io::Error {
+    ghost from_gives = { λ cause error. error_kind error ≡ io_kind_of cause };
+
+    fn from(cause: Error) -> io::Error {
+        match cause {
+            Error::Memory => io::Error::from(io::ErrorKind::OutOfMemory),
+            cause => io::Error::other(cause.name()),
+        }
     }
 }

@@ -11,6 +11,7 @@
 //! | iterate over the scopes of one level | [`data::Reader::from_start`] as an iterator, [`data::Reader::read_top_scopes`] |
 //! | join two streams with their counts | [`data::StreamInfo::extend`] |
 //! | read from and write to any device | [`data::Counted::new`] for a reader or writer of std, [`data::Buffered::new`] for a `BufRead`; [`data::read_to_end`], [`data::write_all`] |
+//! | parse a decimal number of a text | [`parse_number`] |
 //! | encode values as bytes, and decode them | [`wire`]: `put_u64` and the like, [`wire::Cursor`] |
 //! | cite a law about definitions in a proof | [`laws`] |
 #![tactic(auto)]
@@ -19,7 +20,9 @@ pub mod data;
 mod error;
 mod file_error;
 pub mod laws;
+mod number;
 pub mod wire;
 
 pub use error::{Error, FrameIndex, NanoSecond, Result};
 pub use file_error::FileError;
+pub use number::parse_number;

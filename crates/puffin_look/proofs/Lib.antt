@@ -16,7 +16,6 @@ mod TracePrinted
 mod FramesPrinted
 mod TreesShown
 mod TreesPrinted
-mod Numbers
 mod SlowestKept
 mod SlowestPrinted
 mod StackRows

@@ -1,8 +1,8 @@
 -- What the program's arguments ask for.
 use Rattle.std.specs.Prelude.{ℕ, ◌^◌, ◌-◌, Bool, ◌==◌, List, [], ◌∷◌, nat_lt, Option, Some, None, option_map, codes, if◌then◌else◌}
 use Rattle.std.specs.Option.{option_and_then}
-use Rattle.std.specs.Str.{bytes_eq, all_ascii_digits}
-use Rattle.std.specs.Str.Parse.{digits_value}
+use Rattle.std.specs.Str.{bytes_eq}
+use Rattle.puffin_data.specs.Number.{number_below}
 use Rattle.std.specs.List.{before_first, after_first}
 use denote.Ref.{Bor}
 use Rattle.puffin_look.specs.declared.wanted.Indices.{Indices}
@@ -10,19 +10,6 @@ use Rattle.puffin_look.specs.declared.top.By.{By}
 use Rattle.puffin_look.specs.declared.top.By.TheVariants as by
 use Rattle.puffin_look.specs.declared.task.View.{View}
 use Rattle.puffin_look.specs.declared.task.View.TheVariants.{Threads, Frames, Slowest, Frame, Trace, Folded, Top, Diff, SlowFrames, Page}
-
--- a decimal number without a sign
-abbrev pub digits_in : List ℕ → Option ℕ
-digits_in [] = None
-digits_in (byte ∷ bytes) =
-    if all_ascii_digits (byte ∷ bytes) then Some (digits_value 10 (byte ∷ bytes)) else None
-
-abbrev pub if_below : ℕ → ℕ → Option ℕ
-if_below limit number = if nat_lt number limit then Some number else None
-
--- such a number of 64 bits
-abbrev pub number_in : List ℕ → Option ℕ
-number_in word = option_and_then (if_below (2 ^ 64)) (digits_in word)
 
 -- what is shown of a file
 pub data Wish : Type 0 where
@@ -52,8 +39,8 @@ from_to _ _ = None
 -- `A..B`: from A on, and below B
 abbrev pub range_in : List ℕ → Option Indices
 range_in word =
-    from_to (number_in (before_first is_dot word))
-    (option_and_then number_in (behind_dot (after_first is_dot word)))
+    from_to (number_below (2 ^ 64) (before_first is_dot word))
+    (option_and_then (number_below (2 ^ 64)) (behind_dot (after_first is_dot word)))
 
 -- so many of the slowest frames, or those with these indices
 abbrev pub number_or_range : Option ℕ → List ℕ → Option Wish
@@ -61,7 +48,7 @@ number_or_range (Some limit) more = Some (slowest_frames limit)
 number_or_range None more = option_map (λ i. some_frames (Some i)) (range_in more)
 
 abbrev pub frames_in : List ℕ → Option Wish
-frames_in more = number_or_range (number_in more) more
+frames_in more = number_or_range (number_below (2 ^ 64) more) more
 
 -- a word that is followed by the path alone
 abbrev pub list_in : List ℕ → Option Wish
@@ -76,7 +63,8 @@ list_in word =
 -- a word that is followed by the path, an index or another path, and perhaps a thread
 abbrev pub threaded_in : List ℕ → List ℕ → Option (List ℕ) → Option Wish
 threaded_in word more thread =
-    if bytes_eq word (codes "frame") then option_map (λ n. a_frame n thread) (number_in more) else
+    if bytes_eq word (codes "frame") then
+    option_map (λ index. a_frame index thread) (number_below (2 ^ 64) more) else
     if bytes_eq word (codes "diff") then Some (a_diff more thread) else None
 
 -- a word that is followed by the path and one more word
@@ -85,7 +73,8 @@ detailed_in word more =
     if bytes_eq word (codes "frames") then frames_in more else
     if bytes_eq word (codes "folded") then Some (folded_stacks (Some more)) else
     if bytes_eq word (codes "top") then Some (top_scopes (Some more)) else
-    if bytes_eq word (codes "slowest") then option_map (λ n. slow_paths n) (number_in more) else
+    if bytes_eq word (codes "slowest") then
+    option_map (λ limit. slow_paths limit) (number_below (2 ^ 64) more) else
     if bytes_eq word (codes "view") then Some (a_page more) else
     threaded_in word more None
 

@@ -2,12 +2,12 @@
 
 ghost use Rattle.std.specs.Prelude.{◌≡◌, ◌<◌, length, Some, option_map, map, IfSome};
 ghost use Rattle.std.specs.String.{string_bytes};
-ghost use Rattle.puffin_look.specs.Arguments.{number_in, list_in, threaded_in, detailed_in, request_in, wish_of, request_of, behind_dot, from_to, range_in, frames_in, order_in};
+ghost use Rattle.puffin_look.specs.Arguments.{list_in, threaded_in, detailed_in, request_in, wish_of, request_of, behind_dot, from_to, range_in, frames_in, order_in};
 
 use crate::lines::Form;
 use crate::top::By;
 use crate::wanted::Indices;
-use puffin_data::FrameIndex;
+use puffin_data::{FrameIndex, parse_number};
 
 /// What the program shows of a file.
 #[derive(Clone, Copy, Debug, PartialEq, Eq)]
@@ -37,16 +37,6 @@ pub enum View<'w> {
 /// How many frames are shown by default.
 const SLOW_FRAMES: usize = 5;
 
-/// Parses a decimal number without a sign, below `2^64`.
-fn number(word: &str) -> Option<u64>
-    ensures { result ≡ number_in word.now }
-{
-    if word.starts_with('+') {
-        return None;
-    }
-    word.parse::<u64>().ok()
-}
-
 /// Returns what is behind a point.
 fn behind_dot(word: &str) -> Option<&str>
     ensures { option_map (λ t. t.now) result ≡ behind_dot word.now }
@@ -73,14 +63,14 @@ pub fn range(word: &str) -> Option<Indices>
     ensures { result ≡ range_in word.now }
 {
     let (first, rest) = word.split_once('.')?;
-    from_to(number(first)?, number(behind_dot(rest)?)?)
+    from_to(parse_number(first)?, parse_number(behind_dot(rest)?)?)
 }
 
 /// Parses what follows the path behind `frames`: how many of the slowest frames are listed, or which ones.
 fn frames_of<'w>(more: &str) -> Option<View<'w>>
     ensures { option_map wish_of result ≡ frames_in more.now }
 {
-    match number(more) {
+    match parse_number(more) {
         Some(limit) => Some(View::Slowest(limit as usize)),
         None => Some(View::Frames(Some(range(more)?))),
     }
@@ -109,7 +99,7 @@ fn detailed_of<'w>(word: &str, more: &'w str) -> Option<View<'w>>
         "frames" => frames_of(more),
         "folded" => Some(View::Folded(Some(more))),
         "top" => Some(View::Top(Some(more))),
-        "slowest" => Some(View::SlowFrames(number(more)? as usize)),
+        "slowest" => Some(View::SlowFrames(parse_number(more)? as usize)),
         "view" => Some(View::Page(more)),
         word => threaded_of(word, more, None),
     }
@@ -121,7 +111,7 @@ fn threaded_of<'w>(word: &str, more: &'w str, thread: Option<&'w str>) -> Option
         ≡ threaded_in word.now more.now (option_map (λ t. t.now) thread.entry) }
 {
     match word {
-        "frame" => Some(View::Frame(number(more)?, thread)),
+        "frame" => Some(View::Frame(parse_number(more)?, thread)),
         "diff" => Some(View::Diff(more, thread)),
         _ => None,
     }
@@ -195,7 +185,7 @@ impl Options {
 
 /// Parses a percentage, such as `10%`.
 fn percentage(word: &str) -> Option<u64> {
-    number(word.strip_suffix('%')?)
+    parse_number(word.strip_suffix('%')?)
 }
 
 /// Returns the place of the first such word, if that is behind the path.
@@ -252,7 +242,7 @@ pub fn take_options(words: &mut Vec<String>) -> Option<Options> {
         None => None,
     };
     let limit = match take_value(words, "--limit") {
-        Some(word) => Some(number(word.as_str())? as usize),
+        Some(word) => Some(parse_number(word.as_str())? as usize),
         None => None,
     };
     let fail_above = match take_value(words, "--fail-above") {

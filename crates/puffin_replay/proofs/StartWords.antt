@@ -8,9 +8,10 @@ use Rattle.std.specs.Str.Parse.{ParsesSigned, digits_value}
 use Rattle.std.proofs.lemmas.Str.Parse.{parse_signed_minus, parse_signed_plain}
 use Rattle.std.proofs.lemmas.Bool.Decides.{nat_tests}
 use Rattle.puffin_threads.specs.Thread.ThreadKey.{ThreadKey}
-use Rattle.puffin_replay.specs.Script.Statements.{number_of, moment_in}
+use Rattle.puffin_replay.specs.Script.Statements.{moment_in}
+use Rattle.puffin_data.specs.Number.{number_below}
 use Rattle.puffin_replay.specs.Program.Arguments.{signed_moment_in, is_colon, start_in, thread_of_word}
-use Rattle.puffin_replay.proofs.Statements.{own, number_given, number_refused}
+use Rattle.puffin_data.proofs.lemmas.Decimals.{own, number_given, number_refused}
 
 -- ---- signed numbers
 
@@ -19,7 +20,7 @@ abbrev IsBelow : ℕ → List ℕ → Type 0
 IsBelow limit word = (all_ascii_digits word ≡ true) × (0 < length word) × (digits_value 10 word < limit)
 
 signed_of : {E : Type 0} (limit : ℕ) (f : ℕ → ℤ) (word : List ℕ) (r : Result ℤ E)
-    → OkIff r (IsBelow limit word) (f (digits_value 10 word)) → result_ok r ≡ option_map f (number_of limit word)
+    → OkIff r (IsBelow limit word) (f (digits_value 10 word)) → result_ok r ≡ option_map f (number_below limit word)
 signed_of limit f [] (Ok x) ((digits, some, small), is) = absurd (omega (arith, some))
 signed_of limit f [] (Err e) h = refl
 signed_of limit f (b ∷ bs) (Ok x) ((digits, some, small), is) =
@@ -52,7 +53,7 @@ signed_read {E} (b ∷ bs) r h plain = by (b == 45) refl
   where
     by : (t : Bool) → (b == 45) ≡ t
         → result_ok r
-        ≡ (if t then option_map (λ n. neg_ℤ (pos n)) (number_of (2 ^ 63 + 1) bs) else moment_in (b ∷ bs))
+        ≡ (if t then option_map (λ n. neg_ℤ (pos n)) (number_below (2 ^ 63 + 1) bs) else moment_in (b ∷ bs))
     by true at =
         signed_of (2 ^ 63 + 1) (λ n. neg_ℤ (pos n)) bs r
         (at_most r (2 ^ 63) bs _ (parse_signed_minus own {E = E} w64 (b ∷ bs) r h (is_minus b at)))

@@ -1,5 +1,6 @@
 use crate::equal::equal;
 use puffin_data::Error;
+use std::io;
 
 #[test]
 fn each_error_has_a_number_and_a_name(rt: HostRuntime) {
@@ -30,4 +31,17 @@ fn each_error_has_a_number_and_a_name(rt: HostRuntime) {
             *text,
         );
     }
+}
+
+#[test]
+fn a_cause_becomes_an_error_of_the_system(rt: HostRuntime) {
+    let memory = io::Error::from(Error::Memory);
+    equal(&rt, memory.kind(), io::ErrorKind::OutOfMemory);
+    let deep = io::Error::from(Error::TooDeep);
+    equal(&rt, deep.kind(), io::ErrorKind::Other);
+    equal(
+        &rt,
+        deep.to_string(rt.alloc()).expect(&rt, "memory").as_str(),
+        "TooDeep",
+    );
 }

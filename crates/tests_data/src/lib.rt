@@ -16,6 +16,8 @@ mod form;
 #[cfg(test)]
 mod info;
 #[cfg(test)]
+mod number;
+#[cfg(test)]
 mod parts;
 #[cfg(test)]
 mod range;

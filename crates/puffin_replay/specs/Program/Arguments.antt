@@ -6,7 +6,8 @@ use Rattle.std.specs.String.{string_bytes}
 use Rattle.puffin_threads.specs.Thread.ThreadKey.{ThreadKey, key_of}
 use Rattle.puffin_replay.specs.declared.replay.task.Task.{Task}
 use Rattle.puffin_replay.specs.declared.replay.task.Task.TheVariants as task
-use Rattle.puffin_replay.specs.Script.Statements.{number_of, moment_in}
+use Rattle.puffin_data.specs.Number.{number_below}
+use Rattle.puffin_replay.specs.Script.Statements.{moment_in}
 
 -- ---- a thread
 
@@ -14,7 +15,7 @@ use Rattle.puffin_replay.specs.Script.Statements.{number_of, moment_in}
 abbrev pub signed_moment_in : List ℕ → Option ℤ
 signed_moment_in [] = None
 signed_moment_in (byte ∷ bytes) =
-    if byte == 45 then option_map (λ n. neg_ℤ (pos n)) (number_of (2 ^ 63 + 1) bytes)
+    if byte == 45 then option_map (λ n. neg_ℤ (pos n)) (number_below (2 ^ 63 + 1) bytes)
     else moment_in (byte ∷ bytes)
 
 -- the start of a thread's first scope, or `-` for none

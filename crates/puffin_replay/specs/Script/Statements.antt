@@ -1,9 +1,9 @@
 -- The meaning of one line of a script.
-use Rattle.std.specs.Prelude.{ℕ, ◌^◌, ℤ, pos, ◌==◌, List, [], ◌∷◌, codes, Bool, Option, Some, None, option_map, if◌then◌else◌, nat_lt}
+use Rattle.std.specs.Prelude.{ℕ, ◌^◌, ℤ, pos, ◌==◌, List, [], ◌∷◌, codes, Bool, Option, Some, None, option_map, if◌then◌else◌}
 use Rattle.std.specs.List.{slice_split, join_with_byte}
 use Rattle.std.specs.Option.{option_and_then}
-use Rattle.std.specs.Str.{bytes_eq, all_ascii_digits}
-use Rattle.std.specs.Str.Parse.{digits_value}
+use Rattle.std.specs.Str.{bytes_eq}
+use Rattle.puffin_data.specs.Number.{number_below}
 
 -- what a line says
 pub data Meaning : Type 0 where
@@ -40,27 +40,13 @@ abbrev pub name_in : List ℕ → Option (List ℕ)
 name_in [] = None
 name_in (byte ∷ bytes) = Some (byte ∷ bytes)
 
--- a decimal number without a sign
-abbrev pub number_in : List ℕ → Option ℕ
-number_in [] = None
-number_in (byte ∷ bytes) =
-    if all_ascii_digits (byte ∷ bytes) then Some (digits_value 10 (byte ∷ bytes)) else None
-
--- the number, if it is below a limit
-abbrev pub if_below : ℕ → ℕ → Option ℕ
-if_below limit number = if nat_lt number limit then Some number else None
-
--- a decimal number without a sign, below a limit
-abbrev pub number_of : ℕ → List ℕ → Option ℕ
-number_of limit word = option_and_then (if_below limit) (number_in word)
-
 -- a time, in nanoseconds
 abbrev pub moment_in : List ℕ → Option ℤ
-moment_in word = option_map pos (number_of (2 ^ 63) word)
+moment_in word = option_map pos (number_below (2 ^ 63) word)
 
 -- the number of a line of code
 abbrev pub line_of : List ℕ → Option ℕ
-line_of word = number_of (2 ^ 32) word
+line_of word = number_below (2 ^ 32) word
 
 -- the number, if it isn't 0
 abbrev pub unless_zero : ℕ → Option ℕ

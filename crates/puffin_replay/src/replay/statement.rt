@@ -1,11 +1,11 @@
 //! Parsing a line of a script. The words borrow from the line.
 
-ghost use Rattle.std.specs.Prelude.{◌≡◌, ◌^◌, List, ℕ, [], ◌∷◌, Some, None, option_map, MatchOption};
+ghost use Rattle.std.specs.Prelude.{◌≡◌, List, ℕ, [], ◌∷◌, Some, None, option_map, MatchOption};
 ghost use Rattle.puffin_replay.specs.inner.ScriptReading.{meaning_of, words_left};
-ghost use Rattle.puffin_replay.specs.Script.Statements.{line_meaning, words_in, joined_words, number_of, moment_in, id_of, line_of, name_in, long_of, begin_of, end_of, registration_of, function_of, scope_of, user_of};
+ghost use Rattle.puffin_replay.specs.Script.Statements.{line_meaning, words_in, joined_words, moment_in, id_of, line_of, name_in, long_of, begin_of, end_of, registration_of, function_of, scope_of, user_of};
 
-use puffin_data::NanoSecond;
 use puffin_data::data::ScopeId;
+use puffin_data::{NanoSecond, parse_number};
 
 /// The meaning of one line.
 #[derive(Clone, Copy, Debug, PartialEq, Eq)]
@@ -90,16 +90,6 @@ impl<'l> Words<'l> {
             None => Some(()),
         }
     }
-}
-
-/// Parses a decimal number without a sign, below `2^64`.
-fn parse_number(word: &str) -> Option<u64>
-    ensures { result ≡ number_of (2 ^ 64) word.now }
-{
-    if word.starts_with('+') {
-        return None;
-    }
-    word.parse::<u64>().ok()
 }
 
 /// Parses a time, in nanoseconds.

@@ -1,6 +1,6 @@
 -- Without a plus in front, what is parsed is the time in the word.
 use Rattle.std.proofs.Common.{lit<, ◌∙◌}
-use Rattle.puffin_replay.proofs.Statements.{is_not_plus}
+use Rattle.puffin_data.proofs.lemmas.Decimals.{is_not_plus}
 use Rattle.puffin_replay.proofs.StartWords.{signed_read}
 use Rattle.puffin_replay.proofs.replay.task.parse_signed_time.Goals as goal
 

@@ -1,7 +1,7 @@
 -- Without a plus in front, what is parsed is the number in the word.
 use Rattle.std.proofs.Common.{lit<, ◌∙◌}
-use Rattle.puffin_replay.proofs.Statements.{number_read, is_not_plus}
-use Rattle.puffin_replay.proofs.replay.statement.parse_number.Goals as goal
+use Rattle.puffin_data.proofs.lemmas.Decimals.{number_read, is_not_plus}
+use Rattle.puffin_data.proofs.number.parse_number.Goals as goal
 
 pub returns : goal.returns
 returns c =
