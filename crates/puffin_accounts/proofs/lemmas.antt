@@ -4,9 +4,11 @@ pub mod Adding
 pub mod Opened
 pub mod Reported
 pub mod Showing
+pub mod Accounting
 pub mod Steps
 pub mod Running
 pub mod Listing
+pub mod Framing
 pub mod Rounds
 pub mod Chains
 pub mod Handing

@@ -31,16 +31,18 @@ pub bind_ok : {A B : Type 0} (first : Result A FileError) (next : A → Result B
 bind_ok (Ok x) next answer same = (x, refl, same)
 bind_ok (Err fault) next answer same = absurd cc
 
+-- equal answers have equal values
 pub same_ok : {A : Type 0} (x y : A) → ◌≡◌ {A = Result A FileError} (Ok x) (Ok y) → x ≡ y
 same_ok x y same = cc
 
--- a fault where a test holds, or where it doesn't
+-- a fault where a test holds: an answer says that it doesn't
 pub unless : {A : Type 0} (b : Bool) (fault : FileError) (x y : A) →
     cond b (Err fault) (Ok x) ≡ Ok y →
     (b ≡ false) × (x ≡ y)
 unless true fault x y same = absurd cc
 unless false fault x y same = (refl, same_ok x y same)
 
+-- a fault where a test doesn't hold: an answer says that it does
 pub only_if : {A : Type 0} (b : Bool) (fault : FileError) (x y : A) →
     cond b (Ok x) (Err fault) ≡ Ok y →
     (b ≡ true) × (x ≡ y)
@@ -55,6 +57,7 @@ IsBytes-before bytes front rest split are_bytes =
 
 -- ---- parts
 
+-- a part of so many bytes was in front of the rest
 pub part_taken : (size : ℕ) (bytes part rest : List ℕ) →
     part_of size bytes ≡ Ok (part, rest) →
     (length part ≡ size) × (bytes ≡ part ++ rest)
@@ -66,6 +69,7 @@ part_taken size bytes part rest read =
     subst (λ (got : List ℕ × List ℕ). (length got.0 ≡ size) × (bytes ≡ got.0 ++ got.1)) same
     (taken, sym (take-append-drop size bytes))
 
+-- a part's length was in front of the rest, in four bytes
 pub length_taken : (bytes : List ℕ) (size : ℕ) (rest : List ℕ) →
     IsBytes bytes → part_length_at bytes ≡ Ok (size, rest) →
     (size < 2 ^ 32) × (bytes ≡ little_bytes 4 size ++ rest)
@@ -82,6 +86,7 @@ length_taken bytes size rest are_bytes read =
     subst (λ (got : ℕ × List ℕ). (got.0 < 2 ^ 32) × (bytes ≡ little_bytes 4 got.0 ++ got.1))
     (same_ok made (size, rest) answer) (below_4 four four_bytes, text)
 
+-- a part was in front of the rest, behind its length
 pub counted_taken : (bytes part rest : List ℕ) →
     IsBytes bytes → counted_part_at bytes ≡ Ok (part, rest) →
     (length part < 2 ^ 32) × (bytes ≡ counted_part part ++ rest)
@@ -105,6 +110,7 @@ counted_bytes bytes part rest split are_bytes =
 
 -- ---- meta
 
+-- a meta that is taken was decoded, and its range isn't reversed
 ranged : (decoded : Option FrameMeta) (meta : FrameMeta) →
     meta_with_range decoded ≡ Ok meta →
     (decoded ≡ Some meta) × (is_valid_range_at meta.range_ns.0 meta.range_ns.1 ≡ true)
@@ -113,11 +119,13 @@ ranged (Some x) meta read =
     let (valid, same) = only_if (is_valid_range_at x.range_ns.0 x.range_ns.1) file.BadRange x meta read in
     (ap Some same, subst (λ (m : FrameMeta). is_valid_range_at m.range_ns.0 m.range_ns.1 ≡ true) same valid)
 
+-- these bytes are the part of a meta and the rest
 pub record MetaTaken (bytes : List ℕ) (meta : FrameMeta) (rest : List ℕ) : Type 0 where
   pub fits : IsMeta meta
   pub range : is_valid_range_at meta.range_ns.0 meta.range_ns.1 ≡ true
   pub text : bytes ≡ counted_part (meta_layout meta) ++ rest
 
+-- so they are where one is read
 pub meta_taken : (bytes : List ℕ) (meta : FrameMeta) (rest : List ℕ) →
     IsBytes bytes → meta_part_at bytes ≡ Ok (meta, rest) →
     MetaTaken bytes meta rest
@@ -138,11 +146,13 @@ meta_taken bytes meta rest are_bytes read =
 
 -- ---- the kind
 
+-- a list of one item is that item
 one_item : (xs : List ℕ) → length xs ≡ 1 → xs ≡ slice_index xs 0 ∷ []
 one_item [] one = absurd (omega arith)
 one_item (x ∷ []) one = refl
 one_item (x ∷ y ∷ xs) one = absurd (omega arith)
 
+-- a byte was in front of the rest
 first_taken : (bytes : List ℕ) (byte : ℕ) (rest : List ℕ) → first_at bytes ≡ Ok (byte, rest) → bytes ≡ byte ∷ rest
 first_taken bytes byte rest read =
     let ((part, after), read_part, answer) =
@@ -153,6 +163,7 @@ first_taken bytes byte rest read =
     split ∙ ap (λ (front : List ℕ). front ++ after) (one_item part one) in
     subst (λ (got : ℕ × List ℕ). bytes ≡ got.0 ∷ got.1) (same_ok made (byte, rest) answer) text
 
+-- a byte that gives a kind is that kind's byte
 kind_given : (byte : ℕ) (kind : Kind) → kind_from byte ≡ Ok kind → byte ≡ to_byte kind
 kind_given byte kind read =
     by_test byte kind (eqb byte 0) (eqb byte 1) (eqb byte 2) (eqb-true byte 0) (eqb-true byte 1) (eqb-true byte 2) read
@@ -166,6 +177,7 @@ kind_given byte kind read =
     by_test byte kind false false true is_0 is_1 is_2 read = is_2 refl ∙ ap to_byte (same_ok Zstd kind read)
     by_test byte kind false false false is_0 is_1 is_2 read = absurd cc
 
+-- a kind's byte was in front of the rest
 pub kind_taken : (bytes : List ℕ) (kind : Kind) (rest : List ℕ) →
     given_kind_at bytes ≡ Ok (kind, rest) →
     bytes ≡ to_byte kind ∷ rest
@@ -180,17 +192,20 @@ kind_taken bytes kind rest read =
 
 -- ---- details
 
+-- details that are taken were decoded
 given_from : (decoded : Option (List Details)) (details : List Details) →
     details_from decoded ≡ Ok details →
     decoded ≡ Some details
 given_from None details read = absurd cc
 given_from (Some x) details read = ap Some (same_ok x details read)
 
+-- these bytes are the part of a list of details and the rest
 pub record DetailsTaken (bytes : List ℕ) (details : List Details) (rest : List ℕ) : Type 0 where
   pub fits : AreDetails details
   pub short : length (details_layout details) < 2 ^ 32
   pub text : bytes ≡ counted_part (details_layout details) ++ rest
 
+-- so they are where one is read
 pub details_taken : (bytes : List ℕ) (details : List Details) (rest : List ℕ) →
     IsBytes bytes → given_details_at bytes ≡ Ok (details, rest) →
     DetailsTaken bytes details rest
@@ -213,6 +228,7 @@ details_taken bytes details rest are_bytes read =
 
 -- ---- a legacy frame
 
+-- a legacy frame that is taken was decoded, and its range isn't reversed
 legacy_ranged : (decoded : Option Legacy) (frame : Legacy) →
     legacy_with_range decoded ≡ Ok frame →
     (decoded ≡ Some frame) × (is_valid_range_at frame.meta.range_ns.0 frame.meta.range_ns.1 ≡ true)
@@ -221,12 +237,14 @@ legacy_ranged (Some x) frame read =
     let (valid, same) = only_if (is_valid_range_at x.meta.range_ns.0 x.meta.range_ns.1) file.BadRange x frame read in
     (ap Some same, subst (λ (f : Legacy). is_valid_range_at f.meta.range_ns.0 f.meta.range_ns.1 ≡ true) same valid)
 
+-- these bytes are a legacy frame of this size and the rest
 pub record LegacyTaken (size : ℕ) (bytes : List ℕ) (frame : Legacy) (rest : List ℕ) : Type 0 where
   pub fits : IsLegacy frame
   pub range : is_valid_range_at frame.meta.range_ns.0 frame.meta.range_ns.1 ≡ true
   pub size_is : length (legacy_layout frame) ≡ size
   pub text : bytes ≡ legacy_layout frame ++ rest
 
+-- so they are where one is read
 pub legacy_taken : (size : ℕ) (bytes : List ℕ) (frame : Legacy) (rest : List ℕ) →
     IsBytes bytes → legacy_part_at size bytes ≡ Ok (frame, rest) →
     LegacyTaken size bytes frame rest

@@ -176,7 +176,8 @@ pub record IsRefusedBy {A : Type 0} (result : Result A Error) (there report : St
 
 -- what has no bytes is like all
 pub none_unlike : (info facts : StreamFacts) → info ≡ no_scopes → AreUnlike info facts → ⊥
-none_unlike info facts none apart = let bytes = ap (λ (r : StreamFacts). length r.bytes) none in omega (arith, bytes, apart.0)
+none_unlike info facts none (has_bytes, _, _) =
+    let no_bytes = ap (λ (any : StreamFacts). length any.bytes) none in omega (arith, no_bytes, has_bytes)
 
 module _ {A : Type 0} where
   -- the same of equal results and equal infos
@@ -204,5 +205,5 @@ module _ {A : Type 0} where
       let zero = ap (λ (n : StreamFacts). n.num_scopes) none in
       record {
         unlike = (λ is. absurd (unlike is), λ apart. absurd (none_unlike info facts none apart));
-        too_large = (λ is. absurd (large is), λ over. absurd (omega (arith, zero, fits, over.1)));
+        too_large = (λ is. absurd (large is), λ (_, over). absurd (omega (arith, zero, fits, over)));
       }

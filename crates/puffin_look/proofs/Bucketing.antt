@@ -81,10 +81,6 @@ below_in (suc n) time = elim (cases_lt time 256) [
   | inr large ↦ omega (arith, halved_in n time large, below_in n (time / 2))
 ]
 
--- a bucket isn't above a duration in it
-pub bucket_below : (time : ℕ) → bucket_of time ≤ time
-bucket_below time = below_in time time
-
 -- a duration from 128 on is in no lower bucket
 not_low_in : (n time : ℕ) → 128 ≤ time → 128 ≤ bucket_in n time
 not_low_in zero time h = h

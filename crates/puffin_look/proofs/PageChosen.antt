@@ -1,6 +1,5 @@
 -- Which frames a page has, one frame after the other.
 use Rattle.std.proofs.Common.{◌≡◌, ℕ, ◌-◌, ◌^◌, ◌≤◌, false, List, [], ◌∷◌, ◌++◌, length, take, Option, Result, Ok, Err, inl, inr, refl, ap, sym, ◌∙◌}
-use Rattle.std.specs.Prelude.{fold}
 use Rattle.std.proofs.lemmas.List.{map-append}
 use Rattle.std.proofs.lemmas.List.Sums.{fold-append}
 use Rattle.puffin_data.specs.declared.file_error.FileError.{FileError}
@@ -13,7 +12,7 @@ use Rattle.puffin_frames.specs.Packet.Next.{stored_of, IsFresh}
 use Rattle.puffin_view.specs.View.ViewedFrames.{fields_of}
 use Rattle.puffin_view.specs.View.File.{frame_stored, file_at, FailsToRead}
 use Rattle.puffin_view.specs.View.FrameFile.{frame_at, HasGiven}
-use Rattle.puffin_look.specs.PageChoice.{row_of, rows_of, with_row, slowest, recent, Chosen, with_fitting, fitting, candidates, IsPageChoice}
+use Rattle.puffin_look.specs.PageChoice.{row_of, rows_of, with_row, slowest, recent, fitting, candidates, IsPageChoice}
 use Rattle.puffin_look.specs.inner.PageChoices.{AddsRow, HasRows, HasRowsOf, ReadsRows}
 use Rattle.puffin_look.specs.inner.Taken.{fails_outside}
 use Rattle.puffin_look.specs.declared.page_choice.PageLimits.{PageLimits}
@@ -88,9 +87,3 @@ chosen_of limits unread left v indices same h is = record {
   chosen = is ∙ (λ i. fitting v.limits.bytes (h.rows.slow i ++ h.rows.recent i))
       ∙ ap (λ (l : PageLimits). fitting l.bytes (candidates l (rows_of h.stored))) same;
 }
-
--- some rows, and then others
-pub both_added : (start : Chosen) (slow last : List Row) (mid end : Chosen) → mid ≡ fold with_fitting start slow
-    → end ≡ fold with_fitting mid last → end ≡ fold with_fitting start (slow ++ last)
-both_added start slow last mid end first second =
-    second ∙ ap (λ (c : Chosen). fold with_fitting c last) first ∙ sym (fold-append with_fitting start slow last)

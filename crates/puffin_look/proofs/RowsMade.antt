@@ -1,5 +1,5 @@
 -- Rows that were made of names, one after the other.
-use Rattle.std.proofs.Common.{◌≡◌, List, [], ◌∷◌, ◌++◌, refl, sym, ap, subst, ◌∙◌, append_assoc, append-nil}
+use Rattle.std.proofs.Common.{◌≡◌, List, [], ◌∷◌, ◌++◌, sym, ap, subst, ◌∙◌, append_assoc}
 use Rattle.puffin_look.specs.inner.Tallies.{Held, row_of, rows_in}
 use Rattle.puffin_look.specs.inner.Tops.{HasTally, HaveTallies}
 use Rattle.puffin_look.specs.declared.top.TopRow.{TopRow}
@@ -9,10 +9,6 @@ pub record AreMade (rows : List TopRow) (left all : List Held) : Type 0 where
   pub done : List Held
   pub all_are : all ≡ done ++ left
   pub rows_are : HaveTallies (rows_in done) rows
-
--- no row yet
-pub made_none : (all : List Held) → AreMade [] all all
-made_none all = record { done = []; all_are = refl; rows_are = tt }
 
 -- one row more
 one_made : (done : List Held) (rows : List TopRow) (e : Held) (row : TopRow) → HaveTallies (rows_in done) rows
@@ -30,9 +26,3 @@ made_more rows new left rest all e row next h one is = record {
   all_are = h.all_are ∙ ap (λ (es : List Held). h.done ++ es) next ∙ sym (append_assoc h.done (e ∷ []) rest);
   rows_are = subst (HaveTallies (rows_in (h.done ++ e ∷ []))) (sym is) (one_made h.done rows e row h.rows_are one);
 }
-
--- a row of each name
-pub made_all : (rows : List TopRow) (left all : List Held) → left ≡ [] → AreMade rows left all → HaveTallies (rows_in all) rows
-made_all rows left all none h =
-    subst (λ (es : List Held). HaveTallies (rows_in es) rows)
-    (sym (h.all_are ∙ ap (λ (es : List Held). h.done ++ es) none ∙ append-nil h.done)) h.rows_are

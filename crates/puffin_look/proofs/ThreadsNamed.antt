@@ -1,16 +1,16 @@
 -- Threads that are found by their names.
-use Rattle.std.proofs.Common.{◌≡◌, Bool, false, ℕ, List, [], ◌∷◌, ◌++◌, length, refl, arith, map, filter, Option, Result, ap, sym, ◌∙◌, append-nil}
+use Rattle.std.proofs.Common.{◌≡◌, Bool, false, ℕ, List, [], ◌++◌, map, filter, Option, Result, ap, sym, ◌∙◌, append-nil}
 use Rattle.std.specs.Map.{keys_of}
 use Rattle.std.specs.List.Sorted.{IsStrictlySortedBy}
 use Rattle.std.specs.FinMap as tree
 use Rattle.puffin_data.specs.declared.file_error.FileError.{FileError}
 use Rattle.puffin_threads.specs.declared.thread_profiler.thread_info.ThreadInfo.{ThreadInfo}
-use Rattle.puffin_threads.specs.Thread.ThreadKey.{ThreadKey, key_of, thread_cmp, by_key, key_entries}
+use Rattle.puffin_threads.specs.Thread.ThreadKey.{ThreadKey, thread_cmp, by_key, key_entries}
 use Rattle.puffin_frames.proofs.lemmas.Keyed.{entries-by_key}
 use Rattle.puffin_view.specs.declared.thread_totals.ThreadTotals.{ThreadTotals}
 use Rattle.puffin_view.specs.declared.thread_totals.AllTotals.{AllTotals}
 use Rattle.puffin_view.specs.ThreadTotals.{Totals}
-use Rattle.puffin_look.specs.ThreadNames.{or_else, threads_named, AreNamed}
+use Rattle.puffin_look.specs.ThreadNames.{threads_named, AreNamed}
 use Rattle.puffin_look.specs.inner.Taken.{fails_outside}
 use Rattle.puffin_look.proofs.ThreadsPrinted.{Ends, read_to_end}
 
@@ -48,15 +48,3 @@ module _ (old new : AllTotals) (unread left before mid : Option (List ℕ)) (emp
         end = end;
         are = named_in _ read.totals;
       }
-
--- the first that are found count
-pub first_some : (found : List ThreadInfo) (some others : List ThreadKey) → map key_of found ≡ some → (length found ≡ 0 → ⊥)
-    → map key_of found ≡ or_else some others
-first_some [] some others is any = absurd (any refl)
-first_some (x ∷ xs) some others is any = ap (λ (ks : List ThreadKey). or_else ks others) is
-
--- nothing was found, so the others count
-pub first_none : (found : List ThreadInfo) (some others : List ThreadKey) → map key_of found ≡ some → length found ≡ 0
-    → others ≡ or_else some others
-first_none [] some others is none = ap (λ (ks : List ThreadKey). or_else ks others) is
-first_none (x ∷ xs) some others is none = absurd (omega (arith, none))

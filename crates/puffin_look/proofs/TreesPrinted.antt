@@ -5,13 +5,13 @@ use Rattle.std.specs.List.{flat_map}
 use Rattle.puffin_data.specs.declared.file_error.FileError.{FileError}
 use Rattle.puffin_threads.specs.Details.Collection.{Collection}
 use Rattle.puffin_look.specs.OpenFrame.{OpenFrame}
-use Rattle.puffin_look.specs.Printed.{IsPrinted, IsStopped}
+use Rattle.puffin_look.specs.Printed.{IsStopped}
 use Rattle.puffin_look.specs.Trees.{AreUnread}
 use Rattle.puffin_look.specs.Wanted.{frames_within, wanted_streams, RefusesTaken}
 use Rattle.puffin_look.specs.declared.wanted.Wanted.{Wanted}
-use Rattle.puffin_look.specs.FrameTree.{trees_text, IsFrameText}
+use Rattle.puffin_look.specs.FrameTree.{trees_text, found_in, IsFrameText}
 use Rattle.puffin_look.specs.inner.FrameTrees.{TakesTrees, RefusesFrame, IsAnyFrameText}
-use Rattle.puffin_look.specs.inner.Listings.{ListsAll, StopsListing}
+use Rattle.puffin_look.specs.inner.Listings.{StopsListing}
 use Rattle.puffin_look.specs.declared.frame_tree.Trees.{Trees}
 use Rattle.puffin_look.proofs.Listed.{stopped}
 
@@ -27,34 +27,22 @@ module _ (old new : Trees) (empty : text_in old ≡ []) (k : Collection) (none :
   shown_text frames more v taken = (
     taken.trees,
     taken.read,
-    ap (λ (t : List ℕ). t ++ more) empty ∙ taken.is ∙ ap (λ (k : Collection). flat_map (trees_text k) taken.trees) none,
-    taken.found ∙ ap (λ (b : Bool). Rattle.puffin_look.specs.FrameTree.found_in b taken.trees) unfound,
+    ap (λ (any : List ℕ). any ++ more) empty
+        ∙ taken.is
+        ∙ ap (λ (any : Collection). flat_map (trees_text any) taken.trees) none,
+    taken.found ∙ ap (λ (any : Bool). found_in any taken.trees) unfound,
   )
 
   -- printing the file failed
   pub frames_stopped : (unread left before after : Option (List ℕ)) (e : FileError)
       → StopsListing text_in TakesTrees RefusesFrame old.wanted.now.frames old new unread left before after e
       → IsStopped (IsAnyFrameText k old.wanted.now) (RefusesTaken old.wanted.now) unread left before after e
-  frames_stopped unread left before after e h =
+  frames_stopped unread left before after e stops =
       stopped text_in TakesTrees old.wanted.now.frames RefusesFrame (IsAnyFrameText k old.wanted.now)
       (RefusesTaken old.wanted.now) old new unread left before after e
       (λ frames more v taken. (v.is_found, shown_text frames more v taken))
       (λ frames more v frame cause taken there refused. (
         there,
-        subst (λ (w : Wanted). AreUnread (wanted_streams w frame) cause)
-            (ap (λ (w : Bor Wanted). w.now) taken.wanted) refused,
-      )) h
-
-  -- all frames were printed
-  pub frames_printed : (unread left before after : Option (List ℕ))
-      → ListsAll text_in TakesTrees old.wanted.now.frames old new unread left before after
-      → IsPrinted (IsFrameText k old.wanted.now new.is_found) unread left before after
-  frames_printed unread left before after h = record {
-    stored = h.stored;
-    took = h.took;
-    frames = h.listed.frames;
-    opens = h.listed.opens;
-    text = text_in old ++ h.more;
-    is = shown_text h.listed.frames h.more new h.listed.taken;
-    written = h.written;
-  }
+        subst (λ (any : Wanted). AreUnread (wanted_streams any frame) cause)
+            (ap (λ (lent : Bor Wanted). lent.now) taken.wanted) refused,
+      )) stops

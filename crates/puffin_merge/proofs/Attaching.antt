@@ -15,7 +15,7 @@ use Rattle.puffin_merge.specs.declared.merge.table.Node.{Node}
 use Rattle.puffin_merge.specs.declared.merge.tree.OrderedNode.{OrderedNode}
 use Rattle.puffin_merge.specs.declared.merge.tree.Placement.{Placement}
 use Rattle.puffin_merge.specs.Merge.Occurrences.{Occurrence}
-use Rattle.puffin_merge.specs.Merge.Tree.{MergedForest, no_node, merged}
+use Rattle.puffin_merge.specs.Merge.Tree.{MergedForest, merged}
 use Rattle.puffin_merge.specs.Merge.Tree as forests
 use Rattle.puffin_merge.specs.Merge.Refusals.{EndsFit}
 use Rattle.puffin_merge.specs.Merge.Scopes.{scope_then, children_in, forest_in}

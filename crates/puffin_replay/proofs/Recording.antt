@@ -1,6 +1,6 @@
 -- A view takes the frames of replies one after another; and what recording a run, or running a script, leaves where it fails.
 use Rattle.std.proofs.Common.{◌≡◌, ◌⊎◌, inl, inr, ℕ, ◌+◌, ◌<◌, List, [], ◌∷◌, ◌++◌, length, take, drop, get_or, map, refl, sym, ap, ◌∙◌, subst, append_assoc, append-nil, Option, None, Some, Result, Err, All, ◌↔◌, true, false}
-use Rattle.std.specs.Prelude.{Bool, false, is_none, IsSome}
+use Rattle.std.specs.Prelude.{Bool, is_none, IsSome}
 use Rattle.std.specs.List.{flat_map, list_any, AllByRecursion, Any}
 use Rattle.std.proofs.lemmas.List.Folds.{list_any-append, list_any_none}
 use Rattle.std.proofs.lemmas.Grind.{flat_map-append}

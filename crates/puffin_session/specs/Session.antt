@@ -6,7 +6,7 @@ pub mod Notes
 pub mod Actions
 pub mod Replies
 pub mod Runs
-use Rattle.std.specs.Prelude.{◌≡◌, ℕ, ◌+◌, ◌<◌, List, [], length, map, Option, Some, None}
+use Rattle.std.specs.Prelude.{◌≡◌, ℕ, ◌<◌, List, length, map, Option, Some, None}
 use Rattle.std.specs.List.{slice_index_or}
 use Rattle.std.specs.FinMap.{entries, get}
 use Rattle.puffin_data.specs.declared.data.form.Form.{Form}

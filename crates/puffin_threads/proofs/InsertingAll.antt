@@ -32,27 +32,29 @@ pub id_at : {A : Type 0} (details : List (Arc ScopeDetails A)) (i : ℕ) (item c
     list_any lacks_id (shared_details details) ≡ false → i < length details → item ≡ get_or details i item →
     arc_value copy ≡ arc_value item →
     IsSome (details_of (arc_value copy)).id
-id_at details i item copy none lt is same =
-    let f : Arc ScopeDetails _ → Details = λ d. details_of (arc_value d) in
+id_at details i item copy none inside is same =
+    let said : Arc ScopeDetails _ → Details = λ shared. details_of (arc_value shared) in
     let all : AllHaveIds (shared_details details) = none_lacks (shared_details details) none in
-    subst (λ (v : ScopeDetails). IsSome (details_of v).id) (sym same)
-    (subst (λ (e : Details). IsSome e.id) (get_or-map f details i item (f item) lt ∙ ap f (sym is))
-    (All-get_or (λ e. IsSome e.id) (shared_details details) i (f item) (omega (arith, lt, length-map details f)) all))
+    let in_list =
+    All-get_or (λ one. IsSome one.id) (shared_details details) i (said item) (omega (arith, inside, length-map details said)) all in
+    let of_item = subst (λ (one : Details). IsSome one.id) (get_or-map said details i item (said item) inside ∙ ap said (sym is)) in_list in
+    subst (λ (value : ScopeDetails). IsSome (details_of value).id) (sym same) of_item
 
 -- the only refusal of details that have an id
 pub memory_alone : {T : Type 0} (r : Result T Error) (cause : Error) (details : Details) →
     IsSome details.id → r ≡ Err cause → ((r ≡ Err MissingId) ↔ (details.id ≡ None)) →
     (cause ≡ MissingId) ⊎ (cause ≡ Memory) →
     cause ≡ Memory
-memory_alone r cause details some is missing (inl none) =
-    absurd (no_id (subst (λ (o : Option ℕ). IsSome o) (missing.0 (is ∙ ap Err none)) some))
+memory_alone r cause details some is (missing_has_none, _) (inl missing) =
+    absurd (no_id (subst (λ (id : Option ℕ). IsSome id) (missing_has_none (is ∙ ap Err missing)) some))
   where
     no_id : IsSome {T = ℕ} None → ⊥
-    no_id cause = cc
+    no_id some = cc
 memory_alone r cause details some is missing (inr memory) = memory
 
 -- ---- lists of details
 
+-- the first details of a list are a prefix of it
 beginning : {A : Type 0} (details : List (Arc ScopeDetails A)) (i : ℕ) →
     IsPrefix (shared_details (take i details)) (shared_details details)
 beginning details i = (

@@ -1,5 +1,5 @@
 -- A report of what waits, before a scope begins, adds nothing to a thread.
-use Rattle.std.proofs.Common.{◌≡◌, ◌⊎◌, ℕ, zero, suc, ℤ, Bool, true, false, cond, List, [], ◌∷◌, ◌++◌, Option}
+use Rattle.std.proofs.Common.{◌≡◌, ◌⊎◌, ℤ, Bool, true, false, cond, List, [], ◌∷◌, ◌++◌, Option}
 use Rattle.std.proofs.Common.{Some, None, Result, Ok, Err, inl, inr, refl, sym, ap, ◌∙◌, subst, arith}
 use Rattle.std.specs.FinMap.{get, insert, get-insert}
 use Rattle.std.proofs.lemmas.List.{append-nil}
@@ -24,7 +24,7 @@ use Rattle.puffin.specs.LightThread.{profiler_of, reporter_of}
 use Rattle.puffin.specs.Places.{num_known}
 use Rattle.puffin.specs.Guards.{MakesRoom}
 use Rattle.puffin.proofs.lemmas.StartedThreads.{HasStarted, stays_started}
-use Rattle.puffin_accounts.specs.Moments.{Moment, moment_by, num_open, key_at, Sees}
+use Rattle.puffin_accounts.specs.Moments.{Moment, moment_by, key_at, Sees}
 use Rattle.puffin_accounts.specs.Times.{first_start_in}
 use Rattle.puffin_accounts.specs.Adding.{SpellsEvents, AddsScopes}
 use Rattle.puffin_accounts.proofs.lemmas.Times.{has_start, same_start, timed_still}

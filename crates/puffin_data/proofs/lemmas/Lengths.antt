@@ -9,6 +9,7 @@ use Rattle.puffin_data.specs.declared.data.form.Form.TheVariants.{Short, Long}
 use Rattle.puffin_data.specs.Text.Lengths.{stored_limit, text_limit, length_layout, text_room, length_at, length_or_none, with_second_group}
 use Rattle.puffin_data.proofs.lemmas.Numbers.{IsBytes}
 
+-- what reading a length gives: it and the number of its bytes, or a fault
 abbrev Length : Type 0
 Length = Result (ℕ × ℕ) Error
 
@@ -23,6 +24,7 @@ limit_stored Long text short = short
 
 -- ---- a layout is read again
 
+-- in the long form: of one byte, or of two groups of seven bits, the lower one first
 groups_again : (size : ℕ) (rest : List ℕ) (is_one : Bool) → ltb size 128 ≡ is_one → size ≤ 16383
     → length_at Long (groups size is_one ++ rest) ≡ Ok (size, length (groups size is_one))
 unfolding length_at
@@ -34,6 +36,7 @@ groups_again size rest false lt fits =
     let sum : 128 + size % 128 - 128 + 128 * (size / 128) ≡ size = omega arith in
     rw (two, some, last, sum) refl
 
+-- a length that can be stored is read from its layout, whatever comes behind
 pub length_again : (form : Form) (size : ℕ) (rest : List ℕ) → size ≤ stored_limit form
     → length_at form (length_layout form size ++ rest) ≡ Ok (size, length (length_layout form size))
 unfolding length_at length_layout
@@ -42,6 +45,7 @@ length_again Long size rest fits = groups_again size rest (ltb size 128) refl fi
 
 -- ---- how many bytes a layout has
 
+-- one byte or two
 pub record Sizes (size : ℕ) : Type 0 where
   pub least : 1 ≤ size
   pub most : size ≤ 2
@@ -76,7 +80,7 @@ short_room text = refl
 pub long_room : (text : List ℕ) → text_room Long text ≤ 2 + length text
 long_room text = omega (arith, (layout_size Long (length text)).most)
 
--- a length takes a byte at least
+-- what reading a length says it took, also in place of a fault, is a byte at least: with a second byte
 second_least : (low : ℕ) (rest : List ℕ) → 1 ≤ (length_or_none (with_second_group low rest)).1
 second_least low [] = omega arith
 second_least low (high ∷ rest) = wrong_or_two ((high == 0) || nat_le 128 high) (low + 128 * high)
@@ -85,11 +89,13 @@ second_least low (high ∷ rest) = wrong_or_two ((high == 0) || nat_le 128 high)
     wrong_or_two true size = omega arith
     wrong_or_two false size = omega arith
 
+-- by the first byte
 first_least : (is_one : Bool) (low : ℕ) (rest : List ℕ)
     → 1 ≤ (length_or_none (cond is_one (Ok (low, 1)) (with_second_group (low - 128) rest))).1
 first_least true low rest = omega arith
 first_least false low rest = second_least (low - 128) rest
 
+-- in both forms
 pub used_least : (form : Form) (bytes : List ℕ) → 1 ≤ (length_or_none (length_at form bytes)).1
 unfolding length_at
 used_least form [] = omega arith
@@ -98,11 +104,13 @@ used_least Long (low ∷ rest) = first_least (ltb low 128) low rest
 
 -- ---- what is read is a layout
 
+-- these bytes begin with the layout of a length that can be stored, of which so many bytes were read
 pub record IsLength (form : Form) (bytes : List ℕ) (len used : ℕ) : Type 0 where
   pub spelled : bytes ≡ length_layout form len ++ drop used bytes
   pub fits : len ≤ stored_limit form
   pub size : used ≡ length (length_layout form len)
 
+-- a fault is no length, and equal answers have equal parts
 err_is_not : (fault : Error) (size used : ℕ) → ◌≡◌ {A = Length} (Err fault) (Ok (size, used)) → ⊥
 err_is_not fault size used same = cc
 
@@ -112,6 +120,7 @@ same_number size other used other_used same = ap (λ (any : Length). (length_or_
 same_used : (size other used other_used : ℕ) → ◌≡◌ {A = Length} (Ok (size, used)) (Ok (other, other_used)) → used ≡ other_used
 same_used size other used other_used same = ap (λ (any : Length). (length_or_none any).1) same
 
+-- the short form: one byte
 one_byte : (low size used : ℕ) (rest : List ℕ) → low < 256 → ◌≡◌ {A = Length} (Ok (low, 1)) (Ok (size, used))
     → IsLength Short (low ∷ rest) size used
 unfolding length_layout
@@ -124,6 +133,7 @@ one_byte low size used rest fits is =
       size = sym used_is;
     }
 
+-- the long form: one byte below 128
 one_group_read : (low size used : ℕ) (rest : List ℕ) → ltb low 128 ≡ true → ◌≡◌ {A = Length} (Ok (low, 1)) (Ok (size, used))
     → IsLength Long (low ∷ rest) size used
 unfolding length_layout
@@ -137,6 +147,7 @@ one_group_read low size used rest fits_one is =
       size = rw small (sym used_is);
     }
 
+-- the long form: the lower seven bits in a byte from 128 on, and the others in one below 128 that isn't 0
 two_groups : (low high size used : ℕ) (rest : List ℕ) → low < 256 → ltb low 128 ≡ false → eqb high 0 ≡ false → leb 128 high ≡ false
     → ◌≡◌ {A = Length} (Ok (low - 128 + 128 * high, 2)) (Ok (size, used)) → IsLength Long (low ∷ high ∷ rest) size used
 unfolding length_layout
@@ -154,6 +165,7 @@ two_groups low high size used rest fits not_one not_zero is_last is =
       size = rw great (sym used_is);
     }
 
+-- by the two tests of the second byte
 second_read : (low high size used : ℕ) (rest : List ℕ) (none more : Bool) → eqb high 0 ≡ none → leb 128 high ≡ more → low < 256
     → ltb low 128 ≡ false
     → ◌≡◌ {A = Length} (cond (none || more) (Err InvalidStream) (Ok (low - 128 + 128 * high, 2))) (Ok (size, used))
@@ -163,18 +175,20 @@ second_read low high size used rest false true zero_test last_test fits not_one 
 second_read low high size used rest false false zero_test last_test fits not_one is =
     two_groups low high size used rest fits not_one zero_test last_test is
 
+-- by whether there is a second byte
 after_first : (low size used : ℕ) (rest : List ℕ) → IsBytes (low ∷ rest) → ltb low 128 ≡ false
     → with_second_group (low - 128) rest ≡ Ok (size, used) → IsLength Long (low ∷ rest) size used
 after_first low size used [] fits not_one is = absurd (err_is_not PrematureEnd size used is)
 after_first low size used (high ∷ rest) fits not_one is =
     second_read low high size used rest (eqb high 0) (leb 128 high) refl refl (fits 0) not_one is
 
+-- by whether the first byte is the only one
 first_read : (low size used : ℕ) (rest : List ℕ) (is_one : Bool) → ltb low 128 ≡ is_one → IsBytes (low ∷ rest)
     → cond is_one (Ok (low, 1)) (with_second_group (low - 128) rest) ≡ Ok (size, used) → IsLength Long (low ∷ rest) size used
 first_read low size used rest true one_test fits is = one_group_read low size used rest one_test is
 first_read low size used rest false one_test fits is = after_first low size used rest fits one_test is
 
--- by the first byte, and in the long form by the second
+-- a length that was read: its bytes are its layout
 pub length_read : (form : Form) (bytes : List ℕ) (size used : ℕ) → IsBytes bytes → length_at form bytes ≡ Ok (size, used)
     → IsLength form bytes size used
 unfolding length_at
@@ -184,6 +198,7 @@ length_read Long (low ∷ rest) size used fits is = first_read low size used res
 
 -- ---- no layout begins another
 
+-- equal bytes begin with the same length, since reading them gives one
 pub no_length_begins_another : (form : Form) (size other : ℕ) (rest other_rest : List ℕ) → size ≤ stored_limit form
     → other ≤ stored_limit form → length_layout form size ++ rest ≡ length_layout form other ++ other_rest
     → (size ≡ other) × (rest ≡ other_rest)

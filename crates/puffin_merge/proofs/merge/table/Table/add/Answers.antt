@@ -16,38 +16,40 @@ use Rattle.puffin_merge.proofs.merge.table.Table.add.Goals as goal
 
 pub returns-in_err-add_piece-in-Some-clause-err : goal.returns-in_err-add_piece-in-Some-clause-err
 returns-in_err-add_piece-in-Some-clause-err c =
-    let p = err_from_is_err_and c.from_residual.result c.from_residual.ensures.1 in
-    rw (p.1, p.2)
+    let (cause, is_err, same_cause) = err_from_is_err_and c.from_residual.result c.from_residual.ensures.1 in
+    let (positive, inside, has_label) = c.in-Some.ensures.some in
+    let (too_large, no_fit) = c.in_err-add_piece-in-Some.ensures.err in
+    rw (is_err, same_cause)
     (inr (
-      c.in_err-add_piece-in-Some.ensures.err.0,
-      grown_refused c.args.self.now c.args.key.parent.number
-          (ref_label c.args.key) c.args.own_start c.args.duration c.in-Some.number.number c.in-Some.ensures.some.0
-          c.in-Some.ensures.some.1 c.in-Some.ensures.some.2 c.in_err-add_piece-in-Some.ensures.err.1,
+      too_large,
+      grown_refused c.args.self.now c.args.key.parent.number (ref_label c.args.key) c.args.own_start c.args.duration
+          c.in-Some.number.number positive inside has_label no_fit,
     ))
 
 pub returns-in_ok-add_piece-in-Some-clause-ok : goal.returns-in_ok-add_piece-in-Some-clause-ok
 returns-in_ok-add_piece-in-Some-clause-ok c =
+    let (positive, inside, has_label) = c.in-Some.ensures.some in
     adds_grown c.args.self.now c.add_piece.new.self c.args.key.parent.number (ref_label c.args.key) c.args.own_start
-    c.args.duration c.in-Some.number.number c.requires.table c.in-Some.ensures.some.0 c.in-Some.ensures.some.1
-    c.in-Some.ensures.some.2
+    c.args.duration c.in-Some.number.number c.requires.table positive inside has_label
     (rw (to_z-of_z w64 c.args.own_start c.ranges.own_start) at c.in_ok-add_piece-in-Some.ensures.ok)
 
--- a new node, where it could be made
-made : (t u : Table) (key : Key) (label : Label) (own_start : ℤ) (duration : ℕ) (r : Result NodeNumber Error)
+-- a new node is the first piece of its label, where it could be made
+made : (t u : Table) (key : Key) (label : Label) (own_start : ℤ) (duration : ℕ) (result : Result NodeNumber Error)
     → key_label key ≡ label → 0 < key.id → key.parent.number ≤ vec_len t.nodes → duration < 2 ^ 63
     → ((j : ℕ) → j < vec_len t.nodes → HasLabel t.nodes.items j key.parent.number label → ⊥)
-    → IfOk r (λ x. x.number ≡ vec_len t.nodes + 1)
-    → OnOk r (u.nodes.items ≡ t.nodes.items ++ (new_node key own_start duration ∷ []))
-    → IfOk r (λ x. AddsAt t (occurrence_at t key.parent.number label own_start duration) x.number u)
-made t u key label own_start duration (Ok x) e id parent small fresh number items =
-    subst (λ (l : Label). AddsAt t (occurrence_at t key.parent.number l own_start duration) x.number u) e
-    (adds_started t u key own_start duration x.number id parent small number (subst (λ (l : Label). (j : ℕ)
-    → j < vec_len t.nodes → HasLabel t.nodes.items j key.parent.number l → ⊥) (sym e) fresh) items)
-made t u key label own_start duration (Err f) e id parent small fresh number items = tt
+    → IfOk result (λ node. node.number ≡ vec_len t.nodes + 1)
+    → OnOk result (u.nodes.items ≡ t.nodes.items ++ (new_node key own_start duration ∷ []))
+    → IfOk result (λ node. AddsAt t (occurrence_at t key.parent.number label own_start duration) node.number u)
+made t u key label own_start duration (Ok node) same_label id parent small fresh number items =
+    subst (λ (any : Label). AddsAt t (occurrence_at t key.parent.number any own_start duration) node.number u) same_label
+    (adds_started t u key own_start duration node.number id parent small number (subst (λ (any : Label). (j : ℕ)
+    → j < vec_len t.nodes → HasLabel t.nodes.items j key.parent.number any → ⊥) (sym same_label) fresh) items)
+made t u key label own_start duration (Err fault) same_label id parent small fresh number items = tt
 
+-- the label of a key whose text was copied
 with_text : (asked : KeyRef) (bytes : _) → bytes ≡ asked.text.now
     → ◌≡◌ {A = Label} (record { id = asked.id; text = bytes }) (ref_label asked)
-with_text asked bytes e = λ i. record { id = asked.id; text = e i }
+with_text asked bytes same_text = λ i. record { id = asked.id; text = same_text i }
 
 pub returns-in_ok-text-in-None-clause-ok : goal.returns-in_ok-text-in-None-clause-ok
 returns-in_ok-text-in-None-clause-ok c =
