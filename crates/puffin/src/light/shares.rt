@@ -381,7 +381,8 @@ pub(crate) fn join_all<
     shares.push(share)?;
     shares.push(counted.share)?;
     for thread in started {
-        let ThreadReturn { counted, ended } = thread.join(rt)?;
+        let back = thread.join(rt)?;
+        let ThreadReturn { counted, ended } = back;
         failed = failed.or(failure(counts.len(), ended.result));
         shares.push(counted.share)?;
         counts.push(counted.counts)?;

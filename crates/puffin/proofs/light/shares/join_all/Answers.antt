@@ -7,7 +7,7 @@ use Rattle.puffin.proofs.light.shares.join_all.Goals as goal
 
 pub loop-thread-preserved : goal.loop-thread-preserved
 loop-thread-preserved g c =
-    let so_far = c.loop-thread in let i = so_far.invariant in let w = c.in_ok-counted in let kept = w.ensures in
+    let so_far = c.loop-thread in let i = so_far.invariant in let w = c.in_ok-back.back in let kept = c.in_ok-back.ensures in
     let taker = c.args.taker in let leader = c.args.counted in
     let failed = none_failed so_far.failed c.failure.result c.or-failed.result c.or-failed.ensures in
     let shares = c.in_ok-push-3.ensures.items in let counts = c.in_ok-push-4.ensures.items in
