@@ -194,7 +194,8 @@ left_over = record {
 -- A scope of 62 bytes, whose children end at 53. The child in it claims to end at 75.
 abbrev past : List ℕ
 past =
-    codes "(\u{1}\0\0\0\0\0\0\0\0\0\0\0\0\u{1f}\0\0\0\0\0\0\0(\u{2}\0\0\0\0\0\0\0\0\0\0\0\0\u{1f}\0\0\0\0\0\0\0)\0\0\0\0\0\0\0\0)\0\0\0\0\0\0\0\0"
+    codes "(\u{1}\0\0\0\0\0\0\0\0\0\0\0\0\u{1f}\0\0\0\0\0\0\0"
+    ++ codes "(\u{2}\0\0\0\0\0\0\0\0\0\0\0\0\u{1f}\0\0\0\0\0\0\0)\0\0\0\0\0\0\0\0)\0\0\0\0\0\0\0\0"
 
 abbrev past_found : FoundScope
 past_found =

@@ -37,8 +37,8 @@ a_module_s_lib :
     ≡ codes "cratename/" ++ (ellipsis ++ codes "/module/lib.rs")
 a_module_s_lib = refl
 
-an_example : short_file (codes "workspace/cratename/examples/hello_world.rs") ≡ codes "examples/hello_world.rs"
-an_example = refl
+a_file_in_examples : short_file (codes "workspace/cratename/examples/hello_world.rs") ≡ codes "examples/hello_world.rs"
+a_file_in_examples = refl
 
 a_file_of_the_compiler_s_library :
     short_file (codes "/rustc/d5a82bbd26e1ad8b7401f6a718a9c57c96905483/library/core/src/ops/function.rs")

@@ -1,4 +1,5 @@
 -- However the streams are held, the packet is that of the frame's fields.
+-- Only the beginning that a failed write leaves (begun) has to be told of the frame's parts. The last answer is for Both.
 use Rattle.std.proofs.Common.{rules}
 use Rattle.puffin_frames.proofs.frame_data.frame.FrameData.write_into.Goals as goal
 
