@@ -48,9 +48,10 @@ pieces_more done p name b is =
 row_more_by : (done : List Piece) (p : Piece) (name : List ℕ) (b : Bool) → bytes_eq p.name name ≡ b
     → row_with p (row_in done name) ≡ row_in (done ++ p ∷ []) name
 row_more_by done p name true is =
+    let counted = fold-append with_piece no_tally (pieces_of name done) (p ∷ []) in
+    let more = pieces_more done p name true is in
     ap (λ (t : Bool). if t then (name, with_piece (tally_in done name) p) else row_in done name) is
-    ∙ ap (λ (t : Counted). (name, t)) (sym (fold-append with_piece no_tally (pieces_of name done) (p ∷ []))
-    ∙ ap (fold with_piece no_tally) (sym (pieces_more done p name true is)))
+    ∙ ap (λ (t : Counted). (name, t)) (sym counted ∙ ap (fold with_piece no_tally) (sym more))
 row_more_by done p name false is =
     ap (λ (t : Bool). if t then (name, with_piece (tally_in done name) p) else row_in done name) is
     ∙ ap (λ (ps : List Piece). (name, fold with_piece no_tally ps))
@@ -93,7 +94,7 @@ named_by done name false is =
     ap (λ (t : Counted). table done ++ (name, t) ∷ []) (sym (ap (fold with_piece no_tally) none))
     ∙ sym (map_behind done (names_in done) name)
 
--- a name is there
+-- the table, with a row for this name if it had none, has the rows of the names with this one
 named : (done : List Piece) (name : List ℕ) → with_row (table done) name ≡ map (row_in done) (with_name (names_in done) name)
 named done name =
     ap (λ (ks : List (List ℕ)). if list_any (bytes_eq name) ks then table done else table done ++ (name, no_tally)
@@ -117,10 +118,6 @@ pub all_tallied : (all : List Piece) → fold with_piece_in [] all ≡ table all
 all_tallied all = table_more [] all
 
 -- ---- one name
-
--- a sum that was cut before stays cut
-min_more : (m a b c : ℕ) → min m (min m (a + b) + c) ≡ min m (a + (b + c))
-min_more m a b c = omega arith
 
 -- `u` is what `t` becomes by these pieces of one name
 pub record Grows (t : Counted) (ps : List Piece) (u : Counted) : Type 0 where
@@ -198,14 +195,14 @@ grows t (p ∷ ps) = grows_by t p ps p.is_call refl (λ v. grows v ps)
 pub tally_grows : (ps : List Piece) → Grows no_tally ps (fold with_piece no_tally ps)
 tally_grows ps = grows no_tally ps
 
--- a percentile is that of the calls
+-- the value at a rank among the counts of these pieces, at most the greatest duration, is that percentile of their calls
 pub percentile_is : (ps : List Piece) (percent value : ℕ)
     → let t = fold with_piece no_tally ps in value ≡ min (last_of (bucket_at t.1 (rank_of percent t.0.calls))) t.0.greatest
     → IsPercentile percent (call_times ps) value
 percentile_is ps percent value is = λ fits exact below ranked.
-    let h = grows no_tally ps in
+    let tallied = tally_grows ps in
     let times = call_times ps in
-    let calls : (fold with_piece no_tally ps).0.calls ≡ length times = omega (arith, h.calls (omega arith)) in
+    let calls : (fold with_piece no_tally ps).0.calls ≡ length times = omega (arith, tallied.calls (omega arith)) in
     is
-    ∙ (λ i. min (last_of (bucket_at (h.counts i) (rank_of percent (calls i)))) (h.greatest i))
+    ∙ (λ i. min (last_of (bucket_at (tallied.counts i) (rank_of percent (calls i)))) (tallied.greatest i))
     ∙ ap (λ (b : ℕ). min (last_of b) (fold max 0 times)) (bucket_ranked times (rank_of percent (length times)) exact ranked fits)
