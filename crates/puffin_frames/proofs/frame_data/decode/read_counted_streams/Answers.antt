@@ -16,18 +16,11 @@ streams-preserved c =
     let es = c.streams.streams.entries in
     let k = c.in_ok-thread.thread in
     let a = c.in_ok-new.field-0 in
-    let sorted : is_sorted key_cmp (pairs_of es ++ (key_of k, facts_of (arc_value a)) ∷ []) ≡ true =
-    c.comes_last.ensures.yes (facts_of (arc_value a)) c.streams.invariant.sorted c.if-not-comes_last.false in
-    let pushed =
-    ap pairs_of (c.in_ok-_before.ensures.entries ∙ insert-last es k a (facts_of (arc_value a)) [] sorted) ∙ listed-push es k a in
+    let sorted : is_sorted key_cmp (pairs_of es ++ (key_of k, facts_of (arc_value a)) ∷ []) ≡ true = c.comes_last.ensures.yes (facts_of (arc_value a)) c.streams.invariant.sorted c.if-not-comes_last.false in
+    let pushed = ap pairs_of (c.in_ok-_before.ensures.entries ∙ insert-last es k a (facts_of (arc_value a)) [] sorted) ∙ listed-push es k a in
     let whole : pairs_of c.insert.new.self.entries ≡ pairs_of es ++ (key_of k, facts_of c.in_ok-thread.info) ∷ [] =
     pushed ∙ ap (λ (r : StreamFacts). pairs_of es ++ (key_of k, r) ∷ []) (ap facts_of c.in_ok-new.ensures.ok) in
-    let all_read = times_at (stream_at c.args.packed) c.args.count c.args.cursor.now in
-    let read_more =
-    one_more (stream_at c.args.packed) (pairs_of es) c.args.count c.streams.counter c.streams.cursor
-    (key_of k, facts_of c.in_ok-thread.info) c.read_stream.new.cursor all_read c.streams-test.true c.in_ok-thread.ensures
-    c.streams.invariant.so_far in
     record {
-      so_far = rw whole read_more;
+      so_far = rw whole (one_more (stream_at c.args.packed) (pairs_of es) c.args.count c.streams.counter c.streams.cursor (key_of k, facts_of c.in_ok-thread.info) c.read_stream.new.cursor (times_at (stream_at c.args.packed) c.args.count c.args.cursor.now) c.streams-test.true c.in_ok-thread.ensures c.streams.invariant.so_far);
       sorted = rw pushed sorted;
     }

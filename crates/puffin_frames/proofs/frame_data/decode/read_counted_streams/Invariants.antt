@@ -10,7 +10,6 @@ use Rattle.puffin_frames.proofs.frame_data.decode.read_counted_streams.Given as 
 -- the streams that were read, with what is left to read, are what the reading gives; they are in order
 abbrev pub invariant-streams : goal.invariant-streams
 invariant-streams l = record {
-  so_far : with_front (pairs_of l.streams.entries) (times_at (stream_at l.packed) (l.count - l.counter) l.cursor)
-      ≡ times_at (stream_at l.packed) l.count l.initial.cursor;
+  so_far : with_front (pairs_of l.streams.entries) (times_at (stream_at l.packed) (l.count - l.counter) l.cursor) ≡ times_at (stream_at l.packed) l.count l.initial.cursor;
   sorted : is_sorted key_cmp (pairs_of l.streams.entries) ≡ true;
 }
