@@ -36,8 +36,7 @@ empty_spec 𝓤 𝓛 𝓜 𝓡 wired =
     let fn = code.function in
     proved_at 𝓛 own.ended moved clauses 𝓜 𝓡 (Goes-dropped 𝓛 0 (plain (λ _. Z)) yes (λ κs x w. refl), tt) own.Key.name fn
     (code.unfolded 𝓤 H 𝓜 𝓡 wired) (λ z are.
-    -- the call's only argument: the allocator, of which the machine has a handle
-    let allocator = z.0.3.0 in
+    let a = z.0.3.0 in
     let Post : Val → SProp 𝓤 = (walk_of 𝓛 own.ended moved clauses).post z in
     let Run : List Val → SProp 𝓤 = λ ws. WpFn 𝓤 H 𝓣.C 𝓣.Λ fn ws Post in
     qed 𝓛 ((‵ ftrue ⊛ ‵ (owns (types_at own.ended.signature.params z.0.0) z.0.3 z.0.4))
@@ -50,7 +49,7 @@ empty_spec 𝓤 𝓛 𝓜 𝓡 wired =
     -- the body builds the result of a null pointer and the handle
     sets ! (agg ! (and_then ! (lit ! tt) (and_then ! (get ! refl) (no_more !)))) refl typed $
     -- a null pointer owns nothing
-    empty_in ! h allocator $ use0 𝓛 (raw (fact 𝓤 (None ≡ None))) (fact_i 𝓤 (None ≡ None) (emp 𝓤) refl) $ nothing ! $ nothing ! $
+    empty_in ! h a $ use0 𝓛 (raw (fact 𝓤 (None ≡ None))) (fact_i 𝓤 (None ≡ None) (emp 𝓤) refl) $ nothing ! $ nothing ! $
     fjoin ! $ nothing ! $
     returns ! (look_at ! 0 refl) $ free_all ! refl $ keep ! (0 ∷ 1 ∷ 3 ∷ 2 ∷ []) $
-    by ! (leaves 𝓛 own.ended moved clauses z word (record { at = null_ptr; heap = allocator; held = None }) (tt, tt) (tt, tt)))))
+    by ! (leaves 𝓛 own.ended moved clauses z word (record { at = null_ptr; heap = a; held = None }) (tt, tt) (tt, tt)))))
