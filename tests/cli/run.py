@@ -146,6 +146,7 @@ def main():
     runs += [("through_a_link", faults_through_a_link, it, HERE / "cases" / "replay_one_frame") for it in script]
     runs += [(name, starter.faults, it, steps) for it in script for name, steps in starter.CASES.items()]
     runs += [("build", starter.faults_in_build, it, None) for it in script]
+    runs += [("output", starter.faults_in_output, it, None) for it in script]
     runs += [("words_at_once", faults_at_once, it, cases[0]) for it in script]
     count = common.Count()
     for name, compare, what, case in runs:

@@ -54,10 +54,10 @@ class Copy:
             os.utime(path, (1, 1))
         os.utime(self.program, (2, 2))
 
-    def run(self, *words):
+    def run(self, *words, stdout=subprocess.PIPE):
         tools = {**os.environ, "PATH": f"{self.tools}:{os.environ['PATH']}"}
-        words = [str(self.script), *words]
-        return subprocess.run(words, stdin=subprocess.DEVNULL, capture_output=True, timeout=60, env=tools)
+        how = {"stdin": subprocess.DEVNULL, "stdout": stdout, "stderr": subprocess.PIPE, "timeout": 60, "env": tools}
+        return subprocess.run([str(self.script), *words], **how)
 
     def answer(self):
         """Which program answers."""
@@ -160,6 +160,28 @@ def faults_in_build(script, _case):
         answer = copy.answer()
     faults = [f"without {it}" for it in sorted(wanted - given)] + [f"also {it}" for it in sorted(given - wanted)]
     return faults[:5] or ([] if ran.returncode == 0 and answer == "built" else [f"{ran.stderr[-200:]}, {answer} answers"])
+
+
+# what each script is asked, and what it says and its status where standard output is full, and where nobody reads it
+OUTPUTS = {
+    "puffin-tool": (["count"], [(["puffin-tool: Io"], 1)] * 2),
+    "puffin-look": (["threads", "/"], [(["puffin-look: standard output: No space left on device"], 1), ([], 141)]),
+}
+
+
+def faults_in_output(script, _case):
+    """What the script says otherwise where nothing is built and its output fails, behind its two lines on that."""
+    words, wanted = OUTPUTS[pathlib.Path(script).name]
+    found = []
+    with tempfile.TemporaryDirectory() as folder, open("/dev/full", "wb") as full:
+        copy = Copy(script, pathlib.Path(folder))
+        reader, unread = os.pipe()
+        os.close(reader)
+        for stdout in (full, unread):
+            ran = copy.run(*words, stdout=stdout)
+            found.append((ran.stderr.decode().splitlines()[2:], ran.returncode))
+        os.close(unread)
+    return [] if found == wanted else [f"{found} and not {wanted}"]
 
 
 # the cases of words that each script answers without a program

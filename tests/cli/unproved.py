@@ -105,7 +105,8 @@ def ends_of_script(folder):
     cases = [("script_where_nothing_is_built", faults_of_script, (folder,))]
     script = common.ROOT / "puffin-tool"
     cases += [(name, starter.faults, (script, steps)) for name, steps in starter.CASES.items()]
-    cases += [("build", starter.faults_in_build, (script, None)), ("words_at_once", run.faults_at_once, (script, run.all_cases()[0]))]
+    cases += [("build", starter.faults_in_build, (script, None)), ("output", starter.faults_in_output, (script, None))]
+    cases += [("words_at_once", run.faults_at_once, (script, run.all_cases()[0]))]
     for name, compare, words in cases:
         try:
             yield name, compare(*words)

@@ -103,6 +103,15 @@ def faults_in_cut(program, source):
     return [] if found == wanted and ends and said else [f"{done}, with the frames {found}, instead of {wanted}"]
 
 
+def faults_in_pipe(program, _source):
+    """What is wrong with a page that goes to a pipe, of which nothing may be read to see what it is."""
+    with tempfile.TemporaryDirectory() as place:
+        page = write(program, traces.file_of(["a"], [b""]), place)
+        words = [program, "view", page.with_name("file"), "/dev/stdout"]
+        done = subprocess.run(words, capture_output=True, timeout=20)
+        return [] if (done.returncode, done.stdout) == (0, page.read_bytes()) else [str(done)[:300]]
+
+
 # ---- which frames
 
 def file_with(durations, size):
@@ -287,5 +296,6 @@ CHECKS = {"page_data": faults_in_data, "page_cut": faults_in_cut, "page": in_bro
 CHECKS_OF_NAMES = {
     "page_names": faults_in_names,
     "page_frames": faults_in_choice,
+    "page_pipe": faults_in_pipe,
     "page_elements": in_browser(faults_in_evil),
 }

@@ -48,7 +48,8 @@ def main():
     runs = [(case.name, run.faults, program, case) for case in cases]
     if script:
         runs += [("through_a_link", run.faults_through_a_link, script, CASES / "frames_one_frame")]
-        runs += [("build", starter.faults_in_build, script, None), ("words_at_once", run.faults_at_once, script, cases[0])]
+        runs += [("build", starter.faults_in_build, script, None), ("output", starter.faults_in_output, script, None)]
+        runs += [("words_at_once", run.faults_at_once, script, cases[0])]
     runs += [(name, compare, program, None) for name, compare in checks(example)]
     count = common.Count()
     for name, compare, what, case in runs:

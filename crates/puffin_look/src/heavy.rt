@@ -145,7 +145,7 @@ fn push_step(
 }
 
 /// Adds the path that takes the most time at each level, a line for each of its scopes: their durations together, their share of
-/// those around them, and their name. It ends where no scope directly within has half of that.
+/// those around them, and their name. Below the top level it ends where no scope directly within has half of that.
 pub(crate) fn push_steps(
     alloc: Global,
     form: Form,

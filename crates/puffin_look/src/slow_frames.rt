@@ -199,7 +199,7 @@ fn list_of(alloc: Global, form: Form, rows: &[SlowFrame]) -> Result<Vec<u8>, All
 /// Prints the `limit` slowest of the wanted frames, the slowest first, and of equally slow frames the one that comes first in the
 /// file. For each there is a line with its index, its duration and the number of its scopes, and then the path of names that
 /// takes the most time, all wanted threads together: from the top level down, always the name whose scopes take the most of those
-/// directly within, as long as that is half of the time around it. Names and times are as in
+/// directly within, but below the top level only as long as that is half of the time around it. Names and times are as in
 /// [`print_folded`](crate::print_folded).
 ///
 /// Fails as [`print_folded`](crate::print_folded) does, and prints nothing then, except that a prefix is written if a write

@@ -1,7 +1,7 @@
 //! Why the program fails, and what it prints then.
 
 use puffin_data::{FileError, FrameIndex};
-use std::io;
+use std::{fmt, io};
 
 /// What is told of words that are no request.
 const USAGE: &str =
@@ -68,8 +68,26 @@ pub(crate) fn fault_of<'w>(
     }
 }
 
-/// Prints a fault on standard error.
+/// A word that is printed with its control characters escaped, as in a table.
+#[derive(Drop)]
+struct Escaped<'w>(&'w str);
+
+impl fmt::Display for Escaped<'_> {
+    fn fmt<W: fmt::Write>(&self, f: &mut fmt::Formatter<W>) -> fmt::Result {
+        for letter in self.0.chars() {
+            if letter < ' ' || letter == '\x7f' {
+                write!(f, "\\x{:02x}", u32::from(letter))?;
+            } else {
+                f.write_char(letter)?;
+            }
+        }
+        Ok(())
+    }
+}
+
+/// Prints a fault on standard error, in one line.
 fn print_fault(rt: &HostRuntime, name: &str, cause: &Cause<'_>) -> io::Result<()> {
+    let name = Escaped(name);
     match cause {
         Cause::System(error) => {
             let message = format!(in rt.alloc(); "{error}")?;
@@ -78,8 +96,12 @@ fn print_fault(rt: &HostRuntime, name: &str, cause: &Cause<'_>) -> io::Result<()
         }
         Cause::File(error) => eprintln!(rt; "puffin-look: {name}: {error}"),
         Cause::NoFrame(index) => eprintln!(rt; "puffin-look: {name}: no frame {index}"),
-        Cause::NoThread(word) => eprintln!(rt; "puffin-look: {name}: no thread {word}"),
+        Cause::NoThread(word) => {
+            let word = Escaped(word);
+            eprintln!(rt; "puffin-look: {name}: no thread {word}")
+        }
         Cause::NotInFrame(index, word) => {
+            let word = Escaped(word);
             eprintln!(rt; "puffin-look: {name}: no frame {index} with the thread {word}")
         }
         Cause::Grown(percent) => {

@@ -10,8 +10,8 @@ use puffin_data::FileError;
 use puffin_data::data::{Counted, write_all};
 use puffin_look::{Indices, Overview, PageFrames, PageLimits, choose_frames, print_page_data};
 use std::fs::File;
-use std::io;
 use std::io::Read;
+use std::{fs, io};
 
 /// Which frames a page has by default: those that a view keeps, as far as their streams fit.
 const LIMITS: PageLimits = PageLimits {
@@ -23,8 +23,11 @@ const LIMITS: PageLimits = PageLimits {
 /// With what a file of frames begins.
 const LETTERS: &[u8] = b"PUF0";
 
-/// Returns whether there is a file of frames at a path.
+/// Returns whether there is a file of frames at a path. To read from a pipe or a device may wait for ever.
 fn has_frames(rt: &HostRuntime, path: &str) -> bool {
+    if !fs::metadata(rt, path).is_ok_and(|it| it.is_file()) {
+        return false;
+    }
     let Ok(mut file) = File::open(rt, path) else {
         return false;
     };

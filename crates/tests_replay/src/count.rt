@@ -178,7 +178,7 @@ fn replay_with_two_files_is_a_task(rt: HostRuntime) {
     assert!(rt; is_replay(&task, "a script", "b"));
 }
 
-const USAGE: &str = "usage: puffin-tool count | replay SCRIPT OUT | report FILE THREAD\n";
+const USAGE: &str = "usage: puffin-tool count | replay SCRIPT OUT | report FILE START:NAME\n";
 
 /// What is written of each fault, and the status that it ends with.
 const TOLD: [(Option<ToolFault>, &str, u8); 9] = [

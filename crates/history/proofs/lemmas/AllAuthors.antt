@@ -25,7 +25,7 @@ module _ {E : Type 0} where
   has_authors-prefix count [] later has = tt
   has_authors-prefix count (one ∷ first) later has = (has.0, has_authors-prefix count first later has.1)
 
-  -- one of the authors has this number
+  -- an author with this number is among them, and has what all of them have
   some_author : (k : ℕ) (P : ℕ × List E → Type 0) (authors : List (ℕ × List E)) → 0 < times number k authors
       → AllByRecursion P authors → (author : ℕ × List E) × (author.0 ≡ k) × P author
   some_author k P [] some all = absurd (omega (arith, some))
@@ -97,9 +97,9 @@ module _ {E : Type 0} where
     only_one count t authors log all others = by_one count t log all.has (λ j less apart.
         let Its : ℕ × List E → Type 0 = λ author. (author.1 ≡ entries_by author.0 log) × (author.0 ≢ t → flat_map f author.1 ≡ []) in
         let each = both t log authors (recursion_from_All _ authors all.own) (recursion_from_All _ authors others) in
-        let its = some_author j Its authors (omega (arith, all.once j less)) each in
-        ap (λ (k : ℕ). flat_map f (entries_by k log)) (sym its.1) ∙ ap (flat_map f) (sym its.2.0)
-        ∙ its.2.1 (λ same. apart (sym its.1 ∙ same)))
+        let (_author, number_is, (own_is, adds_none)) = some_author j Its authors (omega (arith, all.once j less)) each in
+        ap (λ (k : ℕ). flat_map f (entries_by k log)) (sym number_is) ∙ ap (flat_map f) (sym own_is)
+        ∙ adds_none (λ same. apart (sym number_is ∙ same)))
 
   -- ---- authors that leave one after the other, each with a last entry
 
@@ -108,7 +108,7 @@ module _ {E : Type 0} where
     abbrev pub marks : List (ℕ × List E) → List (ℕ × E)
     marks authors = map (λ author. (author.0, mark)) authors
 
-    -- each of them is one of its author's
+    -- under a number stand as many last entries as authors that leave have this number
     marked : (k : ℕ) (authors : List (ℕ × List E)) → count_by last (entries_by k (marks authors)) ≡ times number k authors
     marked k [] = refl
     marked k (author ∷ rest) = at (author.0 == k) refl (marked k rest) ∙ sym (times-cons number k author rest)

@@ -104,7 +104,7 @@ accounts_more answers old mid new due call later s a = record {
 -- no call: the moment is the same, and so is what is due
 pub accounts_none : {C : Type 0} (answers : C → ℤ → C → Type 0) (m n : Moment C) (due : List Event) → n ≡ m → IsDue m due
     → Accounts answers m due [] n
-pub accounts_none {C = C} answers m n due same is_due = subst (λ (x : Moment C). Accounts answers m due [] x) (sym same) (record {
+accounts_none {C = C} answers m n due same is_due = subst (λ (x : Moment C). Accounts answers m due [] x) (sym same) (record {
   events = [];
   marked = tt;
   timed = timed_still answers m m refl refl refl;

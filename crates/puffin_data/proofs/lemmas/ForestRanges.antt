@@ -19,7 +19,7 @@ greatest_in_range (node span children others) = omega (arith, ints, clamps, grea
 -- where there is a scope, it starts no later than it stops, and the range reaches from the least start to the greatest stop
 pub ordered : (form : Form) (forest : Forest) → IsForest form forest → 0 < scope_count forest → least_start forest ≤ℤ greatest_stop forest
 ordered form empty fits has_scope = absurd (omega arith)
-ordered form (node span children others) (span_fits, _) has_scope = omega (arith, ints, clamps, span_fits.ordered)
+ordered form (node span children others) (span_fits, _, _) has_scope = omega (arith, ints, clamps, span_fits.ordered)
 
 -- of the largest number and a time, the lesser is the time
 pub from_most : (time : ℤ) → time ≤ℤ pos (2 ^ 63 - 1) → int_min (pos (2 ^ 63 - 1)) time ≡ time

@@ -71,12 +71,12 @@ one_group Long size small =
 pub room_least : (form : Form) (text : List ℕ) → 1 + length text ≤ text_room form text
 room_least form text = omega (arith, (layout_size form (length text)).least)
 
--- a short text takes one byte more than it has
+-- in the short form a text takes one byte more than it has
 pub short_room : (text : List ℕ) → text_room Short text ≡ 1 + length text
 unfolding length_layout
 short_room text = refl
 
--- a text in any form at most two
+-- and in the long form at most two
 pub long_room : (text : List ℕ) → text_room Long text ≤ 2 + length text
 long_room text = omega (arith, (layout_size Long (length text)).most)
 
@@ -108,7 +108,7 @@ used_least Long (low ∷ rest) = first_least (ltb low 128) low rest
 pub record IsLength (form : Form) (bytes : List ℕ) (len used : ℕ) : Type 0 where
   pub spelled : bytes ≡ length_layout form len ++ drop used bytes
   pub fits : len ≤ stored_limit form
-  pub size : used ≡ length (length_layout form len)
+  pub used_is : used ≡ length (length_layout form len)
 
 -- a fault is no length, and equal answers have equal parts
 err_is_not : (fault : Error) (size used : ℕ) → ◌≡◌ {A = Length} (Err fault) (Ok (size, used)) → ⊥
@@ -130,7 +130,7 @@ one_byte low size used rest fits is =
     record {
       spelled = ap (λ (any : ℕ). any ∷ rest) size_is ∙ ap (λ (any : ℕ). size ∷ drop any (low ∷ rest)) used_is;
       fits = omega (arith, size_is);
-      size = sym used_is;
+      used_is = sym used_is;
     }
 
 -- the long form: one byte below 128
@@ -144,7 +144,7 @@ one_group_read low size used rest fits_one is =
     record {
       spelled = rw small (ap (λ (any : ℕ). any ∷ rest) size_is ∙ ap (λ (any : ℕ). size ∷ drop any (low ∷ rest)) used_is);
       fits = grind arith;
-      size = rw small (sym used_is);
+      used_is = rw small (sym used_is);
     }
 
 -- the long form: the lower seven bits in a byte from 128 on, and the others in one below 128 that isn't 0
@@ -162,7 +162,7 @@ two_groups low high size used rest fits not_one not_zero is_last is =
           rw great (ap (λ (any : ℕ). any ∷ high ∷ rest) low_is ∙ ap (λ (any : ℕ). (128 + size % 128) ∷ any ∷ rest) high_is
           ∙ ap (λ (any : ℕ). (128 + size % 128) ∷ (size / 128) ∷ drop any (low ∷ high ∷ rest)) used_is);
       fits = grind arith;
-      size = rw great (sym used_is);
+      used_is = rw great (sym used_is);
     }
 
 -- by the two tests of the second byte
@@ -178,23 +178,23 @@ second_read low high size used rest false false zero_test last_test fits not_one
 -- by whether there is a second byte
 after_first : (low size used : ℕ) (rest : List ℕ) → IsBytes (low ∷ rest) → ltb low 128 ≡ false
     → with_second_group (low - 128) rest ≡ Ok (size, used) → IsLength Long (low ∷ rest) size used
-after_first low size used [] fits not_one is = absurd (err_is_not PrematureEnd size used is)
-after_first low size used (high ∷ rest) fits not_one is =
-    second_read low high size used rest (eqb high 0) (leb 128 high) refl refl (fits 0) not_one is
+after_first low size used [] are_bytes not_one is = absurd (err_is_not PrematureEnd size used is)
+after_first low size used (high ∷ rest) are_bytes not_one is =
+    second_read low high size used rest (eqb high 0) (leb 128 high) refl refl (are_bytes 0) not_one is
 
 -- by whether the first byte is the only one
 first_read : (low size used : ℕ) (rest : List ℕ) (is_one : Bool) → ltb low 128 ≡ is_one → IsBytes (low ∷ rest)
     → cond is_one (Ok (low, 1)) (with_second_group (low - 128) rest) ≡ Ok (size, used) → IsLength Long (low ∷ rest) size used
-first_read low size used rest true one_test fits is = one_group_read low size used rest one_test is
-first_read low size used rest false one_test fits is = after_first low size used rest fits one_test is
+first_read low size used rest true one_test are_bytes is = one_group_read low size used rest one_test is
+first_read low size used rest false one_test are_bytes is = after_first low size used rest are_bytes one_test is
 
 -- a length that was read: its bytes are its layout
 pub length_read : (form : Form) (bytes : List ℕ) (size used : ℕ) → IsBytes bytes → length_at form bytes ≡ Ok (size, used)
     → IsLength form bytes size used
 unfolding length_at
-length_read form [] size used fits is = absurd (err_is_not PrematureEnd size used is)
-length_read Short (low ∷ rest) size used fits is = one_byte low size used rest (fits 0) is
-length_read Long (low ∷ rest) size used fits is = first_read low size used rest (ltb low 128) refl fits is
+length_read form [] size used are_bytes is = absurd (err_is_not PrematureEnd size used is)
+length_read Short (low ∷ rest) size used are_bytes is = one_byte low size used rest (are_bytes 0) is
+length_read Long (low ∷ rest) size used are_bytes is = first_read low size used rest (ltb low 128) refl are_bytes is
 
 -- ---- no layout begins another
 

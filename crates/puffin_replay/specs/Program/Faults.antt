@@ -7,7 +7,7 @@ use Rattle.puffin_replay.specs.declared.replay.fault.ToolFault.TheVariants as fa
 
 -- the line for standard error
 abbrev pub fault_line : ToolFault → List ℕ
-fault_line fault.Words = codes "usage: puffin-tool count | replay SCRIPT OUT | report FILE THREAD\n"
+fault_line fault.Words = codes "usage: puffin-tool count | replay SCRIPT OUT | report FILE START:NAME\n"
 fault_line (fault.Line number) = codes "puffin-tool: script line " ++ decimal number ++ codes "\n"
 fault_line (fault.Cause cause) = codes "puffin-tool: " ++ error_name cause ++ codes "\n"
 fault_line (fault.File cause) = codes "puffin-tool: " ++ file_error_text cause ++ codes "\n"

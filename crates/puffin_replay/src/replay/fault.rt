@@ -74,7 +74,9 @@ fn line_of(fault: ToolFault) -> Line
     let mut line = Line::new();
     match fault {
         ToolFault::Words => {
-            line.push_str("usage: puffin-tool count | replay SCRIPT OUT | report FILE THREAD\n");
+            line.push_str(
+                "usage: puffin-tool count | replay SCRIPT OUT | report FILE START:NAME\n",
+            );
         }
         ToolFault::Line(number) => {
             line.push_str("puffin-tool: script line ");

@@ -29,5 +29,6 @@ spawn_with-requires-send-F g c κs within =
     let captured = copied 3 g.row.R ∷ UInt w64 ∷ Shared.the_row (param 1 g.row.L)
     (param 2 g.row.M) D g.L.Ledger g.L.History g.M.Ledger gh ∷ Share.the_row (param 1 g.row.L)
     (param 2 g.row.M) g.L.Ledger g.L.History g.M.Ledger ∷ param 4 g.row.T ∷ ShrRef _ _ (param 5 g.row.W) ∷ ShrRef _ _ Gate.the_row ∷ [] in
+    let bounds = c.type_bounds in
     param_send 2 _ (arg_send _ no _ (captures_send _ captured
-    (c.type_bounds.send-R, (number, (shared, (share, (c.type_bounds.send-T, (shr_send _ _ _ c.type_bounds.sync-W, (shr_send _ _ _ gate, tt)))))))))
+    (bounds.send-R, (number, (shared, (share, (bounds.send-T, (shr_send _ _ _ bounds.sync-W, (shr_send _ _ _ gate, tt)))))))))

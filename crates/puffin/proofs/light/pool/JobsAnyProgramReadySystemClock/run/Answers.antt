@@ -17,7 +17,8 @@ loop-init g c =
     record {
       known = λ stated. refl;
       ran = let told = g.P.Meets.told in subst
-          (λ (n : ℕ). HaveRunAs (W.states pool) is known (told c.args.reporter) (told c.args.reporter) n) (sym (ap (λ e. e.unreported) c.of_nothing-ended.ensures))
+          (λ (n : ℕ). HaveRunAs (W.states pool) is known (told c.args.reporter) (told c.args.reporter) n)
+          (sym (ap (λ e. e.unreported) c.of_nothing-ended.ensures))
           (none_run is known (W.states pool) (told c.args.reporter));
     }
 

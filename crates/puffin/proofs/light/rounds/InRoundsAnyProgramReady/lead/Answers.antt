@@ -1,5 +1,5 @@
 -- Each round of the leader is one turn more, and one frame at most.
-use Rattle.std.proofs.Common.{ℕ, ◌+◌, ◌≤◌, true, string_bytes, refl, ap, sym, subst, ◌∙◌, arith}
+use Rattle.std.proofs.Common.{ℕ, ◌+◌, ◌≤◌, string_bytes, refl, ap, sym, subst, ◌∙◌, arith}
 use Rattle.puffin.specs.Code.{Code, OrNothing}
 use Rattle.puffin.specs.Happenings.{num_released}
 use Rattle.puffin.specs.Places.{num_known}
