@@ -12,13 +12,23 @@ use Rattle.example_proved_rounds.specs.Game.{part_code, the_names, ShowsGame}
 
 -- no other thread has a thread's name, nor has the leader
 alone : (number : ℕ) (name : List ℕ) → slice_get the_names number ≡ Some name → IsAlone name (codes "leader" ∷ the_names)
-alone zero name at = let is : codes "north" ≡ name = cc in subst (λ (n : List ℕ). IsAlone n (codes "leader" ∷ the_names)) is refl
-alone (suc zero) name at = let is : codes "east" ≡ name = cc in subst (λ (n : List ℕ). IsAlone n (codes "leader" ∷ the_names)) is refl
-alone (suc (suc zero)) name at = let is : codes "south" ≡ name = cc in subst (λ (n : List ℕ). IsAlone n (codes "leader" ∷ the_names)) is refl
-alone (suc (suc (suc zero))) name at = let is : codes "west" ≡ name = cc in subst (λ (n : List ℕ). IsAlone n (codes "leader" ∷ the_names)) is refl
+alone zero name at =
+    let is : codes "north" ≡ name = cc in
+    subst (λ (n : List ℕ). IsAlone n (codes "leader" ∷ the_names)) is refl
+alone (suc zero) name at =
+    let is : codes "east" ≡ name = cc in
+    subst (λ (n : List ℕ). IsAlone n (codes "leader" ∷ the_names)) is refl
+alone (suc (suc zero)) name at =
+    let is : codes "south" ≡ name = cc in
+    subst (λ (n : List ℕ). IsAlone n (codes "leader" ∷ the_names)) is refl
+alone (suc (suc (suc zero))) name at =
+    let is : codes "west" ≡ name = cc in
+    subst (λ (n : List ℕ). IsAlone n (codes "leader" ∷ the_names)) is refl
 alone (suc (suc (suc (suc n)))) name at = absurd cc
 
+-- a game that knew so many places, and a leader of that name
 module _ (leads : ℕ → Code → Type 0) (known : ℕ) (game : Game) (leader : List ℕ) (is : leader ≡ codes "leader") where
+  -- what the frames of an outcome show, round for round
   abbrev shows : Outcome → Type 0
   shows = RoundsShow true known 10 leads (λ number round code. code ≡ part_code game number round) (leader ∷ the_names)
 
@@ -29,28 +39,38 @@ module _ (leads : ℕ → Code → Type 0) (known : ℕ) (game : Game) (leader :
   -- the leader has the number 0, and each thread one more than its own
   shown : (outcome : Outcome) → shows outcome → outcome.failed ≡ None → ShowsGame known game outcome
   shown outcome said none =
-      let r = said none in let s = r.whole in
+      let by_rounds = said none in
+      let whole = by_rounds.whole in
       record {
-        frames = s.frames;
-        pending = s.pending;
-        handed = s.handed;
+        frames = whole.frames;
+        pending = whole.pending;
+        handed = whole.handed;
         each =
-            λ number name at. let e = s.each (suc number) name at (apart number name at) in let rounds = e.2 in (
-              rounds.0,
-              e.1,
-              rounds.1,
-              e.3,
-              subst (λ (code : Code). ∥ ShowsCode known code name s.frames s.pending e.1.unreported ∥₁) (turns_are (part_code game number) rounds.0 e.0 rounds.2) e.4,
+            λ number name at.
+            let (code, count, (turns, most_ten, are), count_is, code_shown) =
+            whole.each (suc number) name at (apart number name at) in (
+              turns,
+              count,
+              most_ten,
+              count_is,
+              subst (λ (c : Code). ∥ ShowsCode known c name whole.frames whole.pending count.unreported ∥₁)
+                  (turns_are (part_code game number) turns code are) code_shown,
             );
         each_round =
             λ ten round number name below at.
-            let then_shown = r.each (omega (arith, ten, r.few, r.within)) round (omega (arith, ten, below, r.few)) in
-            let e = then_shown.1 (suc number) name at (apart number name at) in (
-              e.1.unreported,
-              subst (λ (code : Code). ∥ ShowsCode known code name (take (suc round) s.frames) fin_map.empty e.1.unreported ∥₁) (turns_are (part_code game number) (suc round) e.0 e.2) e.4,
+            let (_counts, then_shown) =
+            by_rounds.each (omega (arith, ten, by_rounds.few, by_rounds.within)) round
+            (omega (arith, ten, below, by_rounds.few)) in
+            let (code, count, are, _count_is, code_shown) = then_shown (suc number) name at (apart number name at) in (
+              count.unreported,
+              subst (λ (c : Code).
+                  ∥ ShowsCode known c name (take (suc round) whole.frames) fin_map.empty count.unreported ∥₁)
+                  (turns_are (part_code game number) (suc round) code are) code_shown,
             );
       }
 
-  pub game_shown : {E : Type 0} (r : Result Outcome E) → IfOk r shows → IfOk r (λ outcome. outcome.failed ≡ None → ShowsGame known game outcome)
+  -- what a run shows, if it ends with an outcome
+  pub game_shown : {E : Type 0} (r : Result Outcome E) → IfOk r shows →
+      IfOk r (λ outcome. outcome.failed ≡ None → ShowsGame known game outcome)
   game_shown (Ok outcome) said = shown outcome said
   game_shown (Err e) said = tt

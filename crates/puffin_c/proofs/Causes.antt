@@ -58,7 +58,10 @@ sized_causes : (form : Form) (part : List ℕ) → IfErr (sized_reading form par
 unfolding sized_reading
 sized_causes form part = grind arith
 
-unless : {A B : Type 0} (r : Result A Error) (after : Result B Error) → IfErr r IsCause → IfErr after IsCause → IfErr (unless_fault r after) IsCause
+unless : {A B : Type 0} (r : Result A Error) (after : Result B Error) →
+    IfErr r IsCause →
+    IfErr after IsCause →
+    IfErr (unless_fault r after) IsCause
 unless (Ok a) after h k = k
 unless (Err fault) after h k = h
 
@@ -78,8 +81,11 @@ cause_of form bytes e (place, first) = cause_in form (region bytes place first.e
 abbrev pub IsMergeCause : Error → Type 0
 IsMergeCause e = IsCause e ⊎ (e ≡ TooDeep) ⊎ (e ≡ TooLarge)
 
-frame_cause : (done : List Occurrence) (origin : ℤ) (form : Form) (bytes : List ℕ) (tries : ℕ) (e : Error) → IsFrameRefusal done origin form bytes tries e → IsMergeCause e
-frame_cause done origin form bytes tries e (faulty {place = place} {fault = fault} first sees accepted) = inl (cause_of form bytes fault (place, first))
+frame_cause : (done : List Occurrence) (origin : ℤ) (form : Form) (bytes : List ℕ) (tries : ℕ) (e : Error) →
+    IsFrameRefusal done origin form bytes tries e →
+    IsMergeCause e
+frame_cause done origin form bytes tries e (faulty {place = place} {fault = fault} first sees accepted) =
+    inl (cause_of form bytes fault (place, first))
 frame_cause done origin form bytes tries e (refused earlier later s sees accepted (inl deep) before) = inr (inl deep.1)
 frame_cause done origin form bytes tries e (refused earlier later s sees accepted (inr large) before) = inr (inr large.2)
 
@@ -96,11 +102,17 @@ IsFileCause (file.Compressed kind) = (0 < kind) × (kind < 3)
 IsFileCause (file.Refused e) = IsMergeCause e ⊎ (e ≡ MissingId)
 IsFileCause other = Unit {0}
 
-bind : {A B : Type 0} (x : Result A FileError) (f : A → Result B FileError) → IfErr x IsFileCause → ((a : A) → IfErr (f a) IsFileCause) → IfErr (x >>= f) IsFileCause
+bind : {A B : Type 0} (x : Result A FileError) (f : A → Result B FileError) →
+    IfErr x IsFileCause →
+    ((a : A) → IfErr (f a) IsFileCause) →
+    IfErr (x >>= f) IsFileCause
 bind (Ok a) f h k = k a
 bind (Err e) f h k = h
 
-either : {A : Type 0} (b : Bool) (x y : Result A FileError) → IfErr x IsFileCause → IfErr y IsFileCause → IfErr (if b then x else y) IsFileCause
+either : {A : Type 0} (b : Bool) (x y : Result A FileError) →
+    IfErr x IsFileCause →
+    IfErr y IsFileCause →
+    IfErr (if b then x else y) IsFileCause
 either true x y h k = h
 either false x y h k = k
 
@@ -122,7 +134,9 @@ details version bytes = grind arith
 
 packets : (version : _) (bytes : List ℕ) → IfErr (packet_at version bytes) IsFileCause
 packets version bytes =
-    bind (meta_part_at bytes) _ (metas bytes) (λ m. bind (streams_part_at version m.1) _ (streams version m.1) (λ s. bind (details_part_at version s.1) _ (details version s.1) (λ d. tt)))
+    bind (meta_part_at bytes) _ (metas bytes)
+    (λ m. bind (streams_part_at version m.1) _ (streams version m.1)
+    (λ s. bind (details_part_at version s.1) _ (details version s.1) (λ d. tt)))
 
 versions : (letter : ℕ) (version : Option _) (bytes : List ℕ) → IfErr (packet_if_read letter version bytes) IsFileCause
 versions letter (Some version) bytes = packets version bytes
@@ -147,7 +161,9 @@ given o rest = grind (arith, ids)
 frame : (bytes : List ℕ) → IfErr (frame_at bytes) IsFileCause
 frame bytes = bind (next_at bytes) _ (next bytes) (λ n. given n.0 n.1)
 
-from : (read : FramesReading) (o : Option Stored) (rest : List ℕ) → IfErr (read rest) IsFileCause → IfErr (frames_from read o rest) IsFileCause
+from : (read : FramesReading) (o : Option Stored) (rest : List ℕ) →
+    IfErr (read rest) IsFileCause →
+    IfErr (frames_from read o rest) IsFileCause
 from read o rest h = grind (arith, ids)
 
 frames : (n : ℕ) (bytes : List ℕ) → IfErr (frames_at n bytes) IsFileCause
@@ -191,59 +207,96 @@ abbrev pub HasByte : Answer → Type 0
 HasByte answer = (kind : ℕ) → answer ≡ Err (fault.File (file.UnknownKind kind)) → kind < 256
 
 file_named : (e : FileError) (f : Fault) → f ≡ file_fault e → IsFileCause e → HasByte (Err f) → answer_name (Err f) ≢ []
-file_named e f is cause byte = let least = λ (kind : ℕ) (same : f ≡ fault.File (file.UnknownKind kind)). byte kind (ap (λ (x : Fault). Err x) same) in grind arith
+file_named e f is cause byte =
+    let least =
+    λ (kind : ℕ) (same : f ≡ fault.File (file.UnknownKind kind)). byte kind (ap (λ (x : Fault). Err x) same) in
+    grind arith
 
-stream_named : (form : Form) (bytes : List ℕ) (e : Error) (f : Fault) → f ≡ fault.Refused e → (e ≡ Memory) ⊎ IsFault form bytes e → answer_name (Err f) ≢ []
+stream_named : (form : Form) (bytes : List ℕ) (e : Error) (f : Fault) →
+    f ≡ fault.Refused e →
+    (e ≡ Memory) ⊎ IsFault form bytes e →
+    answer_name (Err f) ≢ []
 stream_named form bytes e f is (inl memory) = grind arith
 stream_named form bytes e f is (inr first) = let cause = cause_of form bytes e first in grind arith
 
-pub count_named : (form : Form) (bytes : List ℕ) (old new : PuffinCount) (answer : Answer) → IsCounted form bytes old new answer → answer_name answer ≢ []
+pub count_named : (form : Form) (bytes : List ℕ) (old new : PuffinCount) (answer : Answer) →
+    IsCounted form bytes old new answer →
+    answer_name answer ≢ []
 count_named form bytes old new (Ok x) h = grind arith
 count_named form bytes old new (Err f) (same, e, is, why) = stream_named form bytes e f is why
 
-pub scopes_named : (form : Form) (bytes : List ℕ) (old new : PuffinScopeList) (answer : Answer) → ListsScopes form bytes old new answer → answer_name answer ≢ []
+pub scopes_named : (form : Form) (bytes : List ℕ) (old new : PuffinScopeList) (answer : Answer) →
+    ListsScopes form bytes old new answer →
+    answer_name answer ≢ []
 scopes_named form bytes old new (Ok x) h = grind arith
 scopes_named form bytes old new (Err f) (same, e, is, why) = stream_named form bytes e f is why
 
-pub own_named : (p : Option Profiler) (key : ThreadKey) (form : Form) (bytes : List ℕ) (after : Option Profiler) (answer : Answer) → TakesOwn p key form bytes after answer → answer_name answer ≢ []
+pub own_named : (p : Option Profiler) (key : ThreadKey) (form : Form) (bytes : List ℕ) (after : Option Profiler) (answer : Answer) →
+    TakesOwn p key form bytes after answer →
+    answer_name answer ≢ []
 own_named p key form bytes after (Ok x) h = grind arith
 own_named p key form bytes after (Err f) (same, inl closed) = grind arith
 own_named p key form bytes after (Err f) (same, inr (q, held, inl none)) = grind arith
 own_named p key form bytes after (Err f) (same, inr (q, held, inr (text, e, is, inl memory))) = grind arith
-own_named p key form bytes after (Err f) (same, inr (q, held, inr (text, e, is, inr (inl first)))) = stream_named form bytes e f is (inr first)
+own_named p key form bytes after (Err f) (same, inr (q, held, inr (text, e, is, inr (inl first)))) =
+    stream_named form bytes e f is (inr first)
 own_named p key form bytes after (Err f) (same, inr (q, held, inr (text, e, is, inr (inr refusal)))) = grind arith
 
-pub check_named : (bytes : List ℕ) (n offset read : ℕ) (answer : Answer) → IsChecked bytes n offset read answer → HasByte answer → answer_name answer ≢ []
+pub check_named : (bytes : List ℕ) (n offset read : ℕ) (answer : Answer) →
+    IsChecked bytes n offset read answer →
+    HasByte answer →
+    answer_name answer ≢ []
 check_named bytes n offset read (Ok x) h byte = grind arith
-check_named bytes n offset read (Err f) (left, e, is, not_io, fails, before, to) byte = file_named e f is (file_fault_cause e (Some bytes) (Some left) fails) byte
+check_named bytes n offset read (Err f) (left, e, is, not_io, fails, before, to) byte =
+    file_named e f is (file_fault_cause e (Some bytes) (Some left) fails) byte
 
-pub streams_named : (file : List ℕ) (offset : ℕ) (old new : PuffinStreamList) (answer : Answer) → ListsStreams file offset old new answer → HasByte answer → answer_name answer ≢ []
+pub streams_named : (file : List ℕ) (offset : ℕ) (old new : PuffinStreamList) (answer : Answer) →
+    ListsStreams file offset old new answer →
+    HasByte answer →
+    answer_name answer ≢ []
 streams_named file offset old new (Ok x) h byte = grind arith
 streams_named file offset old new (Err f) (same, inl memory) byte = grind arith
 streams_named file offset old new (Err f) (same, inr (inl (inl past))) byte = grind arith
 streams_named file offset old new (Err f) (same, inr (inl (inr (inl letters)))) byte = grind arith
-streams_named file offset old new (Err f) (same, inr (inl (inr (inr (rest, left, e, at, is, not_io, fails))))) byte = file_named e f is (frame_fault e (Some rest) left fails) byte
-streams_named file offset old new (Err f) (same, inr (inr (end, there, e, at, why, is))) byte = file_named e f is (packed_fault (packet_fields there) e why) byte
+streams_named file offset old new (Err f) (same, inr (inl (inr (inr (rest, left, e, at, is, not_io, fails))))) byte =
+    file_named e f is (frame_fault e (Some rest) left fails) byte
+streams_named file offset old new (Err f) (same, inr (inr (end, there, e, at, why, is))) byte =
+    file_named e f is (packed_fault (packet_fields there) e why) byte
 
-pub threads_named : (file : List ℕ) (old new : PuffinFileThreadList) (answer : Answer) → ListsThreads file old new answer → HasByte answer → answer_name answer ≢ []
+pub threads_named : (file : List ℕ) (old new : PuffinFileThreadList) (answer : Answer) →
+    ListsThreads file old new answer →
+    HasByte answer →
+    answer_name answer ≢ []
 threads_named file old new (Ok x) h byte = grind arith
 threads_named file old new (Err f) (same, inl memory) byte = grind arith
-threads_named file old new (Err f) (same, inr (inl (e, is, (left, before, opened, s, has, are, why)))) byte = file_named e f is (packed_fault (fields_of (frame_stored s)) e why) byte
-threads_named file old new (Err f) (same, inr (inr (left, e, is, not_io, fails))) byte = file_named e f is (file_fault_cause e (Some file) left fails) byte
+threads_named file old new (Err f) (same, inr (inl (e, is, (left, before, opened, s, has, are, why)))) byte =
+    file_named e f is (packed_fault (fields_of (frame_stored s)) e why) byte
+threads_named file old new (Err f) (same, inr (inr (left, e, is, not_io, fails))) byte =
+    file_named e f is (file_fault_cause e (Some file) left fails) byte
 
-pub file_merge_named : (file : List ℕ) (info : ThreadKey) (old new : PuffinMergedList) (answer : Answer) → MergesFile file info old new answer → HasByte answer → answer_name answer ≢ []
+pub file_merge_named : (file : List ℕ) (info : ThreadKey) (old new : PuffinMergedList) (answer : Answer) →
+    MergesFile file info old new answer →
+    HasByte answer →
+    answer_name answer ≢ []
 file_merge_named file info old new (Ok x) h byte = grind arith
 file_merge_named file info old new (Err f) (same, inl none) byte = grind arith
-file_merge_named file info old new (Err f) (same, inr (text, e, is, (left, inl fails))) byte = file_named e f is (file_fault_cause e (Some file) left fails) byte
-file_merge_named file info old new (Err f) (same, inr (text, e, is, (left, inr (read, took, inl why)))) byte = file_named e f is (packed_faults info _ e why) byte
-file_merge_named file info old new (Err f) (same, inr (text, e, is, (left, inr (read, took, inr (merged, cause, opened, same_cause, other, why))))) byte =
+file_merge_named file info old new (Err f) (same, inr (text, e, is, (left, inl fails))) byte =
+    file_named e f is (file_fault_cause e (Some file) left fails) byte
+file_merge_named file info old new (Err f) (same, inr (text, e, is, (left, inr (read, took, inl why)))) byte =
+    file_named e f is (packed_faults info _ e why) byte
+file_merge_named file info old new (Err f)
+    (same, inr (text, e, is, (left, inr (read, took, inr (merged, cause, opened, same_cause, other, why))))) byte =
     let known = merge_cause merged cause why in file_named e f is (grind arith) byte
 
-pub view_merge_named : (held : Option Profiler) (n : ℕ) (info : ThreadKey) (old new : PuffinMergedList) (answer : Answer) → MergesView held n info old new answer → HasByte answer → answer_name answer ≢ []
+pub view_merge_named : (held : Option Profiler) (n : ℕ) (info : ThreadKey) (old new : PuffinMergedList) (answer : Answer) →
+    MergesView held n info old new answer →
+    HasByte answer →
+    answer_name answer ≢ []
 view_merge_named held n info old new (Ok x) h byte = grind arith
 view_merge_named held n info old new (Err f) (same, inl closed) byte = grind arith
 view_merge_named held n info old new (Err f) (same, inr (p, some, inl none)) byte = grind arith
 view_merge_named held n info old new (Err f) (same, inr (p, some, inr (text, inl memory))) byte = grind arith
-view_merge_named held n info old new (Err f) (same, inr (p, some, inr (text, inr (inl (e, is, why))))) byte = file_named e f is (packed_faults info _ e why) byte
+view_merge_named held n info old new (Err f) (same, inr (p, some, inr (text, inr (inl (e, is, why))))) byte =
+    file_named e f is (packed_faults info _ e why) byte
 view_merge_named held n info old new (Err f) (same, inr (p, some, inr (text, inr (inr (merged, e, is, opened, why))))) byte =
     let known = merge_cause merged e why in grind arith

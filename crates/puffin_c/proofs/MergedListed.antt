@@ -36,7 +36,8 @@ children_are m (more_of-MergeScope scope rest) = ap (scope_then scope) (children
 
 -- a scope before others is its node, with its children, before them
 seen_as : (s : MergeScope) (others : MergedForest) → scope_then s others ≡ merged (node_of s) (forest_in (children_of s)) others
-unfolding out-MergeScope Rattle.puffin_merge.specs.declared.merge.scope.MergeScope.TheBlock.shown-the_row-MergeScope-0 denote.Hole.Carrier.out
+unfolding out-MergeScope Rattle.puffin_merge.specs.declared.merge.scope.MergeScope.TheBlock.shown-the_row-MergeScope-0
+    denote.Hole.Carrier.out
 seen_as (MergeScope' start total per_frame greatest pieces id text shape children) others =
     let node : Node = record {
       label = record { id = id; text = cow_str_bytes text };
