@@ -1,4 +1,3 @@
--- A thread's closure may be sent to it, since all that the closure captures may.
 use denote.Exit.{no}
 use denote.Param.{param, copied}
 use denote.Param.Object.{Vt, ghosts_of}
@@ -19,12 +18,8 @@ spawn-requires-send-F g c κs within =
     let D = Vt (dyn.slots g.row.L g.row.M g.row.R) g.dyn-1.0 in
     let gh = ghosts_of (dyn.slots g.row.L g.row.M g.row.R) g.dyn-1.0 g.dyn-1.1 in
     let sd : IsSend D = search sendable depth 20 in
+    let shared : IsSend (Shared.the_row (param 0 g.row.L) (param 1 g.row.M) D g.L.Ledger g.L.History g.M.Ledger gh) = shared_row_send D gh g.dyn-1.2 sd (param 0 g.row.L) (param 1 g.row.M) g.L.Ledger g.L.History g.M.Ledger in
+    let share : IsSend (Share.the_row (param 0 g.row.L) (param 1 g.row.M) g.L.Ledger g.L.History g.M.Ledger) = share_send (param 0 g.row.L) (param 1 g.row.M) g.L.Ledger g.L.History g.M.Ledger in
     let number : IsSend (UInt w64) = search sendable depth 5 in
-    let shared_row = Shared.the_row (param 0 g.row.L) (param 1 g.row.M) D g.L.Ledger g.L.History g.M.Ledger gh in
-    let share_row = Share.the_row (param 0 g.row.L) (param 1 g.row.M) g.L.Ledger g.L.History g.M.Ledger in
-    let shared : IsSend shared_row =
-    shared_row_send D gh g.dyn-1.2 sd (param 0 g.row.L) (param 1 g.row.M) g.L.Ledger g.L.History g.M.Ledger in
-    let share : IsSend share_row =
-    share_send (param 0 g.row.L) (param 1 g.row.M) g.L.Ledger g.L.History g.M.Ledger in
-    let captured = copied 2 g.row.R ∷ Heap.the_row ∷ shared_row ∷ share_row ∷ UInt w64 ∷ [] in
+    let captured = copied 2 g.row.R ∷ Heap.the_row ∷ Shared.the_row (param 0 g.row.L) (param 1 g.row.M) D g.L.Ledger g.L.History g.M.Ledger gh ∷ Share.the_row (param 0 g.row.L) (param 1 g.row.M) g.L.Ledger g.L.History g.M.Ledger ∷ UInt w64 ∷ [] in
     param_send 1 _ (arg_send _ no _ (captures_send _ captured (c.type_bounds.send-R, (global_send, (shared, (share, (number, tt)))))))
